@@ -7,3 +7,4 @@ pub mod TableLaws
 pub mod KeptLaws
 pub mod FinishLaws
 pub mod NewRows
+pub mod Guesses

@@ -2,3 +2,4 @@ pub mod StepEntries
 pub mod Stops
 pub mod Taken
 pub mod Finish
+pub mod Shares

@@ -1,9 +1,11 @@
 //! The new entries of one step of the elimination.
-ghost use Rattle.std.specs.Prelude.{◌≡◌, ◌^◌, ◌<◌, ◌≤◌, pos, ◌-ℤ◌, ◌*ℤ◌, ◌<ℤ◌, ◌≤ℤ◌, unsigned_abs, nat_lt};
+ghost use Rattle.std.specs.Prelude.{◌≡◌, ◌+◌, ◌^◌, ◌<◌, ◌≤◌, IsTrue, pos, ◌-ℤ◌, ◌*ℤ◌, ◌<ℤ◌, ◌≤ℤ◌, unsigned_abs, nat_lt};
 ghost use Rattle.whole_math.specs.Rounding.{nearest_div, ceil_div};
 ghost use Rattle.form_tables.specs.declared.sizes.TheConstants.{MOST_COLUMNS};
+ghost use Rattle.elimination.specs.Shares.{IsNearShare};
 
-use whole_math::{ceil, ceil_shift, nearest};
+use crate::shares::{PivotShare, Share};
+use whole_math::{ceil, ceil_shift, floor_shift, nearest};
 
 /// Every factor and every entry after a rounding is below this in size.
 const LIMIT: i128 = 1 << 52;
@@ -71,20 +73,6 @@ fn less_three(entry: i128, square: i128, count: i128, loss: i128) -> i128
     fewer - loss
 }
 
-/// About 2^30 / a in units of 2^-exponent, for a pivot a. Nothing is said of it: what is guessed by it is tested.
-#[derive(Clone, Copy, Debug)]
-pub(crate) struct PivotShare {
-    ratio: i64,
-    exponent: u32,
-    pub ghost exponent_to: { exponent < 128 },
-}
-
-/// About p / a in units of 2^-60, where it is below 4. Nothing else is said of it.
-#[derive(Clone, Copy, Debug)]
-pub(crate) struct Share {
-    ratio: i64,
-}
-
 /// A number, or the nearest that is at most 2^62 in size.
 fn within_62(x: i128) -> i64
     ensures { unsigned_abs result ≤ 2 ^ 62 }
@@ -112,22 +100,100 @@ pub(crate) fn pivot_share(a: i128) -> PivotShare
     }
 }
 
+/// p · q
+fn long_product(p: i64, q: i64) -> i128
+    requires p_size { unsigned_abs p ≤ 2 ^ 62 }
+    requires q_size { unsigned_abs q ≤ 2 ^ 52 }
+    ensures value { result ≡ p *ℤ q }
+    ensures size { unsigned_abs result ≤ 2 ^ 114 }
+{
+    p as i128 * q as i128
+}
+
+/// What a ratio in units of 2^-52 may miss, times the pivot.
+const MOST_MISSED: i128 = 1 << 60;
+
+/// ratio · a - p · 2^52
+fn missed(ratio: i64, p: i64, a: i64) -> i128
+    requires ratio_size { unsigned_abs ratio ≤ 2 ^ 62 }
+    requires p_size { unsigned_abs p ≤ 2 ^ 52 }
+    requires a_size { unsigned_abs a ≤ 2 ^ 52 }
+    ensures value { result ≡ (ratio *ℤ a) -ℤ (pos (2 ^ 52) *ℤ p) }
+    ensures size { unsigned_abs result ≤ 2 ^ 115 }
+{
+    long_product(ratio, a) - long_product(1 << 52, p)
+}
+
+/// Whether the ratio is near p / a.
+fn is_near_share(ratio: i64, p: i64, a: i64) -> bool
+    requires ratio_size { unsigned_abs ratio ≤ 2 ^ 62 }
+    requires p_size { unsigned_abs p ≤ 2 ^ 52 }
+    requires a_size { unsigned_abs a ≤ 2 ^ 52 }
+    ensures { IsTrue result → unsigned_abs ((ratio *ℤ a) -ℤ (pos (2 ^ 52) *ℤ p)) ≤ 2 ^ 60 }
+{
+    let left = missed(ratio, p, a);
+    -MOST_MISSED <= left && left <= MOST_MISSED
+}
+
 /// The share of p in a pivot, by that of 2^30.
-pub(crate) fn share_by(p: i128, pivot: &PivotShare) -> Share {
+pub(crate) fn share_by(p: i128, a: i128, pivot: &PivotShare) -> Share
+    requires p_size { unsigned_abs p ≤ 2 ^ 52 }
+    requires a_size { unsigned_abs a ≤ 2 ^ 52 }
+    ensures { IsNearShare p a result }
+{
     let product = (pivot.ratio as i128).wrapping_mul(p);
-    let unit = pivot.exponent.saturating_sub(FACTOR_EXPONENT).min(127);
+    // 2^30 of the pivot's units, less the 2^52 of these
+    let unit = pivot.exponent.saturating_sub(22).min(127);
+    let ratio = within_62(product >> unit);
     Share {
-        ratio: within_62(product >> unit),
+        ratio,
+        is_near: is_near_share(ratio, narrow(p), narrow(a)),
     }
 }
 
+/// product / 2^52 to the nearest
+fn nearest_unit(product: i128) -> i64
+    requires { unsigned_abs product ≤ 2 ^ 114 }
+    ensures size { unsigned_abs result ≤ 2 ^ 62 + 1 }
+    ensures near { unsigned_abs (product -ℤ (pos (2 ^ 52) *ℤ result)) ≤ 2 ^ 52 }
+{
+    floor_shift(product + (1 << 51), 52) as i64
+}
+
 /// About p · q / a to the nearest, by the share of p in a.
-fn guess_of(share: &Share, q: i128) -> i128
+fn guess_of(share: &Share, q: i64) -> i64
+    requires { unsigned_abs q ≤ 2 ^ 52 }
+    ensures size { unsigned_abs result ≤ 2 ^ 62 + 1 }
+    ensures near { unsigned_abs ((share.now.ratio *ℤ q) -ℤ (pos (2 ^ 52) *ℤ result)) ≤ 2 ^ 52 }
+{
+    nearest_unit(long_product(share.ratio, q))
+}
+
+/// The guess where it is at most 2^52 in size, and else the nearest that is.
+fn short_guess(share: &Share, q: i128) -> i128
     requires { unsigned_abs q ≤ 2 ^ 52 }
     ensures { unsigned_abs result ≤ 2 ^ 52 }
 {
-    let product = (share.ratio as i128).wrapping_mul(narrow(q) as i128);
-    within_52(within_62(product.wrapping_add(1 << 59) >> 60)) as i128
+    within_52(guess_of(share, narrow(q))) as i128
+}
+
+/// p · q - guess · a, where that is known to be small: the lowest 64 bits say it.
+fn rest_of(p: i64, q: i64, guess: i64, a: i64) -> i64
+    requires { unsigned_abs ((p *ℤ q) -ℤ (guess *ℤ a)) ≤ 2 ^ 61 }
+    ensures { result ≡ (p *ℤ q) -ℤ (guess *ℤ a) }
+{
+    p.wrapping_mul(q).wrapping_sub(guess.wrapping_mul(a))
+}
+
+/// Whether the guess is p · q / a to the nearest.
+fn is_nearest(p: i64, q: i64, a: i64, guess: i64) -> bool
+    requires positive { pos 0 <ℤ a }
+    requires a_size { unsigned_abs a ≤ 2 ^ 52 }
+    requires small { unsigned_abs ((p *ℤ q) -ℤ (guess *ℤ a)) ≤ 2 ^ 61 }
+    ensures { IsTrue result → guess ≡ nearest_div (p *ℤ q) (unsigned_abs a) }
+{
+    let twice = 2 * rest_of(p, q, guess, a);
+    -a <= twice && twice < a
 }
 
 /// About p · 2^30 / a to the nearest, by the share of 2^30 in a.
@@ -197,6 +263,25 @@ pub(crate) fn factor_of(p: i128, a: i128, pivot: &PivotShare) -> i128
     nearest_by(product(p, 1 << FACTOR_EXPONENT), a, factor_guess(pivot, p))
 }
 
+/// p · q / a to the nearest, with the share of p in a: the guess where it is that, and else by a division.
+fn nearest_of(p: i128, q: i128, a: i128, share: &Share) -> i128
+    requires p_size { unsigned_abs p ≤ 2 ^ 52 }
+    requires q_size { unsigned_abs q ≤ 2 ^ 52 }
+    requires a_size { unsigned_abs a ≤ 2 ^ 52 }
+    requires positive { pos 0 <ℤ a }
+    requires share { IsNearShare p a share.now }
+    ensures value { result ≡ nearest_div (p *ℤ q) (unsigned_abs a) }
+    ensures size { unsigned_abs result ≤ 2 ^ 104 }
+{
+    if share.is_near {
+        let guess = guess_of(share, narrow(q));
+        if is_nearest(narrow(p), narrow(q), narrow(a), guess) {
+            return guess as i128;
+        }
+    }
+    nearest(product(p, q), a)
+}
+
 /// An entry off the diagonal, less p · q / a to the nearest, with the share of p in a.
 pub(crate) fn other_after(entry: i128, p: i128, q: i128, a: i128, share: &Share) -> i128
     requires entry_size { unsigned_abs entry ≤ 2 ^ 52 }
@@ -204,10 +289,11 @@ pub(crate) fn other_after(entry: i128, p: i128, q: i128, a: i128, share: &Share)
     requires q_size { unsigned_abs q ≤ 2 ^ 52 }
     requires a_size { unsigned_abs a ≤ 2 ^ 52 }
     requires positive { pos 0 <ℤ a }
+    requires share { IsNearShare p a share.now }
     ensures value { result ≡ entry -ℤ nearest_div (p *ℤ q) (unsigned_abs a) }
     ensures size { unsigned_abs result ≤ 2 ^ 105 }
 {
-    less(entry, nearest_by(product(p, q), a, guess_of(share, q)))
+    less(entry, nearest_of(p, q, a, share))
 }
 
 /// n · a / 2^42 upward: what the rounding of the factors may take from an own entry.
@@ -232,7 +318,7 @@ pub(crate) fn own_after(entry: i128, p: i128, a: i128, count: i128, share: &Shar
     ensures value { result ≡ ((entry -ℤ ceil_div (p *ℤ p) (unsigned_abs a)) -ℤ count) -ℤ ceil_div (count *ℤ a) (2 ^ 42) }
     ensures size { unsigned_abs result ≤ 2 ^ 107 }
 {
-    let loss = ceil_by(product(p, p), a, guess_of(share, p));
+    let loss = ceil_by(product(p, p), a, short_guess(share, p));
     less_three(entry, loss, count, factor_loss(count, a))
 }
 

@@ -12,6 +12,7 @@
 
 mod entries;
 mod finished;
+mod shares;
 mod step;
 mod steps;
 mod tables;

@@ -3,13 +3,13 @@
 ghost use Rattle.std.specs.Prelude.{◌≡◌, ◌≢◌, ◌⊎◌, ℕ, ◌+◌, ◌-◌, ◌^◌, ◌<◌, ◌≤◌, pos, ◌<ℤ◌, unsigned_abs, true, false, IfOk, IfErr, Ok, Err};
 ghost use Rattle.quadratic_form.specs.Elimination.{step as elimination};
 ghost use Rattle.form_tables.specs.Tables.{entry};
+ghost use Rattle.elimination.specs.Shares.{IsNearShare};
 ghost use Rattle.elimination.specs.StepEntries.{is_small, factor_entry, other_entry, new_entry};
 ghost use Rattle.elimination.specs.Stops.{refusal_of, column_at, form_after};
 ghost use Rattle.integer_form.specs.Factors.{factor_at};
 
-use crate::entries::{
-    PivotShare, Share, factor_of, is_small, kept_of, other_after, own_after, pivot_share, share_by,
-};
+use crate::entries::{factor_of, is_small, kept_of, other_after, own_after, pivot_share, share_by};
+use crate::shares::{PivotShare, Share};
 use form_tables::{FactorTable, MOST_COLUMNS, MOST_FACTORS, NormalTable};
 
 /// Why a step stops.
@@ -72,14 +72,16 @@ fn update_others(
     requires pivot_size { unsigned_abs a ≤ 2 ^ 52 }
     requires pivots { (c : ℕ) → j < c → c < columns → unsigned_abs (entry table.old j c) ≤ 2 ^ 52 }
     requires entries { (c : ℕ) → r < c → c < columns → unsigned_abs (entry table.old r c) ≤ 2 ^ 52 }
+    requires share { IsNearShare (entry table.old j r) a share.now }
     ensures value { result ≡ true → (c : ℕ) → r < c → c < columns → entry table.new r c ≡ other_entry table.old j (unsigned_abs a) r c }
     ensures small { result ≡ true → (c : ℕ) → r < c → c < columns → is_small (other_entry table.old j (unsigned_abs a) r c) ≡ true }
     ensures refused { result ≡ false → (c : ℕ) × ((r < c) × (c < columns) × (is_small (other_entry table.old j (unsigned_abs a) r c) ≡ false)) }
     ensures before { (c : ℕ) → c ≤ r → entry table.new r c ≡ entry table.old r c }
     ensures others { (i c : ℕ) → i ≢ r → entry table.new i c ≡ entry table.old i c }
 {
+    let above = table.at(j, r);
     for c in r + 1..columns {
-        let other = other_after(table.at(r, c), table.at(j, r), table.at(j, c), a, share);
+        let other = other_after(table.at(r, c), above, table.at(j, c), a, share);
         if !is_small(other) {
             return false;
         }
@@ -112,7 +114,7 @@ fn update_row(
     let later = (columns - j - 1) as i128;
     let old = table.at(r, r);
     let above = table.at(j, r);
-    let share = share_by(above, pivot);
+    let share = share_by(above, a, pivot);
     let own = own_after(old, above, a, later, &share);
     if !is_small(own) {
         return false;

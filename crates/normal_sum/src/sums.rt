@@ -15,7 +15,7 @@ ghost use Rattle.normal_sum.specs.Normals.{IsNormalOf};
 ghost use Rattle.normal_sum.specs.Values.{IsSumAtCentres, StaysBelow};
 
 use crate::Normal;
-use crate::mirror::mirror;
+use crate::mirror::{clear_row, mirror};
 use crate::pairs::{add_pair, add_pair_radii};
 use crate::radii::RadiusSums;
 use form_tables::{BASELINE_COLUMNS, MOST_COLUMNS, NormalTable};
@@ -51,7 +51,7 @@ fn fill_table(
         add_pair(table, arcs, signals, integers, pair);
         radii = add_pair_radii(radii, signals, pair);
     }
-    mirror(table);
+    mirror(table, BASELINE_COLUMNS + integers + 1);
     // Every table has the shape that a read of it tells.
     let _first = table.at(0, 0);
     [radii.u1, radii.u2, radii.u3, radii.y]
@@ -72,19 +72,6 @@ fn sum_pairs(arcs: &[Arc], signals: &[usize], pairs: &[PairRows]) -> Normal
         columns: BASELINE_COLUMNS + integers + 1,
         c: table,
         r,
-    }
-}
-
-/// Writes 0 into the first columns of a row.
-fn clear_row(table: &mut NormalTable, row: usize, columns: usize)
-    requires row_in { row < MOST_COLUMNS }
-    requires columns_in { columns ≤ MOST_COLUMNS }
-    ensures cleared { (j : ℕ) → j < columns → entry table.new row j ≡ pos 0 }
-    ensures later { (j : ℕ) → columns ≤ j → entry table.new row j ≡ entry table.old row j }
-    ensures others { (i j : ℕ) → i ≢ row → entry table.new i j ≡ entry table.old i j }
-{
-    for column in 0..columns {
-        table.set(row, column, 0);
     }
 }
 

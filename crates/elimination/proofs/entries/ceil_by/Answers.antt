@@ -1,4 +1,4 @@
-use Rattle.std.proofs.Common.{◌≡◌, refl, [], ◌∷◌, ◌≤◌, ◌<◌, ◌^◌, ℤ, pos, ◌+ℤ◌, ◌-ℤ◌, ◌*ℤ◌, neg_ℤ, ◌<ℤ◌, ◌≤ℤ◌, unsigned_abs, arith, to_z, of_z, ap, sym, ◌∙◌, subst}
+use Rattle.std.proofs.Common.{◌≡◌, refl, [], ◌∷◌, ◌≤◌, ◌^◌, ℤ, pos, ◌+ℤ◌, ◌-ℤ◌, ◌*ℤ◌, neg_ℤ, ◌<ℤ◌, ◌≤ℤ◌, unsigned_abs, arith, to_z, of_z, ap, sym, ◌∙◌, subst}
 use Rattle.std.proofs.lemmas.Int.{ints, to_z-of_z}
 use Rattle.std.specs.Int.{w128}
 use Rattle.whole_math.specs.Rounding.{ceil_div}
@@ -8,10 +8,8 @@ use Rattle.whole_math.proofs.Ring.{◌⊕◌, ◌⊗◌}
 use Rattle.whole_math.proofs.Rounding.{ceil_unique}
 use Rattle.whole_math.proofs.Words.{as_w128}
 use Rattle.elimination.proofs.NewEntries.{positive_is}
+use Rattle.elimination.proofs.Guesses.{some_of}
 use Rattle.elimination.proofs.entries.ceil_by.Goals as goal
-
-some_of : (a : ℤ) → pos 0 <ℤ a → 0 < unsigned_abs a
-some_of a h = omega (arith, ints)
 
 -- x / a is the quotient upward where what is left is above -a and at most 0
 left_below : (n x a t : ℤ) → t ≡ pos 2 *ℤ (n -ℤ x) → (pos 2 *ℤ neg_ℤ a) <ℤ t → t ≤ℤ pos 0 → (n ≤ℤ x) × (x <ℤ (n +ℤ a))

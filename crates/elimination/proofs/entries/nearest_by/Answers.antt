@@ -1,24 +1,9 @@
-use Rattle.std.proofs.Common.{◌≡◌, ◌<◌, ℤ, pos, ◌+ℤ◌, ◌-ℤ◌, ◌*ℤ◌, neg_ℤ, ◌<ℤ◌, ◌≤ℤ◌, unsigned_abs, arith, to_z, of_z, ◌∙◌, subst}
+use Rattle.std.proofs.Common.{◌≡◌, pos, ◌-ℤ◌, ◌*ℤ◌, neg_ℤ, ◌<ℤ◌, ◌≤ℤ◌, arith, to_z, of_z, ◌∙◌}
 use Rattle.std.proofs.lemmas.Int.{ints, to_z-of_z}
 use Rattle.std.specs.Int.{w128}
-use Rattle.whole_math.specs.Rounding.{nearest_div}
-use Rattle.whole_math.proofs.Order.{polys}
-use Rattle.whole_math.proofs.Rounding.{nearest_unique}
 use Rattle.whole_math.proofs.Words.{as_w128}
-use Rattle.elimination.proofs.NewEntries.{positive_is}
+use Rattle.elimination.proofs.Guesses.{guessed_nearest}
 use Rattle.elimination.proofs.entries.nearest_by.Goals as goal
-
-some_of : (a : ℤ) → pos 0 <ℤ a → 0 < unsigned_abs a
-some_of a h = omega (arith, ints)
-
--- x / a is the nearest where what is left is at most half of a on either side
-half_left : (n x a t : ℤ) → t ≡ pos 2 *ℤ (n -ℤ x) → neg_ℤ a ≤ℤ t → t <ℤ a →
-    ((pos 2 *ℤ x) ≤ℤ ((pos 2 *ℤ n) +ℤ a)) × (((pos 2 *ℤ n) +ℤ a) <ℤ ((pos 2 *ℤ x) +ℤ (pos 2 *ℤ a)))
-half_left n x a t h l u = (omega (arith, polys), omega (arith, polys))
-
-guessed : (n a q t : ℤ) → pos 0 <ℤ a → t ≡ pos 2 *ℤ (n -ℤ (q *ℤ a)) → neg_ℤ a ≤ℤ t → t <ℤ a → q ≡ nearest_div n (unsigned_abs a)
-guessed n a q t p h l u = nearest_unique n q (unsigned_abs a) (some_of a p) (subst (λ (m : ℤ). ((pos 2 *ℤ (q *ℤ m)) ≤ℤ ((pos 2 *ℤ n) +ℤ m)) ×
-    (((pos 2 *ℤ n) +ℤ m) <ℤ ((pos 2 *ℤ (q *ℤ m)) +ℤ (pos 2 *ℤ m)))) (positive_is a p) (half_left n (q *ℤ a) a t h l u))
 
 pub returns-then-twice-a-clause-value : goal.returns-then-twice-a-clause-value
 returns-then-twice-a-clause-value c =
@@ -32,4 +17,4 @@ returns-then-twice-a-clause-value c =
     let small = c.requires.a_size in
     let low : neg_ℤ c.args.a ≤ℤ c.twice_less-twice.result = let h = c.if-a-twice.true in omega (arith, ints) in
     let high : c.twice_less-twice.result <ℤ c.args.a = let h = c.if-twice-a.true in omega (arith, ints) in
-    eg ∙ guessed c.args.n c.args.a c.args.guess c.twice_less-twice.result c.requires.positive t low high
+    eg ∙ guessed_nearest c.args.n c.args.a c.args.guess c.twice_less-twice.result c.requires.positive t low high

@@ -11,10 +11,8 @@ returns-clause-value c =
     let ep : to_z w128 (of_z w128 c.args.p) ≡ c.args.p = to_z-of_z w128 c.args.p c.ranges.p in
     let eq : to_z w128 (of_z w128 c.args.q) ≡ c.args.q = to_z-of_z w128 c.args.q c.ranges.q in
     let ea : to_z w128 (of_z w128 c.args.a) ≡ c.args.a = to_z-of_z w128 c.args.a c.ranges.a in
-    let wp : to_z w128 (of_z w128 c.product.result) ≡ c.product.result = as_w128 c.product.result (omega (arith, c.product.ensures.size)) in
-    let wn : to_z w128 (of_z w128 c.nearest_by.result) ≡ c.nearest_by.result = as_w128 c.nearest_by.result (omega (arith, c.nearest_by.ensures.size)) in
+    let wn : to_z w128 (of_z w128 c.nearest_of.result) ≡ c.nearest_of.result = as_w128 c.nearest_of.result (omega (arith, c.nearest_of.ensures.size)) in
     let wl : to_z w128 (of_z w128 c.less.result) ≡ c.less.result = as_w128 c.less.result (omega (arith, c.less.ensures.size)) in
-    let p : c.product.result ≡ c.args.p *ℤ c.args.q = rw (ep, eq) at c.product.ensures.value in
-    let n : c.nearest_by.result ≡ nearest_div c.product.result (unsigned_abs c.args.a) = rw (wp, ea) at c.nearest_by.ensures.value in
-    let l : c.less.result ≡ c.args.entry -ℤ c.nearest_by.result = rw (ee, wn) at c.less.ensures.value in
-    wl ∙ l ∙ ap (λ z. c.args.entry -ℤ z) (n ∙ ap (λ z. nearest_div z (unsigned_abs c.args.a)) p)
+    let n : c.nearest_of.result ≡ nearest_div (c.args.p *ℤ c.args.q) (unsigned_abs c.args.a) = rw (ep, eq, ea) at c.nearest_of.ensures.value in
+    let l : c.less.result ≡ c.args.entry -ℤ c.nearest_of.result = rw (ee, wn) at c.less.ensures.value in
+    wl ∙ l ∙ ap (λ z. c.args.entry -ℤ z) n

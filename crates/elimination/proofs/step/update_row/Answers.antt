@@ -1,9 +1,19 @@
-use Rattle.std.proofs.Common.{◌≡◌, inl, ⊎_elim, ℕ, ◌-◌, ◌<◌, List, ℤ, pos, true, false, unsigned_abs, arith, sym, ap, ◌∙◌, refl, subst}
+use Rattle.std.proofs.Common.{◌≡◌, ◌≢◌, inl, ⊎_elim, ℕ, ◌-◌, ◌<◌, List, ℤ, pos, true, false, unsigned_abs, arith, sym, ap, ◌∙◌, refl, subst}
 use Rattle.form_tables.specs.Tables.{entry}
 use Rattle.elimination.specs.StepEntries.{is_small, new_entry}
 use Rattle.elimination.proofs.NewEntries.{from_own}
-use Rattle.elimination.proofs.NewRows.{OwnRow, own_row}
+use Rattle.elimination.proofs.NewRows.{word, read, OwnRow, own_row}
 use Rattle.elimination.proofs.step.update_row.Goals as goal
+
+-- the entry in the row of the pivot isn't written
+pub update_others-requires-clause-share : goal.update_others-requires-clause-share
+update_others-requires-clause-share c =
+    let j : ℕ = c.args.j in
+    let r : ℕ = c.args.r in
+    let apart : j ≢ r = omega (arith, c.requires.row) in
+    let above : word c.at-above.result ≡ entry c.set.new.self j r =
+    read c.at-above.result (entry c.args.table.now j r) c.at-above.ensures.value (c.requires.pivots r c.requires.row c.requires.row_in) ∙ sym (c.set.ensures.others j r (inl apart)) in
+    λ t. rw above at (c.share_by-share.ensures t)
 
 pub returns-clause-value : goal.returns-clause-value
 returns-clause-value c =

@@ -1,4 +1,4 @@
-use Rattle.std.proofs.Common.{◌≡◌, ℕ, ◌+◌, ◌<◌, List, ℤ, unsigned_abs, arith, pos, sym, subst, ◌^◌, ap, ap₂, ◌∙◌}
+use Rattle.std.proofs.Common.{◌≡◌, ℕ, ◌+◌, ◌<◌, ℤ, unsigned_abs, arith, sym, subst, ◌^◌, ap₂, ◌∙◌}
 use Rattle.form_tables.specs.Tables.{entry}
 use Rattle.elimination.proofs.TableLaws.{form_moved, small_of_form, small_table}
 use Rattle.elimination.proofs.tables.fill_form_table.Goals as goal

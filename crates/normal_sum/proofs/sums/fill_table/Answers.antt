@@ -4,7 +4,7 @@ use Rattle.std.proofs.lemmas.Int.{ints}
 use Rattle.whole_math.proofs.Order.{lins}
 use Rattle.quadratic_form.specs.Rows.{SignalGroup, Radii, add_radii, radii}
 use Rattle.quadratic_form.specs.MatrixEntries.{matrix_entry}
-use Rattle.quadratic_form.proofs.MatrixEntries.{matrix_append}
+use Rattle.quadratic_form.proofs.MatrixEntries.{matrix_append, matrix_past}
 use Rattle.obs_rows.specs.declared.arcs.Arc.{Arc}
 use Rattle.obs_rows.specs.declared.pair_rows.PairRows.{PairRows}
 use Rattle.obs_rows.specs.declared.units.TheConstants.{MOST_FREE_ARCS}
@@ -99,6 +99,27 @@ all_entries arcs ss pairs k t u h g s m none e =
     entries_everywhere (integer_count arcs ss) (signal_groups arcs ss pairs) u s (omega (arith, four_and (integer_count arcs ss), count_within arcs ss h g)) (groups_of arcs ss pairs)
     (mirrored_entries t u (signal_groups arcs ss pairs) m
     (λ i j hi hj. zero_last _ _ (ap (λ (l : List PairRows). entry t i j +ℤ matrix_entry (signal_groups arcs ss l) i j) (sym none) ∙ e i j hi hj)))
+
+pub mirror-requires-clause-columns_in : goal.mirror-requires-clause-columns_in
+mirror-requires-clause-columns_in c = omega (arith, count_within c.args.arcs.now c.args.signals.now c.requires.counted c.requires.free, c.requires.integers)
+
+-- after the columns the sums are 0
+pub mirror-requires-clause-outside : goal.mirror-requires-clause-outside
+mirror-requires-clause-outside c =
+    let arcs : List Arc = c.args.arcs.now in
+    let ss : List ℕ = c.args.signals.now in
+    let pairs : List PairRows = c.args.pairs.now in
+    let k : ℕ = c.loop-pair.pair-index in
+    let last : length pairs ≤ k = search rules in
+    let none : drop k pairs ≡ [] = drop_end pairs k last in
+    λ i j h g l. zero_last _ _ (ap (λ (p : List PairRows). entry c.loop-pair.table i j +ℤ matrix_entry (signal_groups arcs ss p) i j) (sym none) ∙ c.loop-pair.invariant.sums i j (before i j h) l)
+    ∙ matrix_past (integer_count arcs ss) (signal_groups arcs ss pairs) i j (groups_of arcs ss pairs) (after (integer_count arcs ss) c.args.integers j (four_and (integer_count arcs ss)) c.requires.integers g)
+  where
+    before : (i j : ℕ) → i < j → i ≤ j
+    before i j h = omega (arith, h)
+
+    after : (n m j : ℕ) → columns n ≡ 4 + n → m ≡ n → (3 + m) + 1 ≤ j → columns n ≤ j
+    after n m j e is h = omega (arith, e, is, h)
 
 pub returns-clause-entries : goal.returns-clause-entries
 returns-clause-entries c =

@@ -1,6 +1,6 @@
 use Rattle.std.proofs.Common.{◌≡◌, ◌≢◌, ℕ, ◌<◌, ◌≤◌, pos}
 use Rattle.form_tables.specs.Tables.{entry}
-use Rattle.normal_sum.proofs.sums.clear_row.Given as goal
+use Rattle.normal_sum.proofs.mirror.clear_row.Given as goal
 
 abbrev pub invariant-loop-column : goal.invariant-loop-column
 invariant-loop-column l = record {

@@ -1,0 +1,19 @@
+//! Shares of entries in a pivot, about: by them quotients are guessed, and what is guessed is tested.
+ghost use Rattle.std.specs.Prelude.{◌^◌, ◌<◌, ◌≤◌, unsigned_abs};
+
+/// About 2^30 / a in units of 2^-exponent, for a pivot a. Nothing is said of it: what is guessed by it is tested.
+#[derive(Clone, Copy, Debug)]
+pub(crate) struct PivotShare {
+    pub(crate) ratio: i64,
+    pub(crate) exponent: u32,
+    pub ghost exponent_to: { exponent < 128 },
+}
+
+/// About p / a in units of 2^-52, where it is below 1024.
+#[derive(Clone, Copy, Debug)]
+pub(crate) struct Share {
+    pub(crate) ratio: i64,
+    /// Whether it was seen to be so near that what a guess by it leaves of p · q fits 64 bits.
+    pub(crate) is_near: bool,
+    pub ghost ratio_in: { unsigned_abs ratio ≤ 2 ^ 62 },
+}
