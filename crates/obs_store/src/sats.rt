@@ -1,5 +1,5 @@
 //! The satellites of an epoch.
-ghost use Rattle.std.specs.Prelude.{◌≡◌, ◌≤◌, ◌<◌, ◌==◌, [], ◌∷◌, ◌++◌, length, false, find, slice_get, slice_index, Some, OnOk, OnErr};
+ghost use Rattle.std.specs.Prelude.{◌≡◌, ◌≤◌, ◌<◌, ◌==◌, [], ◌∷◌, ◌++◌, length, false, find, slice_get, slice_index, Some, IfOk, OnOk, OnErr};
 ghost use Rattle.obs_store.specs.Satellites.{AreSatellites, has_satellite};
 ghost use Rattle.obs_store.specs.Seen.{numbers_of};
 
@@ -105,6 +105,23 @@ impl Satellites {
         let count = store_values(&mut self.values, values);
         self.sats.push_reserved(StoredSat { number, count });
         Ok(())
+    }
+
+    /// Removes all satellites. Their memory stays for others.
+    pub fn clear(&mut self)
+        ensures { self.new ≡ [] }
+    {
+        self.sats.clear();
+        self.values.clear();
+    }
+
+    /// The same satellites, in memory of their own and no more than they need.
+    pub fn copy(&self, alloc: Global) -> Result<Satellites, AllocError>
+        ensures { IfOk result (λ copied. copied ≡ self.now) }
+    {
+        let sats = Vec::from_slice(alloc, self.sats.as_slice())?;
+        let values = Vec::from_slice(alloc, self.values.as_slice())?;
+        Ok(Satellites { sats, values })
     }
 
     /// Gives back the memory that was taken for more satellites than there are.

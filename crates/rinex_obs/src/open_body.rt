@@ -73,6 +73,8 @@ pub struct OpenBody {
     kept: Vec<KeptType>,
     epochs: Epochs,
     part: Part,
+    // the memory of an epoch that was read, for the satellites of the next one
+    spare: Satellites,
     ghost kept_is: { kept.items ≡ kept_from header.system 0 header.types },
     ghost fits: { FitsBehind epochs part } by { FitsBehind-prop epochs part },
 }
@@ -90,18 +92,28 @@ impl OpenBody {
             kept,
             epochs: Epochs::new(alloc),
             part: Part::Between,
+            spare: Satellites::new(alloc),
         }
     }
 
     /// Reads the next line.
-    #[tactic(auto, using(crate::proofs::Admits::sats_due, crate::proofs::Admits::sats_taken))]
+    #[tactic(auto, using(crate::proofs::Admits::sats_due, crate::proofs::Admits::sats_taken, crate::proofs::Admits::lines_due))]
     pub fn take_line(&mut self, alloc: Global, line: &Line<'_>) -> Result<(), TextFault>
         ensures { Takes (admit (expected_in_body self.old) line.now.bytes.now) line.now.number (expected_in_body self.new) result }
     {
-        // An epoch of which more lines are due stays in its place.
+        // An epoch or an event of which more lines are due stays in its place.
         match &mut self.part {
             Part::Epoch(epoch) if epoch.left > 1 => {
                 epoch.take_line(self.header.system, &self.kept, line)
+            }
+            Part::Event { changes, left } if *left > 1 => {
+                match event_line(Layout::Rinex3, line, *changes) {
+                    Ok(()) => {
+                        *left -= 1;
+                        Ok(())
+                    }
+                    Err(flaw) => Err(TextFault::Refused(flaw.at(line.number))),
+                }
             }
             _ => self.take_any_line(alloc, line),
         }
@@ -114,7 +126,7 @@ impl OpenBody {
     {
         match mem::replace(&mut self.part, Part::Between) {
             Part::Between => self.begin_part(alloc, line),
-            Part::Epoch(epoch) => self.take_satellite(line, epoch),
+            Part::Epoch(epoch) => self.take_satellite(alloc, line, epoch),
             Part::Event { changes, left } => self.take_event_line(line, changes, left),
         }
     }
@@ -132,13 +144,15 @@ impl OpenBody {
                 Ok(())
             }
             Ok(EpochLine::Epoch { tag, power, count }) => {
+                let mut sats = mem::replace(&mut self.spare, Satellites::new(alloc));
+                sats.clear();
                 let epoch = OpenEpoch {
                     tag,
                     power,
-                    sats: Satellites::new(alloc),
+                    sats,
                     left: count,
                 };
-                match self.expect_epoch(epoch) {
+                match self.expect_epoch(alloc, epoch) {
                     Ok(()) => Ok(()),
                     Err(AllocError) => Err(TextFault::NoMemory),
                 }
@@ -148,7 +162,12 @@ impl OpenBody {
     }
 
     #[tactic(auto, using(crate::proofs::Admits::sats_taken))]
-    fn take_satellite(&mut self, line: &Line<'_>, mut epoch: OpenEpoch) -> Result<(), TextFault>
+    fn take_satellite(
+        &mut self,
+        alloc: Global,
+        line: &Line<'_>,
+        mut epoch: OpenEpoch,
+    ) -> Result<(), TextFault>
         requires between { self.old.part ≡ Part.Between }
         requires due { 0 < epoch.left }
         requires room { length self.old.epochs < 20_000 }
@@ -156,7 +175,7 @@ impl OpenBody {
         ensures { Takes (admit (Sats self.old.header self.old.epochs epoch.tag epoch.power epoch.sats epoch.left) line.now.bytes.now) line.now.number (expected_in_body self.new) result }
     {
         epoch.take_line(self.header.system, &self.kept, line)?;
-        match self.expect_epoch(epoch) {
+        match self.expect_epoch(alloc, epoch) {
             Ok(()) => Ok(()),
             Err(AllocError) => Err(TextFault::NoMemory),
         }
@@ -183,7 +202,7 @@ impl OpenBody {
 
     // The epoch is whole where none of its lines is due.
     #[tactic(auto, using(crate::proofs::Admits::sats_due, crate::proofs::Admits::sats_all))]
-    fn expect_epoch(&mut self, epoch: OpenEpoch) -> Result<(), AllocError>
+    fn expect_epoch(&mut self, alloc: Global, epoch: OpenEpoch) -> Result<(), AllocError>
         requires between { self.old.part ≡ Part.Between }
         requires room { length self.old.epochs < 20_000 }
         requires later { IfSome (last_tag_of self.old.epochs) (λ last. last.0 < epoch.tag.0) }
@@ -196,8 +215,9 @@ impl OpenBody {
         let whole = Epoch {
             tag: epoch.tag,
             power: epoch.power,
-            sats: epoch.sats,
+            sats: epoch.sats.copy(alloc)?,
         };
+        self.spare = epoch.sats;
         self.epochs.push(whole)
     }
 

@@ -127,13 +127,13 @@ fn observed_box(signal: usize, amount: i64) -> Observed
 }
 
 // observed - (rover - base)
-fn less(observed: i128, rover: i128, base: i128) -> i128
+fn less(observed: i128, rover: i64, base: i64) -> i128
     requires observed { unsigned_abs observed ≤ 2 ^ 67 }
     requires rover { unsigned_abs rover ≤ 2 ^ 55 }
     requires base { unsigned_abs base ≤ 2 ^ 55 }
     ensures { result ≡ observed -ℤ (rover -ℤ base) }
 {
-    observed - (rover - base)
+    observed - (rover - base) as i128
 }
 
 /// From what the two receivers would observe if their clocks were right, and the rover's amount less the base's in thousandths.

@@ -13,8 +13,8 @@ use obs_rows::{LIGHT_SPEED, UNIT_FREQUENCY};
 /// A range less what the satellite's clock is ahead, in 2^-15 ι, from `lo` to `hi`.
 #[derive(Clone, Copy, Debug)]
 pub struct Pseudorange {
-    pub lo: i128,
-    pub hi: i128,
+    pub lo: i64,
+    pub hi: i64,
     pub ghost ordered: { lo ≤ℤ hi },
     pub ghost narrow: { (hi -ℤ lo) ≤ℤ pseudorange_width },
     pub ghost lo_size: { unsigned_abs lo ≤ 2 ^ 55 },
@@ -31,7 +31,7 @@ pub const HALF_LIGHT_SPEED: u64 = (LIGHT_SPEED >> 1) as u64;
 // HALF_LIGHT_SPEED · 2^60 units of 2^-60 m, which make what is divided positive, and METRE_UNITS · 2^21, which they are in units of 2^-15 ι
 const METRE_OFFSET: i128 = (HALF_LIGHT_SPEED as i128) << 60;
 
-const OFFSET_UNITS: i128 = (METRE_UNITS as i128) << 21;
+const OFFSET_UNITS: i64 = (METRE_UNITS as i64) << 21;
 
 // The second digit of a divisor HALF_LIGHT_SPEED · 2^39
 const DIGIT: u128 = 1 << 39;
@@ -68,22 +68,22 @@ fn raised_units(metres: i128) -> u128
     (metres + METRE_OFFSET) as u128 * METRE_UNITS
 }
 
-fn below(metres: i128) -> i128
+fn below(metres: i128) -> i64
     requires { unsigned_abs metres ≤ 2 ^ 86 + 2 ^ 83 }
     ensures rounded { IsFloor (metres *ℤ pos METRE_UNITS) (HALF_LIGHT_SPEED * 2 ^ 39) result }
     ensures size { unsigned_abs result ≤ 2 ^ 55 }
 {
-    over_half_light_speed(raised_units(metres) / DIGIT) as i128 - OFFSET_UNITS
+    over_half_light_speed(raised_units(metres) / DIGIT) as i64 - OFFSET_UNITS
 }
 
-fn above(metres: i128) -> i128
+fn above(metres: i128) -> i64
     requires { unsigned_abs metres ≤ 2 ^ 86 + 2 ^ 83 }
     ensures rounded { IsCeil (metres *ℤ pos METRE_UNITS) (HALF_LIGHT_SPEED * 2 ^ 39) result }
     ensures size { unsigned_abs result ≤ 2 ^ 55 }
 {
     // Less than one more, so that it is rounded up.
     let units = raised_units(metres) + (HALF_LIGHT_SPEED as u128 * DIGIT - 1);
-    over_half_light_speed(units / DIGIT) as i128 - OFFSET_UNITS
+    over_half_light_speed(units / DIGIT) as i64 - OFFSET_UNITS
 }
 
 /// From the boxes of a range in metres and of a satellite's clock in seconds.

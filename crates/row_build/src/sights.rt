@@ -33,7 +33,7 @@ fn sights_of(alloc: Global, boxes: &[SvPair], point: &[i64; 3]) -> Result<Vec<Si
     requires { IsReceiverPoint point.now }
     ensures { IfOk result (λ sights. AreRoverSights boxes.now point.now sights.items) }
 {
-    let mut sights = Vec::new(alloc);
+    let mut sights = Vec::with_capacity(alloc, boxes.len())?;
     for place in 0..boxes.len() {
         sights.push(rover_sight(&boxes[place], point))?;
     }
@@ -58,8 +58,8 @@ impl KeptSights {
         }
     }
 
-    /// Turns to a point: the sights stay if they are from there, and others are made. Refused only where it is out of memory, with
-    /// the sights as they were.
+    /// Turns to a point: the sights stay if they are from there; else they go first, and others are made. Refused only where it is
+    /// out of memory, with none.
     pub fn turn_to(
         &mut self,
         alloc: Global,
@@ -74,6 +74,7 @@ impl KeptSights {
         if self.point == *point {
             return Ok(());
         }
+        *self = KeptSights::none(alloc);
         let sights = sights_of(alloc, screened.boxes.as_slice(), point)?;
         *self = KeptSights {
             point: *point,

@@ -7,12 +7,15 @@ use Rattle.obs_store.specs.declared.file.ObsFile.{ObsFile}
 use Rattle.eph_store.specs.File.{Records}
 use Rattle.epoch_pair.specs.declared.pairs.PairOf.{PairOf}
 use Rattle.obs_rows.specs.BandSets.{bands_of}
-use Rattle.obs_rows.specs.declared.limits.TheConstants.{MOST_KEPT_ARCS}
+use Rattle.obs_rows.specs.declared.limits.TheConstants.{MOST_KEPT_ARCS, MOST_PAIRS}
 use Rattle.sv_orbit.specs.Worlds.{world_of}
 use Rattle.screening.specs.Screening.{setting_of}
 use Rattle.cert_data.specs.declared.outcomes.Outcome.{Outcome}
 use Rattle.run_options.specs.declared.options.Options.{Options}
+use Rattle.slip_arcs.specs.Linked.{IsCutOf}
+use Rattle.row_build.specs.Halves.{AreBaseHalves}
 use Rattle.session.specs.declared.file_rounds.FileRounds.{FileRounds}
+use Rattle.session.specs.declared.runs.RunStart.{RunStart}
 use Rattle.epoch_pair.specs.Beginnings.{IsPosition, AreSignals, AreSparse, AreTaken, pairs_of}
 use Rattle.session.specs.Answers.{HasDelta, IsAnswer}
 use Rattle.session.specs.FileRules.{HasRowsOf, rules_of}
@@ -31,6 +34,26 @@ abbrev pub StandsAsItIs : ObsFile → ObsFile → Records → Options → List �
 StandsAsItIs base rover nav o position signals taken s =
     StandsForFiles (setting_of base nav signals o.mask (world_of o.system)) base.epochs rover.epochs taken (bands_of o.bands) o.jump o.arc o.system
     position signals s.point (map (λ a. a.shift) s.arcs) s.scale s
+
+-- what a run over the files begins with
+pub record IsRunStart (base rover : ObsFile) (nav : Records) (o : Options) (run : RunStart) : Type 0 where
+  pub position_is : IsPosition base run.begun.position
+  pub signals_are : AreSignals (bands_of o.bands) base rover run.begun.signals
+  pub sparse : AreSparse o.gap base rover
+  pub taken_are : AreTaken base rover o run.begun.taken.items
+  pub few : length run.begun.taken.items ≤ MOST_PAIRS
+  pub all_is : run.begun.all ≡ length (pairs_of base rover o)
+  pub screened : AreScreened base rover nav o run.begun.position run.begun.signals run.begun.taken.items run.rounds
+  pub cut : IsCutOf run.rounds.screened.used run.rounds.kept
+  pub halves : AreBaseHalves run.rounds.screened.boxes run.rounds.position run.rounds.halves.items
+  pub delta_is : IsTrue run.delta ↔ (HasDelta base ⊎ HasDelta rover)
+
+-- it is that of some files
+pub record MayRun (o : Options) (run : RunStart) : Type 0 where
+  pub base : ObsFile
+  pub rover : ObsFile
+  pub records : Records
+  pub is : IsRunStart base rover records o run
 
 -- The counts, and the answer of a run over the kept arcs with its rounds. Each session that a round of the run may have stands for the files
 pub record IsOutcome (base rover : ObsFile) (nav : Records) (o : Options) (out : Outcome) : Type 0 where

@@ -11,6 +11,7 @@
 //! integers with their move are strictly best for all data (`strictly_best`). `screened_arcs` gives the
 //! used satellites of the taken pairs and exactly the arcs that are kept of them (`screened`, `cut`), with which such a run
 //! begins.
+//! `process` is `start_run`, after which the files may go, and `finish_run` of what it gives.
 //! Running out of memory is the only failure without a stated cause.
 #![tactic(auto)]
 
@@ -26,4 +27,4 @@ pub use cert_data::{Answer, Cert, Outcome, RoundCounts, Stage, Tail};
 pub use epoch_pair::{Options, PairWhat, SessionFault, SessionStart, begin};
 pub use file_rounds::{FileRounds, FileRun};
 pub use outcomes::{have_delta, outcome};
-pub use runs::{process, screened};
+pub use runs::{RunStart, finish_run, process, screened, start_run};

@@ -1,12 +1,14 @@
 //! The whole run of two files.
 ghost use Rattle.std.specs.Prelude.{◌≤◌, All, AllPairs, length, IfOk, IfErr};
+ghost use Rattle.obs_store.specs.declared.file.ObsFile.{ObsFile};
 ghost use Rattle.obs_store.specs.Epochs.{tags_of};
+ghost use Rattle.eph_store.specs.File.{Records};
 ghost use Rattle.epoch_pair.specs.Pairs.{Follows, IsNearPair};
 ghost use Rattle.slip_arcs.specs.Linked.{IsCutOf};
 ghost use Rattle.row_build.specs.Halves.{AreBaseHalves};
 ghost use Rattle.epoch_pair.specs.Beginnings.{IsPosition, IsSessionFault};
 ghost use Rattle.session.specs.Answers.{AreAllowed, IsBestAnswer};
-ghost use Rattle.session.specs.Outcomes.{AreScreened, IsOutcome};
+ghost use Rattle.session.specs.Outcomes.{AreScreened, IsRunStart, MayRun, IsOutcome};
 ghost use Rattle.obs_rows.specs.declared.limits.TheConstants.{MOST_PAIRS};
 
 use crate::{FileRounds, FileRun, have_delta, outcome, screened_arcs};
@@ -17,8 +19,8 @@ use obs_store::ObsFile;
 use row_build::{KeptSights, base_halves};
 use std::alloc::{AllocError, Global};
 
-/// The used satellites of the taken pairs, and the arcs that are kept of them. `process` begins with it; that it is public serves
-/// tests alone.
+/// The used satellites of the taken pairs, and the arcs that are kept of them. `start_run` begins with it; that it is public
+/// serves tests alone.
 pub fn screened(
     alloc: Global,
     base: &ObsFile,
@@ -47,6 +49,55 @@ pub fn screened(
     })
 }
 
+/// A run that may begin: what was screened of two files, which its rounds don't need any more.
+#[derive(Debug, Drop)]
+pub struct RunStart {
+    pub begun: SessionStart,
+    pub rounds: FileRounds,
+    /// Whether either header has an antenna delta that isn't 0.
+    pub delta: bool,
+}
+
+/// What a run of the files of two receivers begins with, or why they are refused.
+pub fn start_run(
+    alloc: Global,
+    base: &ObsFile,
+    rover: &ObsFile,
+    nav: &NavFile,
+    options: &Options,
+) -> Result<RunStart, SessionFault>
+    ensures refused { IfErr result (IsSessionFault base.now rover.now options.now) }
+    ensures start { IfOk result (IsRunStart base.now rover.now nav.now options.now) }
+{
+    let begun = begin(alloc, base, rover, options)?;
+    let rounds = screened(alloc, base, rover, nav, &begun, options)?;
+    let delta = have_delta(base, rover);
+    Ok(RunStart {
+        begun,
+        rounds,
+        delta,
+    })
+}
+
+/// The outcome of the files with which the run began: the end of its rounds. The files may have gone.
+///
+/// Where it says fixed, the integers are with their move strictly best for all data in the boxes of the session.
+pub fn finish_run(alloc: Global, run: &RunStart, options: &Options) -> Result<Outcome, AllocError>
+    requires { MayRun options.now run.now }
+    ensures outcome { IfOk result (λ o. (base rover : ObsFile) (nav : Records) → IsRunStart base rover nav options.now run.now → IsOutcome base rover nav options.now o) }
+    ensures rounds { IfOk result (λ o. AreAllowed o.rounds) }
+    ensures strictly_best { IfOk result (λ o. IsBestAnswer o.answer) }
+{
+    let kept = run.rounds.kept.as_slice();
+    let mut rounds = FileRun {
+        files: &run.rounds,
+        made: 0,
+        kept: KeptSights::none(alloc),
+    };
+    let out = outcome(alloc, &mut rounds, &run.begun, kept, run.delta, options)?;
+    Ok(out)
+}
+
 /// The outcome of the files of two receivers: the end of a run of rounds over the satellites that both used, or why the
 /// files are refused.
 ///
@@ -63,15 +114,7 @@ pub fn process(
     ensures rounds { IfOk result (λ o. AreAllowed o.rounds) }
     ensures strictly_best { IfOk result (λ o. IsBestAnswer o.answer) }
 {
-    let begun = begin(alloc, base, rover, options)?;
-    let rounds = screened(alloc, base, rover, nav, &begun, options)?;
-    let kept = rounds.kept.as_slice();
-    let delta = have_delta(base, rover);
-    let mut run = FileRun {
-        files: &rounds,
-        made: 0,
-        kept: KeptSights::none(alloc),
-    };
-    let out = outcome(alloc, &mut run, &begun, kept, delta, options)?;
+    let started = start_run(alloc, base, rover, nav, options)?;
+    let out = finish_run(alloc, &started, options)?;
     Ok(out)
 }

@@ -7,11 +7,9 @@ ghost use Rattle.job_answers.specs.Works.{file_work, IsDoneOver};
 ghost use Rattle.session_files.specs.SessionJobs.{SessionAnswers, AreAnswered, EndsOnFiles, SessionEnds, IsPairLine, IfPairRefused};
 
 use crate::{SessionFiles, read_session, refused_pair};
-use eph_store::NavFile;
 use epoch_pair::SessionFault;
 use job_answers::{JobOutput, JobStop};
 use line_source::Files;
-use obs_store::ObsFile;
 use rinex_head::System;
 use run_options::Options;
 use std::alloc::Global;
@@ -20,29 +18,28 @@ use std::alloc::Global;
 pub trait SessionCommand {
     ghost answers: { SessionAnswers };
 
-    /// A verdict on the files, or why the two observation files are refused.
+    /// A verdict on the files, or why the two observation files are refused. They are handed over, so that their memory can go before
+    /// the work on what was taken from them.
     fn answer(
         &self,
         alloc: Global,
-        base: &ObsFile,
-        rover: &ObsFile,
-        nav: &NavFile,
+        files: SessionFiles,
         options: &Options,
     ) -> Result<JobOutput, SessionFault>
-        ensures answered { IfOk result (λ a. AreAnswered answers options.now base.now rover.now nav.now (ending_of a)) }
-        ensures refused { IfPairRefused result (λ what. IsSessionFault base.now rover.now options.now (fault.Refused what)) };
+        ensures answered { IfOk result (λ a. AreAnswered answers options.now files.base files.rover files.nav (ending_of a)) }
+        ensures refused { IfPairRefused result (λ what. IsSessionFault files.base files.rover options.now (fault.Refused what)) };
 }
 
 // What it ends with by the three files.
 fn answer_files<C: SessionCommand>(
     alloc: Global,
     command: &C,
-    read: &SessionFiles,
+    read: SessionFiles,
     options: &Options,
 ) -> Result<JobOutput, JobStop>
-    ensures { IfEnded result (EndsOnFiles C.answers options.now read.now.base read.now.rover read.now.nav) }
+    ensures { IfEnded result (EndsOnFiles C.answers options.now read.base read.rover read.nav) }
 {
-    match command.answer(alloc, &read.base, &read.rover, &read.nav, options) {
+    match command.answer(alloc, read, options) {
         Ok(answer) => Ok(answer),
         Err(SessionFault::Refused(what)) => Ok(refused_pair(alloc, what)?),
         Err(SessionFault::NoMemory) => Err(JobStop::NoMemory),
@@ -65,5 +62,5 @@ pub fn answer_session<C: SessionCommand, F: Files>(
 {
     let system = System::of_letter(options.system);
     let read = read_session(alloc, files, system, base, rover, nav)?;
-    answer_files(alloc, command, &read, options)
+    answer_files(alloc, command, read, options)
 }

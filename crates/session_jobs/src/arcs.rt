@@ -1,13 +1,11 @@
 ghost use Rattle.session_jobs.specs.ArcJobs.{AnswersArcs};
 
 use crate::report::write_arcs;
-use eph_store::NavFile;
 use epoch_pair::{SessionFault, begin};
 use job_answers::{JobOutput, Status};
-use obs_store::ObsFile;
 use run_options::Options;
 use session::screened_arcs;
-use session_files::SessionCommand;
+use session_files::{SessionCommand, SessionFiles};
 use std::alloc::Global;
 
 /// The kept arcs of a session of two receivers.
@@ -20,13 +18,18 @@ impl SessionCommand for KeptArcs {
     fn answer(
         &self,
         alloc: Global,
-        base: &ObsFile,
-        rover: &ObsFile,
-        nav: &NavFile,
+        files: SessionFiles,
         options: &Options,
     ) -> Result<JobOutput, SessionFault> {
-        let begun = begin(alloc, base, rover, options)?;
-        let cut = screened_arcs(alloc, base, rover, nav, &begun, options)?;
+        let begun = begin(alloc, &files.base, &files.rover, options)?;
+        let cut = screened_arcs(
+            alloc,
+            &files.base,
+            &files.rover,
+            &files.nav,
+            &begun,
+            options,
+        )?;
         let mut out = Vec::new(alloc);
         write_arcs(alloc, &mut out, &cut.arcs, options.system)?;
         Ok(JobOutput {

@@ -4,13 +4,11 @@ ghost use Rattle.session_jobs.specs.FixJobs.{AnswersFix};
 
 use crate::outcomes::{SessionOutcome, output_of};
 use cert_data::Outcome;
-use eph_store::NavFile;
 use job_answers::JobOutput;
-use obs_store::ObsFile;
 use outcome_report::{is_fixed, write_outcome};
 use run_options::Options;
-use session::{SessionFault, process};
-use session_files::SessionCommand;
+use session::{SessionFault, finish_run, start_run};
+use session_files::{SessionCommand, SessionFiles};
 use std::alloc::{AllocError, Global};
 
 impl SessionOutcome for Outcome {
@@ -41,12 +39,14 @@ impl SessionCommand for Fix {
     fn answer(
         &self,
         alloc: Global,
-        base: &ObsFile,
-        rover: &ObsFile,
-        nav: &NavFile,
+        files: SessionFiles,
         options: &Options,
     ) -> Result<JobOutput, SessionFault> {
-        let outcome = process(alloc, base, rover, nav, options)?;
+        let started = start_run(alloc, &files.base, &files.rover, &files.nav, options)?;
+        // The rounds don't need the files, so their memory goes first.
+        drop(files);
+        let outcome = finish_run(alloc, &started, options)?;
+        drop(started);
         Ok(output_of(alloc, &outcome)?)
     }
 }

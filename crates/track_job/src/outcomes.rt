@@ -10,12 +10,11 @@ ghost use Rattle.track_rows.specs.Tracks.{IsTrackOf};
 ghost use Rattle.track_job.specs.TrackOutcomes.{IsTrackable, IsTrackAnswer, IsTrackOutcome};
 
 use crate::answers::{TrackAnswer, TrackOutcome};
-use eph_store::NavFile;
 use epoch_pair::{Options, SessionFault, SessionStart, begin};
 use obs_rows::Arc;
-use obs_store::ObsFile;
 use round_steps::{are_few, are_many, free_count};
 use session::{ScreenedArcs, have_delta, screened_arcs};
+use session_files::SessionFiles;
 use std::alloc::{AllocError, Global};
 use track_data::{Items, Lost, TrackCert, Tracked};
 use track_form::decide_track;
@@ -107,23 +106,30 @@ fn answer(
 /// the files are refused.
 pub(crate) fn track_outcome(
     alloc: Global,
-    base: &ObsFile,
-    rover: &ObsFile,
-    nav: &NavFile,
+    files: SessionFiles,
     options: &Options,
 ) -> Result<TrackOutcome, SessionFault>
-    ensures refused { IfErr result (IsSessionFault base.now rover.now options.now) }
-    ensures outcome { IfOk result (IsTrackOutcome base.now rover.now nav.now options.now) }
+    ensures refused { IfErr result (IsSessionFault files.base files.rover options.now) }
+    ensures outcome { IfOk result (IsTrackOutcome files.base files.rover files.nav options.now) }
 {
-    let begun = begin(alloc, base, rover, options)?;
-    let files = screened_arcs(alloc, base, rover, nav, &begun, options)?;
+    let begun = begin(alloc, &files.base, &files.rover, options)?;
+    let cut = screened_arcs(
+        alloc,
+        &files.base,
+        &files.rover,
+        &files.nav,
+        &begun,
+        options,
+    )?;
     let taken = begun.taken.len() as u32;
-    let delta = have_delta(base, rover);
-    let answered = answer(alloc, &files, &begun, taken, options)?;
+    let delta = have_delta(&files.base, &files.rover);
+    // What was screened is enough from here on, so the files' memory goes first.
+    drop(files);
+    let answered = answer(alloc, &cut, &begun, taken, options)?;
     Ok(TrackOutcome {
         taken,
         all: begun.all,
-        kept: files.arcs.kept.len() as u32,
+        kept: cut.arcs.kept.len() as u32,
         delta,
         lost: answered.lost,
         answer: answered.answer,

@@ -2,12 +2,10 @@
 ghost use Rattle.track_job.specs.TrackJobs.{AnswersTrack};
 
 use crate::outcomes::track_outcome;
-use eph_store::NavFile;
 use epoch_pair::SessionFault;
 use job_answers::JobOutput;
-use obs_store::ObsFile;
 use run_options::Options;
-use session_files::SessionCommand;
+use session_files::{SessionCommand, SessionFiles};
 use session_jobs::output_of;
 use std::alloc::Global;
 
@@ -22,12 +20,10 @@ impl SessionCommand for MovingRover {
     fn answer(
         &self,
         alloc: Global,
-        base: &ObsFile,
-        rover: &ObsFile,
-        nav: &NavFile,
+        files: SessionFiles,
         options: &Options,
     ) -> Result<JobOutput, SessionFault> {
-        let outcome = track_outcome(alloc, base, rover, nav, options)?;
+        let outcome = track_outcome(alloc, files, options)?;
         Ok(output_of(alloc, &outcome)?)
     }
 }

@@ -1,5 +1,5 @@
 use Rattle.std.proofs.Common.{◌≡◌, ◌+ℤ◌, ◌*◌, ◌^◌, ℤ, pos, ◌-ℤ◌, ◌*ℤ◌, ◌≤ℤ◌, arith, to_z, of_z, sym, subst, ap₂, ◌∙◌}
-use Rattle.std.specs.Int.{w128}
+use Rattle.std.specs.Int.{w64, w128}
 use Rattle.std.proofs.lemmas.Int.{ints, to_z-of_z}
 use Rattle.whole_math.specs.Rounding.{IsFloor, IsCeil}
 use Rattle.whole_math.proofs.Inequalities.{le_trans_ℤ}
@@ -16,11 +16,11 @@ use Rattle.row_boxes.proofs.pseudoranges.pseudorange_of.Goals as goal
 abbrev metres : ℤ → ℤ → ℤ
 metres r t = (r *ℤ pos (2 ^ 24)) -ℤ (t *ℤ LIGHT_SPEED)
 
-lo_is : (c : goal.After-above) → to_z w128 (of_z w128 c.below.result) ≡ c.below.result
-lo_is c = to_z-of_z w128 c.below.result (record { sfits = c.below.type_inv })
+lo_is : (c : goal.After-above) → to_z w64 (of_z w64 c.below.result) ≡ c.below.result
+lo_is c = to_z-of_z w64 c.below.result (record { sfits = c.below.type_inv })
 
-hi_is : (c : goal.After-above) → to_z w128 (of_z w128 c.above.result) ≡ c.above.result
-hi_is c = to_z-of_z w128 c.above.result (record { sfits = c.above.type_inv })
+hi_is : (c : goal.After-above) → to_z w64 (of_z w64 c.above.result) ≡ c.above.result
+hi_is c = to_z-of_z w64 c.above.result (record { sfits = c.above.type_inv })
 
 -- what the two ends are rounded from
 low_metres : (c : goal.After-above) → c.less_clock.result ≡ metres c.args.range.now.lo c.args.clock.now.hi
@@ -71,5 +71,5 @@ returns c = λ r t h i.
     let held : InBox iota_exponent c.before.below.result c.before.above.result (pseudorange r t) =
     pseudorange_holds x.lo x.hi y.lo y.hi c.before.below.result c.before.above.result r t (is_floor c.before)
     (is_ceil c.before) h i in
-    subst (λ (z : ℤ). InBox iota_exponent z (to_z w128 (of_z w128 c.above.result)) (pseudorange r t)) (sym (lo_is c.before))
+    subst (λ (z : ℤ). InBox iota_exponent z (to_z w64 (of_z w64 c.above.result)) (pseudorange r t)) (sym (lo_is c.before))
     (subst (λ (z : ℤ). InBox iota_exponent c.below.result z (pseudorange r t)) (sym (hi_is c.before)) held)

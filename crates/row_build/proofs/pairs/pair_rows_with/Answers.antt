@@ -26,20 +26,20 @@ returns-clause-rows c =
     let f = c.first_entry-first.result.sv in
     let g : ℤ = c.group_of-group.result in
     let plain : to_z w64 (of_z w64 g) ≡ g = to_z-of_z w64 g (record { sfits = c.group_of-group.type_inv }) in
-    let group : p.group ≡ g = c.finish.ensures.group ∙ c.in_ok-rows.ensures.group ∙ c.new-rows.ensures.group ∙ plain in
+    let group : p.group ≡ g = c.finish.ensures.group ∙ c.in_ok-rows.ensures.group ∙ c.in_ok-empty.ensures.group ∙ plain in
     let arcs : map (λ (r : Row). r.arc) p.rows ≡ arcs_at c.args.from.now.arcs.now c.args.pair =
     ap (λ (rs : List Row). map (λ (r : Row). r.arc) rs) c.finish.ensures.rows ∙ c.in_ok-rows.ensures.arcs ∙ c.as_slice-held.ensures.value ∙ c.in_ok-held.ensures in
     let rows : All (IsRow t c.args.pair p.group) p.rows =
     subst (λ (rs : List Row). All (IsRow t c.args.pair p.group) rs) (sym c.finish.ensures.rows)
-    (subst₂ (λ (n : ℕ) (k : ℤ). All (IsRow t n k) c.in_ok-rows.rows.rows) c.new-rows.ensures.number (sym (c.finish.ensures.group ∙ c.in_ok-rows.ensures.group)) c.in_ok-rows.ensures.rows) in
+    (subst₂ (λ (n : ℕ) (k : ℤ). All (IsRow t n k) c.in_ok-rows.rows.rows) c.in_ok-empty.ensures.number (sym (c.finish.ensures.group ∙ c.in_ok-rows.ensures.group)) c.in_ok-rows.ensures.rows) in
     record {
-      number = c.finish.ensures.number ∙ c.in_ok-rows.ensures.number ∙ c.new-rows.ensures.number;
+      number = c.finish.ensures.number ∙ c.in_ok-rows.ensures.number ∙ c.in_ok-empty.ensures.number;
       tag = record {
         sat = c.first_entry-first.ensures.entry.arc.sat;
         entry = f;
         entry_is = c.first_entry-first.ensures.entry.entry_is;
         tag_is =
-            sym (c.finish.ensures.tag ∙ c.in_ok-rows.ensures.tag ∙ c.new-rows.ensures.tag);
+            sym (c.finish.ensures.tag ∙ c.in_ok-rows.ensures.tag ∙ c.in_ok-empty.ensures.tag);
       };
       arcs = arcs;
       rows = rows;
@@ -64,5 +64,5 @@ returns-in_err-rows-clause-overwidth c = λ e.
       allowed =
           c.group_of-group.ensures.allowed c.args.from.now.base.now c.args.from.now.point.now c.first_entry-first.ensures.seen c.args.scale c.requires.scale;
     } in
-    subst (λ (n : ℕ). HasFarRow t n) c.new-rows.ensures.number
-    (c.in_err-rows.ensures.far (cc (answered.1, answered.2, e)) (subst₂ (λ (n : ℕ) (k : ℤ). IsGroup t n k) (sym c.new-rows.ensures.number) (sym (c.new-rows.ensures.group ∙ plain)) allowed))
+    subst (λ (n : ℕ). HasFarRow t n) c.in_ok-empty.ensures.number
+    (c.in_err-rows.ensures.far (cc (answered.1, answered.2, e)) (subst₂ (λ (n : ℕ) (k : ℤ). IsGroup t n k) (sym c.in_ok-empty.ensures.number) (sym (c.in_ok-empty.ensures.group ∙ plain)) allowed))

@@ -5,13 +5,13 @@ use Rattle.track_job.proofs.outcomes.track_outcome.Goals as goal
 
 pub overflow_cast-result : goal.overflow_cast-result
 overflow_cast-result c =
-    let f = c.in_ok-files.files in
-    let few = kept_few f.screened.used f.arcs.kept c.in_ok-files.ensures.cut f.screened.ranges f.screened.numbered f.screened.few in
+    let f = c.in_ok-cut.cut in
+    let few = kept_few f.screened.used f.arcs.kept c.in_ok-cut.ensures.cut f.screened.ranges f.screened.numbered f.screened.few in
     omega (arith, few, c.len.ensures)
 
 pub returns-clause-outcome : goal.returns-clause-outcome
 returns-clause-outcome c =
-    let f = c.in_ok-files.files in
+    let f = c.in_ok-cut.cut in
     record {
       position = c.in_ok-begun.begun.position;
       position_is = c.in_ok-begun.ensures.position;
@@ -23,7 +23,7 @@ returns-clause-outcome c =
       screened = f.screened;
       kept = f.arcs.kept;
       short = f.arcs.short;
-      arcs_are = c.in_ok-files.ensures.screened;
+      arcs_are = c.in_ok-cut.ensures.screened;
       taken_is = c.len-taken.ensures ∙ c.in_ok-begun.begun.taken.ok.0;
       all_is = c.in_ok-begun.ensures.all;
       kept_is = c.len.ensures;
@@ -31,9 +31,9 @@ returns-clause-outcome c =
       answer_is = c.in_ok-answered.ensures;
     }
 
-pub returns-in_err-files-clause-refused : goal.returns-in_err-files-clause-refused
-returns-in_err-files-clause-refused c =
-    let p = err_from_is_err_and c.from_residual-in_err-files.result c.from_residual-in_err-files.ensures.1 in
+pub returns-in_err-cut-clause-refused : goal.returns-in_err-cut-clause-refused
+returns-in_err-cut-clause-refused c =
+    let p = err_from_is_err_and c.from_residual-in_err-cut.result c.from_residual-in_err-cut.ensures.1 in
     rw (p.1, p.2)
     ((c.in_ok-begun.begun.position, c.in_ok-begun.ensures.position), ((c.in_ok-begun.begun.signals, c.in_ok-begun.ensures.signals), c.in_ok-begun.ensures.sparse))
 

@@ -9,3 +9,6 @@ returns-then-eq-clause-there c = (signed_items c.args.self.now.point c.args.poin
 
 pub returns-clause-kept : goal.returns-clause-kept
 returns-clause-kept c = subst (λ (boxes : List SvPair). AreRoverSights boxes c.args.point.now c.in_ok-sights.sights.items) c.as_slice.ensures c.in_ok-sights.ensures
+
+pub returns-in_err-sights-clause-kept : goal.returns-in_err-sights-clause-kept
+returns-in_err-sights-clause-kept c = c.none.ensures c.args.screened.now.boxes

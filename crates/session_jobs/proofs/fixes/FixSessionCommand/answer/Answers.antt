@@ -1,17 +1,21 @@
 use Rattle.session_jobs.proofs.FixSays.{fixed_for}
 use Rattle.session_jobs.proofs.fixes.FixSessionCommand.answer.Goals as goal
 
+pub finish_run-requires : goal.finish_run-requires
+finish_run-requires c = record { base = c.args.files.base; rover = c.args.files.rover; records = c.args.files.nav; is = c.in_ok-started.ensures.start }
+
 pub returns-clause-answered : goal.returns-clause-answered
 returns-clause-answered c =
     let outcome = c.in_ok-outcome.outcome in
-    let is = c.in_ok-outcome.ensures in
+    let files = c.args.files in
+    let is = c.in_ok-outcome.ensures.outcome files.base files.rover files.nav c.in_ok-started.ensures.start in
     let written = c.in_ok-output_of.ensures in
     record {
       verdict = written.verdict;
       answer = record {
         outcome = outcome;
-        is = is.outcome;
-        fixed = fixed_for c.args.base.now c.args.rover.now c.args.nav.now c.args.options.now outcome is.outcome is.strictly_best;
+        is = is;
+        fixed = fixed_for files.base files.rover files.nav c.args.options.now outcome is c.in_ok-outcome.ensures.strictly_best;
         whole = written.whole;
         end_is = written.ended;
       };

@@ -12,8 +12,8 @@ returns-clause-answered c =
       answer = record {
         outcome = outcome;
         is = is.outcome;
-        fixed = track_fixed_for c.args.base.now c.args.rover.now c.args.nav.now c.args.options.now outcome is.outcome;
-        stands = λ cert full. track_stands_for c.args.base.now c.args.rover.now c.args.nav.now c.args.options.now outcome cert is.outcome full;
+        fixed = track_fixed_for c.args.files.base c.args.files.rover c.args.files.nav c.args.options.now outcome is.outcome;
+        stands = λ cert full. track_stands_for c.args.files.base c.args.files.rover c.args.files.nav c.args.options.now outcome cert is.outcome full;
         whole = written.whole;
         end_is = written.ended;
       };

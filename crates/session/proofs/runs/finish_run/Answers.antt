@@ -1,0 +1,81 @@
+use Rattle.std.proofs.Common.{◌≤◌, ◌^◌, ◌⊎◌, ℕ, Bool, IsTrue, List, length, All, sym, ap, ◌∙◌, subst}
+use Rattle.obs_rows.specs.declared.arcs.Arc.{Arc}
+use Rattle.obs_rows.specs.Ranges.{IsSystem}
+use Rattle.obs_rows.specs.Signals.{fine_signals}
+use Rattle.obs_rows.specs.Unused.{HasUsedShifts}
+use Rattle.obs_rows.specs.ReceiverPoints.{IsReceiverPoint}
+use Rattle.obs_rows.specs.declared.limits.TheConstants.{MOST_KEPT_ARCS}
+use Rattle.round_steps.specs.Shifts.{AreShiftsBelow}
+use Rattle.slip_arcs.specs.Linked.{IsCutOf}
+use Rattle.session.specs.declared.file_rounds.FileRounds.{FileRounds}
+use Rattle.session.specs.Answers.{HasDelta}
+use Rattle.session.specs.FileRules.{rules_of}
+use Rattle.session.proofs.StandsLaws.{rows_stand}
+use Rattle.session.proofs.RoundLaws.{answer_allowed}
+use Rattle.session.proofs.RangeLaws.{able, no_shifts, none_unused}
+use Rattle.session.proofs.FewArcs.{kept_few}
+use Rattle.session.proofs.runs.finish_run.Goals as goal
+
+pub outcome-requires-clause-ready : goal.outcome-requires-clause-ready
+outcome-requires-clause-ready c = λ on.
+    let f = c.args.run.now.rounds in
+    let s = c.requires.is in (
+      s.cut,
+      (
+        able f.screened.used f.kept (length c.args.run.now.begun.taken.items) s.cut f.screened.few f.screened.numbered (no_shifts f.kept s.screened.arcs_are.shifts) on.not_few on.not_many,
+        subst IsReceiverPoint (sym s.screened.position_is) s.position_is.in_reach,
+      ),
+      (s.halves, subst IsSystem (sym s.screened.system_is) c.args.options.now.of_system),
+      c.none.ensures f.screened.boxes,
+    )
+
+few_kept : (f : FileRounds) → IsCutOf f.screened.used f.kept → length f.kept ≤ MOST_KEPT_ARCS
+few_kept f cut = kept_few f.screened.used f.kept cut f.screened.ranges f.screened.numbered f.screened.few
+
+pub outcome-requires-clause-few_arcs : goal.outcome-requires-clause-few_arcs
+outcome-requires-clause-few_arcs c = subst (λ (l : List Arc). length l ≤ MOST_KEPT_ARCS) (sym c.as_slice-kept.ensures) (few_kept c.args.run.now.rounds c.requires.is.cut)
+
+pub outcome-requires-clause-base : goal.outcome-requires-clause-base
+outcome-requires-clause-base c = sym c.requires.is.screened.position_is
+
+pub outcome-requires-clause-point : goal.outcome-requires-clause-point
+outcome-requires-clause-point c = c.requires.is.position_is.in_reach
+
+pub outcome-requires-clause-few : goal.outcome-requires-clause-few
+outcome-requires-clause-few c = c.requires.is.few
+
+pub outcome-requires-clause-shifts : goal.outcome-requires-clause-shifts
+outcome-requires-clause-shifts c = subst (AreShiftsBelow (2 ^ 40)) (sym c.as_slice-kept.ensures) (no_shifts c.args.run.now.rounds.kept c.requires.is.screened.arcs_are.shifts)
+
+pub outcome-requires-clause-used : goal.outcome-requires-clause-used
+outcome-requires-clause-used c =
+    let f = c.args.run.now.rounds in
+    subst (All (HasUsedShifts (fine_signals f.signals))) (sym c.as_slice-kept.ensures) (none_unused (fine_signals f.signals) f.kept c.requires.is.screened.arcs_are.shifts)
+
+pub returns-clause-outcome : goal.returns-clause-outcome
+returns-clause-outcome c = λ base rover nav is.
+    let run = c.args.run.now in
+    record {
+      position = run.begun.position;
+      position_is = is.position_is;
+      signals = run.begun.signals;
+      signals_are = is.signals_are;
+      sparse = is.sparse;
+      taken = run.begun.taken.items;
+      taken_are = is.taken_are;
+      rounds = run.rounds;
+      screened = is.screened;
+      stands = rows_stand base rover nav c.args.options.now run.begun.position run.begun.signals run.begun.taken.items run.rounds is.screened;
+      taken_is = c.in_ok-out.ensures.taken;
+      all_is = c.in_ok-out.ensures.all ∙ is.all_is;
+      kept_is = c.in_ok-out.ensures.kept ∙ ap (λ (l : List Arc). length l) c.as_slice-kept.ensures;
+      kept_few = subst (λ (n : ℕ). n ≤ MOST_KEPT_ARCS) (sym (c.in_ok-out.ensures.kept ∙ ap (λ (l : List Arc). length l) c.as_slice-kept.ensures)) (few_kept run.rounds is.cut);
+      delta_is = subst (λ (b : Bool). (IsTrue b → HasDelta base ⊎ HasDelta rover) × (HasDelta base ⊎ HasDelta rover → IsTrue b)) (sym c.in_ok-out.ensures.delta) is.delta_is;
+      answer_is = c.in_ok-out.ensures.answer;
+    }
+
+pub returns-clause-rounds : goal.returns-clause-rounds
+returns-clause-rounds c =
+    let f = c.args.run.now.rounds in
+    let found = c.in_ok-out.out in
+    answer_allowed (rules_of f.screened.boxes (length f.screened.used) f.kept f.position f.signals f.system) found.taken c.args.options.now found.rounds found.answer c.in_ok-out.ensures.answer
