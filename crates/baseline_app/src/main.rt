@@ -43,9 +43,10 @@
 //! session_jobs, with what it answers in specs/. Here it has cases of `JobEnds`, `IsReadable` and `SaysOfJob` (specs/Jobs.antt), of
 //! the three lemmas over them (proofs/Completes.antt, proofs/Says.antt), of the older forms (specs/Former.antt,
 //! proofs/FormerEnds.antt), and an arm in `do_job` with its answer. What is said of statuses, sinks, files, faults and
-//! completeness (specs/Runs.antt) stays as it is. In command_words: `src/jobs.rt`, `src/program.rt`, specs/Split.antt,
-//! specs/Words.antt, and proofs/OneJob.antt, which tells each two jobs apart. Its usage line stands in job_answers
-//! (`src/stop.rt`, specs/Texts.antt), its words and texts in docs/FORMATS.md, docs/GUIDE.md and README.
+//! completeness (specs/Runs.antt) stays as it is. In command_words: a variant of `CommandName` (`src/command_name.rt`) with
+//! its name and its options, specs/Words.antt, specs/Split.antt, an arm in `src/jobs.rt`, and cases in proofs/, above all
+//! in OneJob.antt, which tells each two jobs apart. Its usage line stands in job_answers (`src/stop.rt`, specs/Texts.antt),
+//! its words and texts in docs/FORMATS.md, docs/GUIDE.md and README.
 #![tactic(auto)]
 
 #[cfg(test)]

@@ -1,9 +1,10 @@
 -- Lists of options with the same numbers ask for the same job.
-use Rattle.std.proofs.Common.{◌≡◌, ◌≢◌, ℕ, ◌+◌, ◌<◌, ◌≤◌, codes, Bool, true, false, List, [], ◌∷◌, ◌++◌, map, append_assoc, append-nil, refl, sym, ap, ap₂, ◌∙◌, subst, arith}
+use Rattle.std.proofs.Common.{◌≡◌, ◌≢◌, ℕ, ◌+◌, ◌<◌, ◌≤◌, Bool, true, false, List, [], ◌∷◌, ◌++◌, map, append_assoc, append-nil, refl, sym, ap, ap₂, ◌∙◌, subst, arith}
 use Rattle.std.proofs.lemmas.Bool.Decides.{nat_tests}
 use Rattle.clap.specs.Walk.{Row, Text}
 use Rattle.command_words.specs.Commands.{values_in}
 use Rattle.command_words.specs.Split.{AreNumbers, AreAll, TakesNumbers, given_with}
+use Rattle.command_words.specs.declared.command_name.CommandName.TheVariants as command_name
 use Rattle.command_words.specs.declared.settings.Setting.{Setting}
 use Rattle.command_words.specs.declared.settings.Setting.TheVariants.{Ratio, Budget, Mask, Gap, Jump, Arc, Step, First, Count, Bands, System}
 use Rattle.command_words.specs.declared.settings.Given.{Given}
@@ -14,7 +15,7 @@ use Rattle.obs_rows.specs.declared.limits.TheConstants.{MOST_PAIRS, MOST_RATIO, 
 use Rattle.run_options.specs.declared.defaults.TheConstants.{DEFAULT_SYSTEM, DEFAULT_RATIO, DEFAULT_BUDGET, DEFAULT_MASK, DEFAULT_GAP, DEFAULT_JUMP, DEFAULT_ARC, DEFAULT_STEP, DEFAULT_FIRST, DEFAULT_COUNT}
 use Rattle.run_options.specs.Defaults.{default_bands}
 use Rattle.command_words.specs.Settings.{name_of, place_of, is_same, numbers_for, AreBandsOf, IsChosenBy, IsSetBy, IsSignalChoice, IsValue, AreOptions}
-use Rattle.command_words.specs.Words.{IsPlainJob, IsJobOf}
+use Rattle.command_words.specs.Words.{name_of_command, IsPlainJob, IsJobOf}
 use Rattle.run_options.specs.declared.options.Options.{Options}
 use Rattle.command_words.proofs.SettingLaws.{one_value}
 use Rattle.command_words.proofs.SplitLaws.{is_itself, same_setting}
@@ -65,15 +66,15 @@ module _ (g h : List Given) (same : (s : Setting) → numbers_for s g ≡ number
   }
 
   pub same_job : (command : List ℕ) (plain : List (List ℕ)) (j : Job) → IsJobOf command plain g j → IsJobOf command plain h j
-  same_job command plain (job.Zero rows) is = same_plain (codes "zero") (rows ∷ []) command plain is
-  same_job command plain (job.List obs) is = same_plain (codes "list") (obs ∷ []) command plain is
-  same_job command plain (job.Check cert) is = same_plain (codes "check") (cert ∷ []) command plain is
-  same_job command plain (job.Residuals cert) is = same_plain (codes "residuals") (cert ∷ []) command plain is
-  same_job command plain (job.Migrate cert) is = same_plain (codes "migrate") (cert ∷ []) command plain is
+  same_job command plain (job.Zero rows) is = same_plain (name_of_command command_name.Zero) (rows ∷ []) command plain is
+  same_job command plain (job.List obs) is = same_plain (name_of_command command_name.List) (obs ∷ []) command plain is
+  same_job command plain (job.Check cert) is = same_plain (name_of_command command_name.Check) (cert ∷ []) command plain is
+  same_job command plain (job.Residuals cert) is = same_plain (name_of_command command_name.Residuals) (cert ∷ []) command plain is
+  same_job command plain (job.Migrate cert) is = same_plain (name_of_command command_name.Migrate) (cert ∷ []) command plain is
   same_job command plain (job.Orbit nav system sat tick) is = record {
     sat_word = is.sat_word;
     tick_word = is.tick_word;
-    asked = same_plain (codes "orbit") (nav ∷ is.sat_word ∷ is.tick_word ∷ []) command plain is.asked;
+    asked = same_plain (name_of_command command_name.Orbit) (nav ∷ is.sat_word ∷ is.tick_word ∷ []) command plain is.asked;
     satellite = is.satellite;
     number = is.number;
   }
@@ -89,7 +90,7 @@ module _ (g h : List Given) (same : (s : Setting) → numbers_for s g ≡ number
   }
   same_job command plain (job.Fix base rover nav options) is = record { command_is = is.command_is; plain_are = is.plain_are; options = same_options options is.options }
   same_job command plain (job.Track base rover nav options) is = record { command_is = is.command_is; plain_are = is.plain_are; options = same_options options is.options }
-  same_job command plain (job.CheckTrack cert) is = same_plain (codes "check-track") (cert ∷ []) command plain is
+  same_job command plain (job.CheckTrack cert) is = same_plain (name_of_command command_name.CheckTrack) (cert ∷ []) command plain is
   same_job command plain (job.Arcs base rover nav options) is = record {
     command_is = is.command_is;
     plain_are = is.plain_are;

@@ -1,17 +1,18 @@
 -- What clap's account of the program says of jobs.
-use Rattle.std.proofs.Common.{◌≡◌, ℕ, ◌==◌, Bool, true, false, IsTrue, List, [], ◌∷◌, ◌++◌, map, append_assoc, Some, None, codes, refl, sym, ap, ◌∙◌, subst, true≢false}
+use Rattle.std.proofs.Common.{◌≡◌, ℕ, ◌==◌, Bool, true, false, IsTrue, List, [], ◌∷◌, ◌++◌, map, append_assoc, Some, None, refl, sym, ap, ◌∙◌, subst, true≢false}
 use Rattle.std.specs.Str.{bytes_eq}
 use Rattle.std.proofs.lemmas.Slice.Eq.{bytes_eq-Decides}
 use Rattle.clap.specs.Walk.{Row, Text}
 use Rattle.clap.specs.Simple.{subcommand_of}
 use Rattle.clap.specs.Faults.{fault_of}
 use Rattle.command_words.specs.Commands.{word_id, is_among, IsCommand, values_in, Ends, has_short, built_shape, command_named, app_with, start}
-use Rattle.command_words.specs.Split.{signal_options, pair_options, all_options, commands, IsSplit, AreAll}
+use Rattle.command_words.specs.Split.{signal_settings, pair_settings, all_settings, commands, IsSplit, AreAll}
 use Rattle.command_words.proofs.Steps.{nothing_pending}
 use Rattle.command_words.proofs.Leaf.{is_command}
 use Rattle.command_words.proofs.Top.{named, runs, program_fails_as, program_gives, leaf_passes, leaf_rows, leaf_ends}
 use Rattle.command_words.proofs.SplitLaws.{Adds, AreKnown, passes, Knows, Found, found, neither, named_word, joined_word, value_word}
 use Rattle.command_words.proofs.OtherLaws.{first_of_sim, none_behind}
+use Rattle.command_words.specs.declared.command_name.CommandName.TheVariants as command_name
 use Rattle.command_words.specs.declared.settings.Setting.{Setting}
 use Rattle.command_words.specs.declared.settings.Setting.TheVariants.{Ratio, Budget, Mask, Gap, Jump, Arc, Step, First, Count, Bands, System}
 use Rattle.command_words.specs.declared.settings.Given.{Given}
@@ -19,15 +20,9 @@ use Rattle.command_words.specs.declared.jobs.Job.{Job}
 use Rattle.command_words.specs.declared.jobs.Job.TheVariants as job
 use Rattle.command_words.specs.Settings.{name_of, is_of_sim, numbers_for, HasNoOthers}
 use Rattle.command_words.specs.Parts.{Piece, Plain, Apart, Joined, is_ordinary, IsPiece, words_of_piece, ArePieces, words_of, plain_of, IsBehind, AreParted}
-use Rattle.command_words.specs.Words.{IsPlainJob, IsJobOf, IsJob}
+use Rattle.command_words.specs.Words.{name_of_command, IsPlainJob, IsJobOf, IsJob}
 
 -- ---- the options of the commands
-
-abbrev settings_of_signals : List Setting
-settings_of_signals = Bands ∷ System ∷ []
-
-abbrev settings_of_pairs : List Setting
-settings_of_pairs = Mask ∷ Gap ∷ Jump ∷ Arc ∷ Step ∷ First ∷ Count ∷ settings_of_signals
 
 setting_among : (settings : List Setting) (name : Text) → is_among name (map name_of settings) ≡ true → (s : Setting) × (name ≡ name_of s)
 setting_among [] name among = absurd (true≢false (sym among))
@@ -42,14 +37,14 @@ pub record AreSettings (options : List Text) : Type 0 where
   pub setting : (name : Text) → is_among name options ≡ true → (s : Setting) × (name ≡ name_of s)
   pub no_word : is_among word_id options ≡ false
 
-of_all : AreSettings all_options
-of_all = record { setting = λ name among. setting_among (Ratio ∷ Budget ∷ settings_of_pairs) name among; no_word = refl }
+of_all : AreSettings (map name_of all_settings)
+of_all = record { setting = λ name among. setting_among all_settings name among; no_word = refl }
 
-of_pairs : AreSettings pair_options
-of_pairs = record { setting = λ name among. setting_among settings_of_pairs name among; no_word = refl }
+of_pairs : AreSettings (map name_of pair_settings)
+of_pairs = record { setting = λ name among. setting_among pair_settings name among; no_word = refl }
 
-of_signals : AreSettings signal_options
-of_signals = record { setting = λ name among. setting_among settings_of_signals name among; no_word = refl }
+of_signals : AreSettings (map name_of signal_settings)
+of_signals = record { setting = λ name among. setting_among signal_settings name among; no_word = refl }
 
 of_none : AreSettings []
 of_none = record { setting = λ name among. absurd (true≢false (sym among)); no_word = refl }
@@ -163,7 +158,7 @@ plain_in_table : (name : Text) (words : List Text) (command : Text) (plain : Lis
 plain_in_table name words command plain given found long asked = subst (λ (c : Text). InTable c given) (sym asked.command_is)
     (subst (λ (g : List Given). InTable name g) (sym asked.none_given) (record { options = []; found = found; known = tt; long = long }))
 
-among_all : (s : Setting) → is_among (name_of s) all_options ≡ true
+among_all : (s : Setting) → is_among (name_of s) (map name_of all_settings) ≡ true
 among_all Ratio = refl
 among_all Budget = refl
 among_all Mask = refl
@@ -176,13 +171,13 @@ among_all Count = refl
 among_all Bands = refl
 among_all System = refl
 
-any_known : (given : List Given) → AreKnown all_options given
+any_known : (given : List Given) → AreKnown (map name_of all_settings) given
 any_known [] = tt
 any_known (g ∷ given) = (among_all g.setting, any_known given)
 
 -- neither a ratio nor a budget
 pub record IsPairs (s : Setting) (given : List Given) : Type 0 where
-  pub among : is_among (name_of s) pair_options ≡ true
+  pub among : is_among (name_of s) (map name_of pair_settings) ≡ true
   pub no_ratio : numbers_for Ratio given ≡ []
   pub no_budget : numbers_for Budget given ≡ []
 
@@ -200,13 +195,13 @@ one_known Count n given h also = record { among = refl; no_ratio = h; no_budget 
 one_known Bands n given h also = record { among = refl; no_ratio = h; no_budget = also }
 one_known System n given h also = record { among = refl; no_ratio = h; no_budget = also }
 
-pairs_known : (given : List Given) → numbers_for Ratio given ≡ [] → numbers_for Budget given ≡ [] → AreKnown pair_options given
+pairs_known : (given : List Given) → numbers_for Ratio given ≡ [] → numbers_for Budget given ≡ [] → AreKnown (map name_of pair_settings) given
 pairs_known [] h also = tt
 pairs_known (g ∷ given) h also =
     let one = one_known g.setting g.number given h also in
     (one.among, pairs_known given one.no_ratio one.no_budget)
 
-among_signals : (s : Setting) → is_of_sim s ≡ true → is_among (name_of s) signal_options ≡ true
+among_signals : (s : Setting) → is_of_sim s ≡ true → is_among (name_of s) (map name_of signal_settings) ≡ true
 among_signals Bands own = refl
 among_signals System own = refl
 among_signals Ratio own = absurd (true≢false (sym own))
@@ -219,28 +214,28 @@ among_signals Step own = absurd (true≢false (sym own))
 among_signals First own = absurd (true≢false (sym own))
 among_signals Count own = absurd (true≢false (sym own))
 
-signals_known : (given : List Given) → HasNoOthers given → AreKnown signal_options given
+signals_known : (given : List Given) → HasNoOthers given → AreKnown (map name_of signal_settings) given
 signals_known [] none = tt
 signals_known (g ∷ given) none =
     let own = first_of_sim g given none in
     (among_signals g.setting own, signals_known given (none_behind g given own none))
 
 in_table : (command : Text) (plain : List Text) (given : List Given) (j : Job) → IsJobOf command plain given j → InTable command given
-in_table command plain given (job.Zero rows) asked = plain_in_table (codes "zero") (rows ∷ []) command plain given refl (λ ws. refl) asked
-in_table command plain given (job.List obs) asked = plain_in_table (codes "list") (obs ∷ []) command plain given refl (λ ws. refl) asked
-in_table command plain given (job.Check cert) asked = plain_in_table (codes "check") (cert ∷ []) command plain given refl (λ ws. refl) asked
-in_table command plain given (job.Residuals cert) asked = plain_in_table (codes "residuals") (cert ∷ []) command plain given refl (λ ws. refl) asked
-in_table command plain given (job.Migrate cert) asked = plain_in_table (codes "migrate") (cert ∷ []) command plain given refl (λ ws. refl) asked
-in_table command plain given (job.Orbit nav system sat tick) asked = plain_in_table (codes "orbit") (nav ∷ asked.sat_word ∷ asked.tick_word ∷ []) command plain given refl (λ ws. refl) asked.asked
+in_table command plain given (job.Zero rows) asked = plain_in_table (name_of_command command_name.Zero) (rows ∷ []) command plain given refl (λ ws. refl) asked
+in_table command plain given (job.List obs) asked = plain_in_table (name_of_command command_name.List) (obs ∷ []) command plain given refl (λ ws. refl) asked
+in_table command plain given (job.Check cert) asked = plain_in_table (name_of_command command_name.Check) (cert ∷ []) command plain given refl (λ ws. refl) asked
+in_table command plain given (job.Residuals cert) asked = plain_in_table (name_of_command command_name.Residuals) (cert ∷ []) command plain given refl (λ ws. refl) asked
+in_table command plain given (job.Migrate cert) asked = plain_in_table (name_of_command command_name.Migrate) (cert ∷ []) command plain given refl (λ ws. refl) asked
+in_table command plain given (job.Orbit nav system sat tick) asked = plain_in_table (name_of_command command_name.Orbit) (nav ∷ asked.sat_word ∷ asked.tick_word ∷ []) command plain given refl (λ ws. refl) asked.asked
 in_table command plain given (job.Sim part seed epochs sats bands system) asked = subst (λ (c : Text). InTable c given) (sym asked.command_is)
-    (record { options = signal_options; found = refl; known = signals_known given asked.choice.no_others; long = λ ws. refl })
+    (record { options = map name_of signal_settings; found = refl; known = signals_known given asked.choice.no_others; long = λ ws. refl })
 in_table command plain given (job.Fix base rover nav options) asked = subst (λ (c : Text). InTable c given) (sym asked.command_is)
-    (record { options = all_options; found = refl; known = any_known given; long = λ ws. refl })
+    (record { options = map name_of all_settings; found = refl; known = any_known given; long = λ ws. refl })
 in_table command plain given (job.Track base rover nav options) asked = subst (λ (c : Text). InTable c given) (sym asked.command_is)
-    (record { options = all_options; found = refl; known = any_known given; long = λ ws. refl })
-in_table command plain given (job.CheckTrack cert) asked = plain_in_table (codes "check-track") (cert ∷ []) command plain given refl (λ ws. refl) asked
+    (record { options = map name_of all_settings; found = refl; known = any_known given; long = λ ws. refl })
+in_table command plain given (job.CheckTrack cert) asked = plain_in_table (name_of_command command_name.CheckTrack) (cert ∷ []) command plain given refl (λ ws. refl) asked
 in_table command plain given (job.Arcs base rover nav options) asked = subst (λ (c : Text). InTable c given) (sym asked.command_is)
-    (record { options = pair_options; found = refl; known = pairs_known given asked.options.no_ratio asked.options.no_budget; long = λ ws. refl })
+    (record { options = map name_of pair_settings; found = refl; known = pairs_known given asked.options.no_ratio asked.options.no_budget; long = λ ws. refl })
 
 clap_job : (command : Text) (behind plain : List Text) (given : List Given) → InTable command given → AreParted behind plain given → IsClapJob (command ∷ behind) command behind plain given
 clap_job command behind plain given table parted =

@@ -1,6 +1,7 @@
 pub mod NumberLaws
 pub mod SettingLaws
 pub mod PartLaws
+pub mod CommandLaws
 pub mod OneJob
 pub mod Steps
 pub mod Leaf

@@ -1,5 +1,5 @@
 -- Words ask for one job at most.
-use Rattle.std.proofs.Common.{◌≡◌, ℕ, ◌+◌, ◌*◌, ◌≤◌, ◌==◌, ◌||◌, Bool, true, false, IsTrue, if◌then◌else◌, Option, None, Some, List, [], ◌∷◌, codes, get_or, length, drop, refl, sym, ap, ◌∙◌, subst, arith}
+use Rattle.std.proofs.Common.{◌≡◌, ℕ, ◌≤◌, ◌==◌, Bool, true, false, if◌then◌else◌, Option, None, Some, List, [], ◌∷◌, get_or, drop, refl, sym, ap, ◌∙◌, subst}
 use Rattle.gps_time.specs.declared.Tick.{Tick}
 use Rattle.command_words.specs.declared.settings.Given.{Given}
 use Rattle.std.proofs.lemmas.Option.{same_Some}
@@ -7,11 +7,12 @@ use Rattle.command_words.specs.declared.sims.File.TheVariants.{Base, Rover, Nav}
 use Rattle.command_words.specs.declared.sims.Part.{Part}
 use Rattle.command_words.specs.declared.sims.Part.TheVariants as part
 use Rattle.command_words.specs.declared.sims.Sim.{Sim}
+use Rattle.command_words.specs.declared.command_name.CommandName.TheVariants as command_name
 use Rattle.command_words.specs.declared.jobs.Job.{Job}
 use Rattle.command_words.specs.declared.jobs.Job.TheVariants as job
 use Rattle.command_words.specs.Numbers.{IsNumber, IsSatellite}
 use Rattle.command_words.specs.Parts.{AreParted}
-use Rattle.command_words.specs.Words.{name_of_part, sim_with, IsPlainJob, IsOrbitJob, IsSim, IsSimJob, IsRunJob, IsArcsJob, IsJobOf, IsJob, IsInRange}
+use Rattle.command_words.specs.Words.{name_of_command, name_of_part, sim_with, IsPlainJob, IsOrbitJob, IsSim, IsSimJob, IsRunJob, IsArcsJob, IsJobOf, IsJob, IsInRange}
 use Rattle.run_options.specs.declared.options.Options.{Options}
 use Rattle.run_options.specs.Defaults.{numbers_of}
 use Rattle.run_options.proofs.OneOptions.{one_options}
@@ -24,6 +25,7 @@ use Rattle.run_options.specs.Defaults.{default_bands}
 use Rattle.command_words.specs.Settings.{numbers_for, AreBandsOf, IsChosenBy, IsSet, IsSignalChoice, AreOptions}
 use Rattle.command_words.proofs.SettingLaws.{one_number, one_system, one_satellite, one_choice, choice_admitted}
 use Rattle.command_words.proofs.PartLaws.{one_parting}
+use Rattle.command_words.proofs.CommandLaws.{one_command, it_is}
 
 one_plain : (name : List ℕ) (ws vs : List (List ℕ)) (c : List ℕ) (p : List (List ℕ)) (g : List Given) → IsPlainJob name ws c p g → IsPlainJob name vs c p g → ws ≡ vs
 one_plain name ws vs c p g first second = sym first.plain_are ∙ second.plain_are
@@ -35,7 +37,7 @@ one_orbit : (nav nav' : List ℕ) (system system' sat sat' : ℕ) (tick tick' : 
     → IsOrbitJob nav system sat tick.0 c p g → IsOrbitJob nav' system' sat' tick'.0 c p g
     → job.Orbit nav system sat tick ≡ job.Orbit nav' system' sat' tick'
 one_orbit nav nav' system system' sat sat' tick tick' c p g first second =
-    let words = one_plain (codes "orbit") _ _ c p g first.asked second.asked in
+    let words = one_plain (name_of_command command_name.Orbit) _ _ c p g first.asked second.asked in
     let same_nav : nav ≡ nav' = ap (λ (ws : List (List ℕ)). get_or ws 0 []) words in
     let same_sat_word : first.sat_word ≡ second.sat_word = ap (λ (ws : List (List ℕ)). get_or ws 1 []) words in
     let same_tick_word : first.tick_word ≡ second.tick_word = ap (λ (ws : List (List ℕ)). get_or ws 2 []) words in
@@ -136,197 +138,164 @@ one_fix base rover nav base' rover' nav' o p run = cc (run.same_base, run.same_r
 one_track : (base rover nav base' rover' nav' : List ℕ) (o p : Options) → IsSameRun base rover nav base' rover' nav' o p → job.Track base rover nav o ≡ job.Track base' rover' nav' p
 one_track base rover nav base' rover' nav' o p run = cc (run.same_base, run.same_rover, run.same_nav, run.same)
 
--- the first letter of a command and its length, which tell it from the others
-abbrev mark : List ℕ → ℕ
-mark c = 256 * length c + get_or c 0 0
-
-abbrev mark_of : Job → ℕ
-mark_of (job.Zero rows) = 1146
-mark_of (job.List obs) = 1132
-mark_of (job.Orbit nav system sat tick) = 1391
-mark_of (job.Check cert) = 1379
-mark_of (job.Residuals cert) = 2418
-mark_of (job.Migrate cert) = 1901
-mark_of (job.Fix base rover nav options) = 870
-mark_of (job.Arcs base rover nav options) = 1121
-mark_of (job.Sim part seed epochs sats bands system) = 883
-mark_of (job.Track base rover nav options) = 1396
-mark_of (job.CheckTrack cert) = 2915
-
-has_mark : (c : List ℕ) (p : List (List ℕ)) (g : List Given) (j : Job) → IsJobOf c p g j → mark c ≡ mark_of j
-has_mark c p g (job.Zero rows) asked = ap mark asked.command_is
-has_mark c p g (job.List obs) asked = ap mark asked.command_is
-has_mark c p g (job.Orbit nav system sat tick) asked = ap mark asked.asked.command_is
-has_mark c p g (job.Check cert) asked = ap mark asked.command_is
-has_mark c p g (job.Residuals cert) asked = ap mark asked.command_is
-has_mark c p g (job.Migrate cert) asked = ap mark asked.command_is
-has_mark c p g (job.Fix base rover nav options) asked = ap mark asked.command_is
-has_mark c p g (job.Arcs base rover nav options) asked = ap mark asked.command_is
-has_mark c p g (job.Sim part seed epochs sats bands system) asked = ap mark asked.command_is
-has_mark c p g (job.Track base rover nav options) asked = ap mark asked.command_is
-has_mark c p g (job.CheckTrack cert) asked = ap mark asked.command_is
-
-one_mark : (c : List ℕ) (p : List (List ℕ)) (g : List Given) (a b : Job) → IsJobOf c p g a → IsJobOf c p g b → mark_of a ≡ mark_of b
-one_mark c p g a b first second = sym (has_mark c p g a first) ∙ has_mark c p g b second
-
 one_of : (c : List ℕ) (p : List (List ℕ)) (g : List Given) (a b : Job) → IsJobOf c p g a → IsJobOf c p g b → a ≡ b
-one_of c p g (job.Zero rows) (job.Zero rows') first second = ap (λ (r : List ℕ). job.Zero r) (one_file (codes "zero") rows rows' c p g first second)
-one_of c p g (job.List obs) (job.List obs') first second = ap (λ (r : List ℕ). job.List r) (one_file (codes "list") obs obs' c p g first second)
+one_of c p g (job.Zero rows) (job.Zero rows') first second = ap (λ (r : List ℕ). job.Zero r) (one_file (name_of_command command_name.Zero) rows rows' c p g first second)
+one_of c p g (job.List obs) (job.List obs') first second = ap (λ (r : List ℕ). job.List r) (one_file (name_of_command command_name.List) obs obs' c p g first second)
 one_of c p g (job.Orbit nav system sat tick) (job.Orbit nav' system' sat' tick') first second = one_orbit nav nav' system system' sat sat' tick tick' c p g first second
-one_of c p g (job.Check cert) (job.Check cert') first second = ap (λ (r : List ℕ). job.Check r) (one_file (codes "check") cert cert' c p g first second)
-one_of c p g (job.Residuals cert) (job.Residuals cert') first second = ap (λ (r : List ℕ). job.Residuals r) (one_file (codes "residuals") cert cert' c p g first second)
-one_of c p g (job.Migrate cert) (job.Migrate cert') first second = ap (λ (r : List ℕ). job.Migrate r) (one_file (codes "migrate") cert cert' c p g first second)
+one_of c p g (job.Check cert) (job.Check cert') first second = ap (λ (r : List ℕ). job.Check r) (one_file (name_of_command command_name.Check) cert cert' c p g first second)
+one_of c p g (job.Residuals cert) (job.Residuals cert') first second = ap (λ (r : List ℕ). job.Residuals r) (one_file (name_of_command command_name.Residuals) cert cert' c p g first second)
+one_of c p g (job.Migrate cert) (job.Migrate cert') first second = ap (λ (r : List ℕ). job.Migrate r) (one_file (name_of_command command_name.Migrate) cert cert' c p g first second)
 one_of c p g (job.Fix base rover nav options) (job.Fix base' rover' nav' options') first second =
-    one_fix base rover nav base' rover' nav' options options' (one_run (codes "fix") base rover nav base' rover' nav' options options' c p g first second)
+    one_fix base rover nav base' rover' nav' options options' (one_run (name_of_command command_name.Fix) base rover nav base' rover' nav' options options' c p g first second)
 one_of c p g (job.Arcs base rover nav options) (job.Arcs base' rover' nav' options') first second = one_arcs base rover nav base' rover' nav' options options' c p g first second
 one_of c p g (job.Sim part seed epochs sats bands system) (job.Sim part' seed' epochs' sats' bands' system') first second =
     one_sim (sim_with part seed epochs sats bands system) (sim_with part' seed' epochs' sats' bands' system') c p g first second
 one_of c p g (job.Track base rover nav options) (job.Track base' rover' nav' options') first second =
-    one_track base rover nav base' rover' nav' options options' (one_run (codes "track") base rover nav base' rover' nav' options options' c p g first second)
-one_of c p g (job.CheckTrack cert) (job.CheckTrack cert') first second = ap (λ (r : List ℕ). job.CheckTrack r) (one_file (codes "check-track") cert cert' c p g first second)
-one_of c p g (job.Zero rows) (job.List obs') first second = absurd (omega (arith, one_mark c p g (job.Zero rows) (job.List obs') first second))
-one_of c p g (job.Zero rows) (job.Orbit nav' system' sat' tick') first second = absurd (omega (arith, one_mark c p g (job.Zero rows) (job.Orbit nav' system' sat' tick') first second))
-one_of c p g (job.Zero rows) (job.Check cert') first second = absurd (omega (arith, one_mark c p g (job.Zero rows) (job.Check cert') first second))
-one_of c p g (job.Zero rows) (job.Residuals cert') first second = absurd (omega (arith, one_mark c p g (job.Zero rows) (job.Residuals cert') first second))
-one_of c p g (job.Zero rows) (job.Migrate cert') first second = absurd (omega (arith, one_mark c p g (job.Zero rows) (job.Migrate cert') first second))
-one_of c p g (job.Zero rows) (job.Fix base' rover' nav' options') first second = absurd (omega (arith, one_mark c p g (job.Zero rows) (job.Fix base' rover' nav' options') first second))
-one_of c p g (job.Zero rows) (job.Arcs base' rover' nav' options') first second = absurd (omega (arith, one_mark c p g (job.Zero rows) (job.Arcs base' rover' nav' options') first second))
+    one_track base rover nav base' rover' nav' options options' (one_run (name_of_command command_name.Track) base rover nav base' rover' nav' options options' c p g first second)
+one_of c p g (job.CheckTrack cert) (job.CheckTrack cert') first second = ap (λ (r : List ℕ). job.CheckTrack r) (one_file (name_of_command command_name.CheckTrack) cert cert' c p g first second)
+one_of c p g (job.Zero rows) (job.List obs') first second = absurd (cc (one_command c p g (job.Zero rows) (job.List obs') first second))
+one_of c p g (job.Zero rows) (job.Orbit nav' system' sat' tick') first second = absurd (cc (one_command c p g (job.Zero rows) (job.Orbit nav' system' sat' tick') first second))
+one_of c p g (job.Zero rows) (job.Check cert') first second = absurd (cc (one_command c p g (job.Zero rows) (job.Check cert') first second))
+one_of c p g (job.Zero rows) (job.Residuals cert') first second = absurd (cc (one_command c p g (job.Zero rows) (job.Residuals cert') first second))
+one_of c p g (job.Zero rows) (job.Migrate cert') first second = absurd (cc (one_command c p g (job.Zero rows) (job.Migrate cert') first second))
+one_of c p g (job.Zero rows) (job.Fix base' rover' nav' options') first second = absurd (cc (one_command c p g (job.Zero rows) (job.Fix base' rover' nav' options') first second))
+one_of c p g (job.Zero rows) (job.Arcs base' rover' nav' options') first second = absurd (cc (one_command c p g (job.Zero rows) (job.Arcs base' rover' nav' options') first second))
 one_of c p g (job.Zero rows) (job.Sim part' seed' epochs' sats' bands' system') first second =
-    absurd (omega (arith, one_mark c p g (job.Zero rows) (job.Sim part' seed' epochs' sats' bands' system') first second))
-one_of c p g (job.Zero rows) (job.Track base' rover' nav' options') first second = absurd (omega (arith, one_mark c p g (job.Zero rows) (job.Track base' rover' nav' options') first second))
-one_of c p g (job.Zero rows) (job.CheckTrack cert') first second = absurd (omega (arith, one_mark c p g (job.Zero rows) (job.CheckTrack cert') first second))
-one_of c p g (job.List obs) (job.Zero rows') first second = absurd (omega (arith, one_mark c p g (job.List obs) (job.Zero rows') first second))
-one_of c p g (job.List obs) (job.Orbit nav' system' sat' tick') first second = absurd (omega (arith, one_mark c p g (job.List obs) (job.Orbit nav' system' sat' tick') first second))
-one_of c p g (job.List obs) (job.Check cert') first second = absurd (omega (arith, one_mark c p g (job.List obs) (job.Check cert') first second))
-one_of c p g (job.List obs) (job.Residuals cert') first second = absurd (omega (arith, one_mark c p g (job.List obs) (job.Residuals cert') first second))
-one_of c p g (job.List obs) (job.Migrate cert') first second = absurd (omega (arith, one_mark c p g (job.List obs) (job.Migrate cert') first second))
-one_of c p g (job.List obs) (job.Fix base' rover' nav' options') first second = absurd (omega (arith, one_mark c p g (job.List obs) (job.Fix base' rover' nav' options') first second))
-one_of c p g (job.List obs) (job.Arcs base' rover' nav' options') first second = absurd (omega (arith, one_mark c p g (job.List obs) (job.Arcs base' rover' nav' options') first second))
+    absurd (cc (one_command c p g (job.Zero rows) (job.Sim part' seed' epochs' sats' bands' system') first second))
+one_of c p g (job.Zero rows) (job.Track base' rover' nav' options') first second = absurd (cc (one_command c p g (job.Zero rows) (job.Track base' rover' nav' options') first second))
+one_of c p g (job.Zero rows) (job.CheckTrack cert') first second = absurd (cc (one_command c p g (job.Zero rows) (job.CheckTrack cert') first second))
+one_of c p g (job.List obs) (job.Zero rows') first second = absurd (cc (one_command c p g (job.List obs) (job.Zero rows') first second))
+one_of c p g (job.List obs) (job.Orbit nav' system' sat' tick') first second = absurd (cc (one_command c p g (job.List obs) (job.Orbit nav' system' sat' tick') first second))
+one_of c p g (job.List obs) (job.Check cert') first second = absurd (cc (one_command c p g (job.List obs) (job.Check cert') first second))
+one_of c p g (job.List obs) (job.Residuals cert') first second = absurd (cc (one_command c p g (job.List obs) (job.Residuals cert') first second))
+one_of c p g (job.List obs) (job.Migrate cert') first second = absurd (cc (one_command c p g (job.List obs) (job.Migrate cert') first second))
+one_of c p g (job.List obs) (job.Fix base' rover' nav' options') first second = absurd (cc (one_command c p g (job.List obs) (job.Fix base' rover' nav' options') first second))
+one_of c p g (job.List obs) (job.Arcs base' rover' nav' options') first second = absurd (cc (one_command c p g (job.List obs) (job.Arcs base' rover' nav' options') first second))
 one_of c p g (job.List obs) (job.Sim part' seed' epochs' sats' bands' system') first second =
-    absurd (omega (arith, one_mark c p g (job.List obs) (job.Sim part' seed' epochs' sats' bands' system') first second))
-one_of c p g (job.List obs) (job.Track base' rover' nav' options') first second = absurd (omega (arith, one_mark c p g (job.List obs) (job.Track base' rover' nav' options') first second))
-one_of c p g (job.List obs) (job.CheckTrack cert') first second = absurd (omega (arith, one_mark c p g (job.List obs) (job.CheckTrack cert') first second))
-one_of c p g (job.Orbit nav system sat tick) (job.Zero rows') first second = absurd (omega (arith, one_mark c p g (job.Orbit nav system sat tick) (job.Zero rows') first second))
-one_of c p g (job.Orbit nav system sat tick) (job.List obs') first second = absurd (omega (arith, one_mark c p g (job.Orbit nav system sat tick) (job.List obs') first second))
-one_of c p g (job.Orbit nav system sat tick) (job.Check cert') first second = absurd (omega (arith, one_mark c p g (job.Orbit nav system sat tick) (job.Check cert') first second))
-one_of c p g (job.Orbit nav system sat tick) (job.Residuals cert') first second = absurd (omega (arith, one_mark c p g (job.Orbit nav system sat tick) (job.Residuals cert') first second))
-one_of c p g (job.Orbit nav system sat tick) (job.Migrate cert') first second = absurd (omega (arith, one_mark c p g (job.Orbit nav system sat tick) (job.Migrate cert') first second))
+    absurd (cc (one_command c p g (job.List obs) (job.Sim part' seed' epochs' sats' bands' system') first second))
+one_of c p g (job.List obs) (job.Track base' rover' nav' options') first second = absurd (cc (one_command c p g (job.List obs) (job.Track base' rover' nav' options') first second))
+one_of c p g (job.List obs) (job.CheckTrack cert') first second = absurd (cc (one_command c p g (job.List obs) (job.CheckTrack cert') first second))
+one_of c p g (job.Orbit nav system sat tick) (job.Zero rows') first second = absurd (cc (one_command c p g (job.Orbit nav system sat tick) (job.Zero rows') first second))
+one_of c p g (job.Orbit nav system sat tick) (job.List obs') first second = absurd (cc (one_command c p g (job.Orbit nav system sat tick) (job.List obs') first second))
+one_of c p g (job.Orbit nav system sat tick) (job.Check cert') first second = absurd (cc (one_command c p g (job.Orbit nav system sat tick) (job.Check cert') first second))
+one_of c p g (job.Orbit nav system sat tick) (job.Residuals cert') first second = absurd (cc (one_command c p g (job.Orbit nav system sat tick) (job.Residuals cert') first second))
+one_of c p g (job.Orbit nav system sat tick) (job.Migrate cert') first second = absurd (cc (one_command c p g (job.Orbit nav system sat tick) (job.Migrate cert') first second))
 one_of c p g (job.Orbit nav system sat tick) (job.Fix base' rover' nav' options') first second =
-    absurd (omega (arith, one_mark c p g (job.Orbit nav system sat tick) (job.Fix base' rover' nav' options') first second))
+    absurd (cc (one_command c p g (job.Orbit nav system sat tick) (job.Fix base' rover' nav' options') first second))
 one_of c p g (job.Orbit nav system sat tick) (job.Arcs base' rover' nav' options') first second =
-    absurd (omega (arith, one_mark c p g (job.Orbit nav system sat tick) (job.Arcs base' rover' nav' options') first second))
+    absurd (cc (one_command c p g (job.Orbit nav system sat tick) (job.Arcs base' rover' nav' options') first second))
 one_of c p g (job.Orbit nav system sat tick) (job.Sim part' seed' epochs' sats' bands' system') first second =
-    absurd (omega (arith, one_mark c p g (job.Orbit nav system sat tick) (job.Sim part' seed' epochs' sats' bands' system') first second))
+    absurd (cc (one_command c p g (job.Orbit nav system sat tick) (job.Sim part' seed' epochs' sats' bands' system') first second))
 one_of c p g (job.Orbit nav system sat tick) (job.Track base' rover' nav' options') first second =
-    absurd (omega (arith, one_mark c p g (job.Orbit nav system sat tick) (job.Track base' rover' nav' options') first second))
-one_of c p g (job.Orbit nav system sat tick) (job.CheckTrack cert') first second = absurd (omega (arith, one_mark c p g (job.Orbit nav system sat tick) (job.CheckTrack cert') first second))
-one_of c p g (job.Check cert) (job.Zero rows') first second = absurd (omega (arith, one_mark c p g (job.Check cert) (job.Zero rows') first second))
-one_of c p g (job.Check cert) (job.List obs') first second = absurd (omega (arith, one_mark c p g (job.Check cert) (job.List obs') first second))
-one_of c p g (job.Check cert) (job.Orbit nav' system' sat' tick') first second = absurd (omega (arith, one_mark c p g (job.Check cert) (job.Orbit nav' system' sat' tick') first second))
-one_of c p g (job.Check cert) (job.Residuals cert') first second = absurd (omega (arith, one_mark c p g (job.Check cert) (job.Residuals cert') first second))
-one_of c p g (job.Check cert) (job.Migrate cert') first second = absurd (omega (arith, one_mark c p g (job.Check cert) (job.Migrate cert') first second))
-one_of c p g (job.Check cert) (job.Fix base' rover' nav' options') first second = absurd (omega (arith, one_mark c p g (job.Check cert) (job.Fix base' rover' nav' options') first second))
-one_of c p g (job.Check cert) (job.Arcs base' rover' nav' options') first second = absurd (omega (arith, one_mark c p g (job.Check cert) (job.Arcs base' rover' nav' options') first second))
+    absurd (cc (one_command c p g (job.Orbit nav system sat tick) (job.Track base' rover' nav' options') first second))
+one_of c p g (job.Orbit nav system sat tick) (job.CheckTrack cert') first second = absurd (cc (one_command c p g (job.Orbit nav system sat tick) (job.CheckTrack cert') first second))
+one_of c p g (job.Check cert) (job.Zero rows') first second = absurd (cc (one_command c p g (job.Check cert) (job.Zero rows') first second))
+one_of c p g (job.Check cert) (job.List obs') first second = absurd (cc (one_command c p g (job.Check cert) (job.List obs') first second))
+one_of c p g (job.Check cert) (job.Orbit nav' system' sat' tick') first second = absurd (cc (one_command c p g (job.Check cert) (job.Orbit nav' system' sat' tick') first second))
+one_of c p g (job.Check cert) (job.Residuals cert') first second = absurd (cc (one_command c p g (job.Check cert) (job.Residuals cert') first second))
+one_of c p g (job.Check cert) (job.Migrate cert') first second = absurd (cc (one_command c p g (job.Check cert) (job.Migrate cert') first second))
+one_of c p g (job.Check cert) (job.Fix base' rover' nav' options') first second = absurd (cc (one_command c p g (job.Check cert) (job.Fix base' rover' nav' options') first second))
+one_of c p g (job.Check cert) (job.Arcs base' rover' nav' options') first second = absurd (cc (one_command c p g (job.Check cert) (job.Arcs base' rover' nav' options') first second))
 one_of c p g (job.Check cert) (job.Sim part' seed' epochs' sats' bands' system') first second =
-    absurd (omega (arith, one_mark c p g (job.Check cert) (job.Sim part' seed' epochs' sats' bands' system') first second))
-one_of c p g (job.Check cert) (job.Track base' rover' nav' options') first second = absurd (omega (arith, one_mark c p g (job.Check cert) (job.Track base' rover' nav' options') first second))
-one_of c p g (job.Check cert) (job.CheckTrack cert') first second = absurd (omega (arith, one_mark c p g (job.Check cert) (job.CheckTrack cert') first second))
-one_of c p g (job.Residuals cert) (job.Zero rows') first second = absurd (omega (arith, one_mark c p g (job.Residuals cert) (job.Zero rows') first second))
-one_of c p g (job.Residuals cert) (job.List obs') first second = absurd (omega (arith, one_mark c p g (job.Residuals cert) (job.List obs') first second))
-one_of c p g (job.Residuals cert) (job.Orbit nav' system' sat' tick') first second = absurd (omega (arith, one_mark c p g (job.Residuals cert) (job.Orbit nav' system' sat' tick') first second))
-one_of c p g (job.Residuals cert) (job.Check cert') first second = absurd (omega (arith, one_mark c p g (job.Residuals cert) (job.Check cert') first second))
-one_of c p g (job.Residuals cert) (job.Migrate cert') first second = absurd (omega (arith, one_mark c p g (job.Residuals cert) (job.Migrate cert') first second))
-one_of c p g (job.Residuals cert) (job.Fix base' rover' nav' options') first second = absurd (omega (arith, one_mark c p g (job.Residuals cert) (job.Fix base' rover' nav' options') first second))
-one_of c p g (job.Residuals cert) (job.Arcs base' rover' nav' options') first second = absurd (omega (arith, one_mark c p g (job.Residuals cert) (job.Arcs base' rover' nav' options') first second))
+    absurd (cc (one_command c p g (job.Check cert) (job.Sim part' seed' epochs' sats' bands' system') first second))
+one_of c p g (job.Check cert) (job.Track base' rover' nav' options') first second = absurd (cc (one_command c p g (job.Check cert) (job.Track base' rover' nav' options') first second))
+one_of c p g (job.Check cert) (job.CheckTrack cert') first second = absurd (cc (one_command c p g (job.Check cert) (job.CheckTrack cert') first second))
+one_of c p g (job.Residuals cert) (job.Zero rows') first second = absurd (cc (one_command c p g (job.Residuals cert) (job.Zero rows') first second))
+one_of c p g (job.Residuals cert) (job.List obs') first second = absurd (cc (one_command c p g (job.Residuals cert) (job.List obs') first second))
+one_of c p g (job.Residuals cert) (job.Orbit nav' system' sat' tick') first second = absurd (cc (one_command c p g (job.Residuals cert) (job.Orbit nav' system' sat' tick') first second))
+one_of c p g (job.Residuals cert) (job.Check cert') first second = absurd (cc (one_command c p g (job.Residuals cert) (job.Check cert') first second))
+one_of c p g (job.Residuals cert) (job.Migrate cert') first second = absurd (cc (one_command c p g (job.Residuals cert) (job.Migrate cert') first second))
+one_of c p g (job.Residuals cert) (job.Fix base' rover' nav' options') first second = absurd (cc (one_command c p g (job.Residuals cert) (job.Fix base' rover' nav' options') first second))
+one_of c p g (job.Residuals cert) (job.Arcs base' rover' nav' options') first second = absurd (cc (one_command c p g (job.Residuals cert) (job.Arcs base' rover' nav' options') first second))
 one_of c p g (job.Residuals cert) (job.Sim part' seed' epochs' sats' bands' system') first second =
-    absurd (omega (arith, one_mark c p g (job.Residuals cert) (job.Sim part' seed' epochs' sats' bands' system') first second))
-one_of c p g (job.Residuals cert) (job.Track base' rover' nav' options') first second = absurd (omega (arith, one_mark c p g (job.Residuals cert) (job.Track base' rover' nav' options') first second))
-one_of c p g (job.Residuals cert) (job.CheckTrack cert') first second = absurd (omega (arith, one_mark c p g (job.Residuals cert) (job.CheckTrack cert') first second))
-one_of c p g (job.Migrate cert) (job.Zero rows') first second = absurd (omega (arith, one_mark c p g (job.Migrate cert) (job.Zero rows') first second))
-one_of c p g (job.Migrate cert) (job.List obs') first second = absurd (omega (arith, one_mark c p g (job.Migrate cert) (job.List obs') first second))
-one_of c p g (job.Migrate cert) (job.Orbit nav' system' sat' tick') first second = absurd (omega (arith, one_mark c p g (job.Migrate cert) (job.Orbit nav' system' sat' tick') first second))
-one_of c p g (job.Migrate cert) (job.Check cert') first second = absurd (omega (arith, one_mark c p g (job.Migrate cert) (job.Check cert') first second))
-one_of c p g (job.Migrate cert) (job.Residuals cert') first second = absurd (omega (arith, one_mark c p g (job.Migrate cert) (job.Residuals cert') first second))
-one_of c p g (job.Migrate cert) (job.Fix base' rover' nav' options') first second = absurd (omega (arith, one_mark c p g (job.Migrate cert) (job.Fix base' rover' nav' options') first second))
-one_of c p g (job.Migrate cert) (job.Arcs base' rover' nav' options') first second = absurd (omega (arith, one_mark c p g (job.Migrate cert) (job.Arcs base' rover' nav' options') first second))
+    absurd (cc (one_command c p g (job.Residuals cert) (job.Sim part' seed' epochs' sats' bands' system') first second))
+one_of c p g (job.Residuals cert) (job.Track base' rover' nav' options') first second = absurd (cc (one_command c p g (job.Residuals cert) (job.Track base' rover' nav' options') first second))
+one_of c p g (job.Residuals cert) (job.CheckTrack cert') first second = absurd (cc (one_command c p g (job.Residuals cert) (job.CheckTrack cert') first second))
+one_of c p g (job.Migrate cert) (job.Zero rows') first second = absurd (cc (one_command c p g (job.Migrate cert) (job.Zero rows') first second))
+one_of c p g (job.Migrate cert) (job.List obs') first second = absurd (cc (one_command c p g (job.Migrate cert) (job.List obs') first second))
+one_of c p g (job.Migrate cert) (job.Orbit nav' system' sat' tick') first second = absurd (cc (one_command c p g (job.Migrate cert) (job.Orbit nav' system' sat' tick') first second))
+one_of c p g (job.Migrate cert) (job.Check cert') first second = absurd (cc (one_command c p g (job.Migrate cert) (job.Check cert') first second))
+one_of c p g (job.Migrate cert) (job.Residuals cert') first second = absurd (cc (one_command c p g (job.Migrate cert) (job.Residuals cert') first second))
+one_of c p g (job.Migrate cert) (job.Fix base' rover' nav' options') first second = absurd (cc (one_command c p g (job.Migrate cert) (job.Fix base' rover' nav' options') first second))
+one_of c p g (job.Migrate cert) (job.Arcs base' rover' nav' options') first second = absurd (cc (one_command c p g (job.Migrate cert) (job.Arcs base' rover' nav' options') first second))
 one_of c p g (job.Migrate cert) (job.Sim part' seed' epochs' sats' bands' system') first second =
-    absurd (omega (arith, one_mark c p g (job.Migrate cert) (job.Sim part' seed' epochs' sats' bands' system') first second))
-one_of c p g (job.Migrate cert) (job.Track base' rover' nav' options') first second = absurd (omega (arith, one_mark c p g (job.Migrate cert) (job.Track base' rover' nav' options') first second))
-one_of c p g (job.Migrate cert) (job.CheckTrack cert') first second = absurd (omega (arith, one_mark c p g (job.Migrate cert) (job.CheckTrack cert') first second))
-one_of c p g (job.Fix base rover nav options) (job.Zero rows') first second = absurd (omega (arith, one_mark c p g (job.Fix base rover nav options) (job.Zero rows') first second))
-one_of c p g (job.Fix base rover nav options) (job.List obs') first second = absurd (omega (arith, one_mark c p g (job.Fix base rover nav options) (job.List obs') first second))
+    absurd (cc (one_command c p g (job.Migrate cert) (job.Sim part' seed' epochs' sats' bands' system') first second))
+one_of c p g (job.Migrate cert) (job.Track base' rover' nav' options') first second = absurd (cc (one_command c p g (job.Migrate cert) (job.Track base' rover' nav' options') first second))
+one_of c p g (job.Migrate cert) (job.CheckTrack cert') first second = absurd (cc (one_command c p g (job.Migrate cert) (job.CheckTrack cert') first second))
+one_of c p g (job.Fix base rover nav options) (job.Zero rows') first second = absurd (cc (one_command c p g (job.Fix base rover nav options) (job.Zero rows') first second))
+one_of c p g (job.Fix base rover nav options) (job.List obs') first second = absurd (cc (one_command c p g (job.Fix base rover nav options) (job.List obs') first second))
 one_of c p g (job.Fix base rover nav options) (job.Orbit nav' system' sat' tick') first second =
-    absurd (omega (arith, one_mark c p g (job.Fix base rover nav options) (job.Orbit nav' system' sat' tick') first second))
-one_of c p g (job.Fix base rover nav options) (job.Check cert') first second = absurd (omega (arith, one_mark c p g (job.Fix base rover nav options) (job.Check cert') first second))
-one_of c p g (job.Fix base rover nav options) (job.Residuals cert') first second = absurd (omega (arith, one_mark c p g (job.Fix base rover nav options) (job.Residuals cert') first second))
-one_of c p g (job.Fix base rover nav options) (job.Migrate cert') first second = absurd (omega (arith, one_mark c p g (job.Fix base rover nav options) (job.Migrate cert') first second))
+    absurd (cc (one_command c p g (job.Fix base rover nav options) (job.Orbit nav' system' sat' tick') first second))
+one_of c p g (job.Fix base rover nav options) (job.Check cert') first second = absurd (cc (one_command c p g (job.Fix base rover nav options) (job.Check cert') first second))
+one_of c p g (job.Fix base rover nav options) (job.Residuals cert') first second = absurd (cc (one_command c p g (job.Fix base rover nav options) (job.Residuals cert') first second))
+one_of c p g (job.Fix base rover nav options) (job.Migrate cert') first second = absurd (cc (one_command c p g (job.Fix base rover nav options) (job.Migrate cert') first second))
 one_of c p g (job.Fix base rover nav options) (job.Arcs base' rover' nav' options') first second =
-    absurd (omega (arith, one_mark c p g (job.Fix base rover nav options) (job.Arcs base' rover' nav' options') first second))
+    absurd (cc (one_command c p g (job.Fix base rover nav options) (job.Arcs base' rover' nav' options') first second))
 one_of c p g (job.Fix base rover nav options) (job.Sim part' seed' epochs' sats' bands' system') first second =
-    absurd (omega (arith, one_mark c p g (job.Fix base rover nav options) (job.Sim part' seed' epochs' sats' bands' system') first second))
+    absurd (cc (one_command c p g (job.Fix base rover nav options) (job.Sim part' seed' epochs' sats' bands' system') first second))
 one_of c p g (job.Fix base rover nav options) (job.Track base' rover' nav' options') first second =
-    absurd (omega (arith, one_mark c p g (job.Fix base rover nav options) (job.Track base' rover' nav' options') first second))
-one_of c p g (job.Fix base rover nav options) (job.CheckTrack cert') first second = absurd (omega (arith, one_mark c p g (job.Fix base rover nav options) (job.CheckTrack cert') first second))
-one_of c p g (job.Arcs base rover nav options) (job.Zero rows') first second = absurd (omega (arith, one_mark c p g (job.Arcs base rover nav options) (job.Zero rows') first second))
-one_of c p g (job.Arcs base rover nav options) (job.List obs') first second = absurd (omega (arith, one_mark c p g (job.Arcs base rover nav options) (job.List obs') first second))
+    absurd (cc (one_command c p g (job.Fix base rover nav options) (job.Track base' rover' nav' options') first second))
+one_of c p g (job.Fix base rover nav options) (job.CheckTrack cert') first second = absurd (cc (one_command c p g (job.Fix base rover nav options) (job.CheckTrack cert') first second))
+one_of c p g (job.Arcs base rover nav options) (job.Zero rows') first second = absurd (cc (one_command c p g (job.Arcs base rover nav options) (job.Zero rows') first second))
+one_of c p g (job.Arcs base rover nav options) (job.List obs') first second = absurd (cc (one_command c p g (job.Arcs base rover nav options) (job.List obs') first second))
 one_of c p g (job.Arcs base rover nav options) (job.Orbit nav' system' sat' tick') first second =
-    absurd (omega (arith, one_mark c p g (job.Arcs base rover nav options) (job.Orbit nav' system' sat' tick') first second))
-one_of c p g (job.Arcs base rover nav options) (job.Check cert') first second = absurd (omega (arith, one_mark c p g (job.Arcs base rover nav options) (job.Check cert') first second))
-one_of c p g (job.Arcs base rover nav options) (job.Residuals cert') first second = absurd (omega (arith, one_mark c p g (job.Arcs base rover nav options) (job.Residuals cert') first second))
-one_of c p g (job.Arcs base rover nav options) (job.Migrate cert') first second = absurd (omega (arith, one_mark c p g (job.Arcs base rover nav options) (job.Migrate cert') first second))
+    absurd (cc (one_command c p g (job.Arcs base rover nav options) (job.Orbit nav' system' sat' tick') first second))
+one_of c p g (job.Arcs base rover nav options) (job.Check cert') first second = absurd (cc (one_command c p g (job.Arcs base rover nav options) (job.Check cert') first second))
+one_of c p g (job.Arcs base rover nav options) (job.Residuals cert') first second = absurd (cc (one_command c p g (job.Arcs base rover nav options) (job.Residuals cert') first second))
+one_of c p g (job.Arcs base rover nav options) (job.Migrate cert') first second = absurd (cc (one_command c p g (job.Arcs base rover nav options) (job.Migrate cert') first second))
 one_of c p g (job.Arcs base rover nav options) (job.Fix base' rover' nav' options') first second =
-    absurd (omega (arith, one_mark c p g (job.Arcs base rover nav options) (job.Fix base' rover' nav' options') first second))
+    absurd (cc (one_command c p g (job.Arcs base rover nav options) (job.Fix base' rover' nav' options') first second))
 one_of c p g (job.Arcs base rover nav options) (job.Sim part' seed' epochs' sats' bands' system') first second =
-    absurd (omega (arith, one_mark c p g (job.Arcs base rover nav options) (job.Sim part' seed' epochs' sats' bands' system') first second))
+    absurd (cc (one_command c p g (job.Arcs base rover nav options) (job.Sim part' seed' epochs' sats' bands' system') first second))
 one_of c p g (job.Arcs base rover nav options) (job.Track base' rover' nav' options') first second =
-    absurd (omega (arith, one_mark c p g (job.Arcs base rover nav options) (job.Track base' rover' nav' options') first second))
-one_of c p g (job.Arcs base rover nav options) (job.CheckTrack cert') first second = absurd (omega (arith, one_mark c p g (job.Arcs base rover nav options) (job.CheckTrack cert') first second))
+    absurd (cc (one_command c p g (job.Arcs base rover nav options) (job.Track base' rover' nav' options') first second))
+one_of c p g (job.Arcs base rover nav options) (job.CheckTrack cert') first second = absurd (cc (one_command c p g (job.Arcs base rover nav options) (job.CheckTrack cert') first second))
 one_of c p g (job.Sim part seed epochs sats bands system) (job.Zero rows') first second =
-    absurd (omega (arith, one_mark c p g (job.Sim part seed epochs sats bands system) (job.Zero rows') first second))
+    absurd (cc (one_command c p g (job.Sim part seed epochs sats bands system) (job.Zero rows') first second))
 one_of c p g (job.Sim part seed epochs sats bands system) (job.List obs') first second =
-    absurd (omega (arith, one_mark c p g (job.Sim part seed epochs sats bands system) (job.List obs') first second))
+    absurd (cc (one_command c p g (job.Sim part seed epochs sats bands system) (job.List obs') first second))
 one_of c p g (job.Sim part seed epochs sats bands system) (job.Orbit nav' system' sat' tick') first second =
-    absurd (omega (arith, one_mark c p g (job.Sim part seed epochs sats bands system) (job.Orbit nav' system' sat' tick') first second))
+    absurd (cc (one_command c p g (job.Sim part seed epochs sats bands system) (job.Orbit nav' system' sat' tick') first second))
 one_of c p g (job.Sim part seed epochs sats bands system) (job.Check cert') first second =
-    absurd (omega (arith, one_mark c p g (job.Sim part seed epochs sats bands system) (job.Check cert') first second))
+    absurd (cc (one_command c p g (job.Sim part seed epochs sats bands system) (job.Check cert') first second))
 one_of c p g (job.Sim part seed epochs sats bands system) (job.Residuals cert') first second =
-    absurd (omega (arith, one_mark c p g (job.Sim part seed epochs sats bands system) (job.Residuals cert') first second))
+    absurd (cc (one_command c p g (job.Sim part seed epochs sats bands system) (job.Residuals cert') first second))
 one_of c p g (job.Sim part seed epochs sats bands system) (job.Migrate cert') first second =
-    absurd (omega (arith, one_mark c p g (job.Sim part seed epochs sats bands system) (job.Migrate cert') first second))
+    absurd (cc (one_command c p g (job.Sim part seed epochs sats bands system) (job.Migrate cert') first second))
 one_of c p g (job.Sim part seed epochs sats bands system) (job.Fix base' rover' nav' options') first second =
-    absurd (omega (arith, one_mark c p g (job.Sim part seed epochs sats bands system) (job.Fix base' rover' nav' options') first second))
+    absurd (cc (one_command c p g (job.Sim part seed epochs sats bands system) (job.Fix base' rover' nav' options') first second))
 one_of c p g (job.Sim part seed epochs sats bands system) (job.Arcs base' rover' nav' options') first second =
-    absurd (omega (arith, one_mark c p g (job.Sim part seed epochs sats bands system) (job.Arcs base' rover' nav' options') first second))
+    absurd (cc (one_command c p g (job.Sim part seed epochs sats bands system) (job.Arcs base' rover' nav' options') first second))
 one_of c p g (job.Sim part seed epochs sats bands system) (job.Track base' rover' nav' options') first second =
-    absurd (omega (arith, one_mark c p g (job.Sim part seed epochs sats bands system) (job.Track base' rover' nav' options') first second))
+    absurd (cc (one_command c p g (job.Sim part seed epochs sats bands system) (job.Track base' rover' nav' options') first second))
 one_of c p g (job.Sim part seed epochs sats bands system) (job.CheckTrack cert') first second =
-    absurd (omega (arith, one_mark c p g (job.Sim part seed epochs sats bands system) (job.CheckTrack cert') first second))
-one_of c p g (job.Track base rover nav options) (job.Zero rows') first second = absurd (omega (arith, one_mark c p g (job.Track base rover nav options) (job.Zero rows') first second))
-one_of c p g (job.Track base rover nav options) (job.List obs') first second = absurd (omega (arith, one_mark c p g (job.Track base rover nav options) (job.List obs') first second))
+    absurd (cc (one_command c p g (job.Sim part seed epochs sats bands system) (job.CheckTrack cert') first second))
+one_of c p g (job.Track base rover nav options) (job.Zero rows') first second = absurd (cc (one_command c p g (job.Track base rover nav options) (job.Zero rows') first second))
+one_of c p g (job.Track base rover nav options) (job.List obs') first second = absurd (cc (one_command c p g (job.Track base rover nav options) (job.List obs') first second))
 one_of c p g (job.Track base rover nav options) (job.Orbit nav' system' sat' tick') first second =
-    absurd (omega (arith, one_mark c p g (job.Track base rover nav options) (job.Orbit nav' system' sat' tick') first second))
-one_of c p g (job.Track base rover nav options) (job.Check cert') first second = absurd (omega (arith, one_mark c p g (job.Track base rover nav options) (job.Check cert') first second))
-one_of c p g (job.Track base rover nav options) (job.Residuals cert') first second = absurd (omega (arith, one_mark c p g (job.Track base rover nav options) (job.Residuals cert') first second))
-one_of c p g (job.Track base rover nav options) (job.Migrate cert') first second = absurd (omega (arith, one_mark c p g (job.Track base rover nav options) (job.Migrate cert') first second))
+    absurd (cc (one_command c p g (job.Track base rover nav options) (job.Orbit nav' system' sat' tick') first second))
+one_of c p g (job.Track base rover nav options) (job.Check cert') first second = absurd (cc (one_command c p g (job.Track base rover nav options) (job.Check cert') first second))
+one_of c p g (job.Track base rover nav options) (job.Residuals cert') first second = absurd (cc (one_command c p g (job.Track base rover nav options) (job.Residuals cert') first second))
+one_of c p g (job.Track base rover nav options) (job.Migrate cert') first second = absurd (cc (one_command c p g (job.Track base rover nav options) (job.Migrate cert') first second))
 one_of c p g (job.Track base rover nav options) (job.Fix base' rover' nav' options') first second =
-    absurd (omega (arith, one_mark c p g (job.Track base rover nav options) (job.Fix base' rover' nav' options') first second))
+    absurd (cc (one_command c p g (job.Track base rover nav options) (job.Fix base' rover' nav' options') first second))
 one_of c p g (job.Track base rover nav options) (job.Arcs base' rover' nav' options') first second =
-    absurd (omega (arith, one_mark c p g (job.Track base rover nav options) (job.Arcs base' rover' nav' options') first second))
+    absurd (cc (one_command c p g (job.Track base rover nav options) (job.Arcs base' rover' nav' options') first second))
 one_of c p g (job.Track base rover nav options) (job.Sim part' seed' epochs' sats' bands' system') first second =
-    absurd (omega (arith, one_mark c p g (job.Track base rover nav options) (job.Sim part' seed' epochs' sats' bands' system') first second))
-one_of c p g (job.Track base rover nav options) (job.CheckTrack cert') first second = absurd (omega (arith, one_mark c p g (job.Track base rover nav options) (job.CheckTrack cert') first second))
-one_of c p g (job.CheckTrack cert) (job.Zero rows') first second = absurd (omega (arith, one_mark c p g (job.CheckTrack cert) (job.Zero rows') first second))
-one_of c p g (job.CheckTrack cert) (job.List obs') first second = absurd (omega (arith, one_mark c p g (job.CheckTrack cert) (job.List obs') first second))
-one_of c p g (job.CheckTrack cert) (job.Orbit nav' system' sat' tick') first second = absurd (omega (arith, one_mark c p g (job.CheckTrack cert) (job.Orbit nav' system' sat' tick') first second))
-one_of c p g (job.CheckTrack cert) (job.Check cert') first second = absurd (omega (arith, one_mark c p g (job.CheckTrack cert) (job.Check cert') first second))
-one_of c p g (job.CheckTrack cert) (job.Residuals cert') first second = absurd (omega (arith, one_mark c p g (job.CheckTrack cert) (job.Residuals cert') first second))
-one_of c p g (job.CheckTrack cert) (job.Migrate cert') first second = absurd (omega (arith, one_mark c p g (job.CheckTrack cert) (job.Migrate cert') first second))
-one_of c p g (job.CheckTrack cert) (job.Fix base' rover' nav' options') first second = absurd (omega (arith, one_mark c p g (job.CheckTrack cert) (job.Fix base' rover' nav' options') first second))
-one_of c p g (job.CheckTrack cert) (job.Arcs base' rover' nav' options') first second = absurd (omega (arith, one_mark c p g (job.CheckTrack cert) (job.Arcs base' rover' nav' options') first second))
+    absurd (cc (one_command c p g (job.Track base rover nav options) (job.Sim part' seed' epochs' sats' bands' system') first second))
+one_of c p g (job.Track base rover nav options) (job.CheckTrack cert') first second = absurd (cc (one_command c p g (job.Track base rover nav options) (job.CheckTrack cert') first second))
+one_of c p g (job.CheckTrack cert) (job.Zero rows') first second = absurd (cc (one_command c p g (job.CheckTrack cert) (job.Zero rows') first second))
+one_of c p g (job.CheckTrack cert) (job.List obs') first second = absurd (cc (one_command c p g (job.CheckTrack cert) (job.List obs') first second))
+one_of c p g (job.CheckTrack cert) (job.Orbit nav' system' sat' tick') first second = absurd (cc (one_command c p g (job.CheckTrack cert) (job.Orbit nav' system' sat' tick') first second))
+one_of c p g (job.CheckTrack cert) (job.Check cert') first second = absurd (cc (one_command c p g (job.CheckTrack cert) (job.Check cert') first second))
+one_of c p g (job.CheckTrack cert) (job.Residuals cert') first second = absurd (cc (one_command c p g (job.CheckTrack cert) (job.Residuals cert') first second))
+one_of c p g (job.CheckTrack cert) (job.Migrate cert') first second = absurd (cc (one_command c p g (job.CheckTrack cert) (job.Migrate cert') first second))
+one_of c p g (job.CheckTrack cert) (job.Fix base' rover' nav' options') first second = absurd (cc (one_command c p g (job.CheckTrack cert) (job.Fix base' rover' nav' options') first second))
+one_of c p g (job.CheckTrack cert) (job.Arcs base' rover' nav' options') first second = absurd (cc (one_command c p g (job.CheckTrack cert) (job.Arcs base' rover' nav' options') first second))
 one_of c p g (job.CheckTrack cert) (job.Sim part' seed' epochs' sats' bands' system') first second =
-    absurd (omega (arith, one_mark c p g (job.CheckTrack cert) (job.Sim part' seed' epochs' sats' bands' system') first second))
+    absurd (cc (one_command c p g (job.CheckTrack cert) (job.Sim part' seed' epochs' sats' bands' system') first second))
 one_of c p g (job.CheckTrack cert) (job.Track base' rover' nav' options') first second =
-    absurd (omega (arith, one_mark c p g (job.CheckTrack cert) (job.Track base' rover' nav' options') first second))
+    absurd (cc (one_command c p g (job.CheckTrack cert) (job.Track base' rover' nav' options') first second))
 
 -- the words have one command, and one list of words after it
 pub same_behind : (words : List (List ℕ)) (a b : Job) (first : IsJob words a) (second : IsJob words b) → second.behind ≡ first.behind
@@ -344,49 +313,40 @@ one_job words a b first second =
     (subst (λ (p : List (List ℕ)). IsJobOf second.command p first.given b) (sym parts.0)
     (subst (λ (g : List Given). IsJobOf second.command second.plain g b) (sym parts.1) second.asked)))
 
-other_count : (name a b c d : List ℕ) (command : List ℕ) → IsPlainJob name (a ∷ []) command (b ∷ c ∷ d ∷ []) [] → ⊥
-other_count name a b c d command asked =
-    let same : 3 ≡ 1 = ap (λ (ws : List (List ℕ)). length ws) asked.plain_are in absurd (omega (arith, same))
-
 -- no job of `orbit` without a satellite
-pub no_satellite : (command nav sat tick : List ℕ) → (command ≡ codes "arcs" → ⊥) → (command ≡ codes "fix" → ⊥) → (command ≡ codes "track" → ⊥)
-    → (command ≡ codes "sim" → ⊥) → ((system n : ℕ) → IsSatellite sat system n → ⊥)
-    → (job : Job) → IsJobOf command (nav ∷ sat ∷ tick ∷ []) [] job → ⊥
-no_satellite command nav sat tick no_arcs no_fix no_track no_sim none (job.Zero rows) asked = other_count (codes "zero") rows nav sat tick command asked
-no_satellite command nav sat tick no_arcs no_fix no_track no_sim none (job.List obs) asked = other_count (codes "list") obs nav sat tick command asked
-no_satellite command nav sat tick no_arcs no_fix no_track no_sim none (job.Check cert) asked = other_count (codes "check") cert nav sat tick command asked
-no_satellite command nav sat tick no_arcs no_fix no_track no_sim none (job.Residuals cert) asked = other_count (codes "residuals") cert nav sat tick command asked
-no_satellite command nav sat tick no_arcs no_fix no_track no_sim none (job.Migrate cert) asked = other_count (codes "migrate") cert nav sat tick command asked
-no_satellite command nav sat tick no_arcs no_fix no_track no_sim none (job.Arcs base rover nav' options) asked = no_arcs asked.command_is
-no_satellite command nav sat tick no_arcs no_fix no_track no_sim none (job.Fix base rover nav' options) asked = no_fix asked.command_is
-no_satellite command nav sat tick no_arcs no_fix no_track no_sim none (job.Track base rover nav' options) asked = no_track asked.command_is
-no_satellite command nav sat tick no_arcs no_fix no_track no_sim none (job.CheckTrack cert) asked = other_count (codes "check-track") cert nav sat tick command asked
-no_satellite command nav sat tick no_arcs no_fix no_track no_sim none (job.Sim part seed epochs sats bands system) asked = no_sim asked.command_is
-no_satellite command nav sat tick no_arcs no_fix no_track no_sim none (job.Orbit nav' system number tick') asked =
-    let same : asked.sat_word ≡ sat = ap (λ (ws : List (List ℕ)). get_or ws 1 []) (sym asked.asked.plain_are) in
-    none system number (subst (λ (w : List ℕ). IsSatellite w system number) same asked.satellite)
-
--- the marks of two names of one command
-other_mark : (m n : ℕ) (c a b : List ℕ) → c ≡ a → c ≡ b → mark a ≡ m → mark b ≡ n → m ≡ n
-other_mark m n c a b first second is also = sym is ∙ ap mark (sym first ∙ second) ∙ also
+pub no_satellite : (plain : List (List ℕ)) (given : List Given) (sat : List ℕ) → sat ≡ get_or plain 1 sat → ((system n : ℕ) → IsSatellite sat system n → ⊥)
+    → (job : Job) → IsJobOf (name_of_command command_name.Orbit) plain given job → ⊥
+no_satellite plain given sat place none (job.Orbit nav system number tick) asked =
+    let same : sat ≡ asked.sat_word = subst (λ (ws : List (List ℕ)). sat ≡ get_or ws 1 sat) asked.asked.plain_are place in
+    none system number (subst (λ (w : List ℕ). IsSatellite w system number) (sym same) asked.satellite)
+no_satellite plain given sat place none (job.Zero rows) asked = absurd (cc (it_is command_name.Orbit plain given (job.Zero rows) asked))
+no_satellite plain given sat place none (job.List obs) asked = absurd (cc (it_is command_name.Orbit plain given (job.List obs) asked))
+no_satellite plain given sat place none (job.Check cert) asked = absurd (cc (it_is command_name.Orbit plain given (job.Check cert) asked))
+no_satellite plain given sat place none (job.Residuals cert) asked = absurd (cc (it_is command_name.Orbit plain given (job.Residuals cert) asked))
+no_satellite plain given sat place none (job.Migrate cert) asked = absurd (cc (it_is command_name.Orbit plain given (job.Migrate cert) asked))
+no_satellite plain given sat place none (job.Fix base rover nav options) asked = absurd (cc (it_is command_name.Orbit plain given (job.Fix base rover nav options) asked))
+no_satellite plain given sat place none (job.Arcs base rover nav options) asked = absurd (cc (it_is command_name.Orbit plain given (job.Arcs base rover nav options) asked))
+no_satellite plain given sat place none (job.Track base rover nav options) asked = absurd (cc (it_is command_name.Orbit plain given (job.Track base rover nav options) asked))
+no_satellite plain given sat place none (job.CheckTrack cert) asked = absurd (cc (it_is command_name.Orbit plain given (job.CheckTrack cert) asked))
+no_satellite plain given sat place none (job.Sim part seed epochs sats bands system) asked = absurd (cc (it_is command_name.Orbit plain given (job.Sim part seed epochs sats bands system) asked))
 
 -- a job of `sim` is that of a simulated session
-pub sim_asked : (plain : List (List ℕ)) (given : List Given) (job : Job) → IsJobOf (codes "sim") plain given job → (s : Sim) × IsSimJob s (codes "sim") plain given
+pub sim_asked : (plain : List (List ℕ)) (given : List Given) (job : Job) → IsJobOf (name_of_command command_name.Sim) plain given job → (s : Sim) × IsSimJob s (name_of_command command_name.Sim) plain given
 sim_asked plain given (job.Sim part seed epochs sats bands system) asked = (sim_with part seed epochs sats bands system, asked)
-sim_asked plain given (job.Zero rows) asked = absurd (omega (arith, other_mark 883 1146 (codes "sim") _ _ refl asked.command_is refl refl))
-sim_asked plain given (job.List obs) asked = absurd (omega (arith, other_mark 883 1132 (codes "sim") _ _ refl asked.command_is refl refl))
-sim_asked plain given (job.Orbit nav system sat tick) asked = absurd (omega (arith, other_mark 883 1391 (codes "sim") _ _ refl asked.asked.command_is refl refl))
-sim_asked plain given (job.Check cert) asked = absurd (omega (arith, other_mark 883 1379 (codes "sim") _ _ refl asked.command_is refl refl))
-sim_asked plain given (job.Residuals cert) asked = absurd (omega (arith, other_mark 883 2418 (codes "sim") _ _ refl asked.command_is refl refl))
-sim_asked plain given (job.Migrate cert) asked = absurd (omega (arith, other_mark 883 1901 (codes "sim") _ _ refl asked.command_is refl refl))
-sim_asked plain given (job.Fix base rover nav options) asked = absurd (omega (arith, other_mark 883 870 (codes "sim") _ _ refl asked.command_is refl refl))
-sim_asked plain given (job.Arcs base rover nav options) asked = absurd (omega (arith, other_mark 883 1121 (codes "sim") _ _ refl asked.command_is refl refl))
-sim_asked plain given (job.Track base rover nav options) asked = absurd (omega (arith, other_mark 883 1396 (codes "sim") _ _ refl asked.command_is refl refl))
-sim_asked plain given (job.CheckTrack cert) asked = absurd (omega (arith, other_mark 883 2915 (codes "sim") _ _ refl asked.command_is refl refl))
+sim_asked plain given (job.Zero rows) asked = absurd (cc (it_is command_name.Sim plain given (job.Zero rows) asked))
+sim_asked plain given (job.List obs) asked = absurd (cc (it_is command_name.Sim plain given (job.List obs) asked))
+sim_asked plain given (job.Orbit nav system sat tick) asked = absurd (cc (it_is command_name.Sim plain given (job.Orbit nav system sat tick) asked))
+sim_asked plain given (job.Check cert) asked = absurd (cc (it_is command_name.Sim plain given (job.Check cert) asked))
+sim_asked plain given (job.Residuals cert) asked = absurd (cc (it_is command_name.Sim plain given (job.Residuals cert) asked))
+sim_asked plain given (job.Migrate cert) asked = absurd (cc (it_is command_name.Sim plain given (job.Migrate cert) asked))
+sim_asked plain given (job.Fix base rover nav options) asked = absurd (cc (it_is command_name.Sim plain given (job.Fix base rover nav options) asked))
+sim_asked plain given (job.Arcs base rover nav options) asked = absurd (cc (it_is command_name.Sim plain given (job.Arcs base rover nav options) asked))
+sim_asked plain given (job.Track base rover nav options) asked = absurd (cc (it_is command_name.Sim plain given (job.Track base rover nav options) asked))
+sim_asked plain given (job.CheckTrack cert) asked = absurd (cc (it_is command_name.Sim plain given (job.CheckTrack cert) asked))
 
 -- and there is none where its four words aren't those of such a session
 pub no_sim : (part seed epochs sats : List ℕ) (given : List Given) → ((s : Sim) → IsSim part seed epochs sats s → ⊥) → (job : Job)
-    → IsJobOf (codes "sim") (part ∷ seed ∷ epochs ∷ sats ∷ []) given job → ⊥
+    → IsJobOf (name_of_command command_name.Sim) (part ∷ seed ∷ epochs ∷ sats ∷ []) given job → ⊥
 no_sim part seed epochs sats given none job asked =
     let it = sim_asked (part ∷ seed ∷ epochs ∷ sats ∷ []) given job asked in
     let s : Sim = it.0 in

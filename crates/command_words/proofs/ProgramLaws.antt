@@ -13,14 +13,16 @@ use Rattle.clap.specs.Values.{kind_of}
 use Rattle.clap.specs.declared.error.Error.{Error}
 use Rattle.clap.specs.declared.error.kind.ErrorKind.TheVariants.{OutOfMemory}
 use Rattle.clap.specs.declared.parser.matches.Found.{Found}
-use Rattle.clap.specs.Simple.{App, is_simple, new_shape, subcommand_of, with_rule}
+use Rattle.clap.specs.Simple.{App, is_simple, new_shape, subcommand_of, with_rule, with_subcommand}
 use Rattle.clap.specs.Walk.{Row, Rule, Text, row_of, rows_of}
 use Rattle.clap.specs.Facts.{Entry}
+use Rattle.command_words.specs.declared.command_name.CommandName.{CommandName}
 use Rattle.command_words.specs.declared.settings.Setting.{Setting}
 use Rattle.command_words.specs.declared.settings.Given.{Given}
-use Rattle.command_words.specs.Commands.{app_with, has_short, option_rule, values_in}
-use Rattle.command_words.specs.Settings.{IsValue}
-use Rattle.command_words.specs.Split.{AreAll, IsSplit, TakesNumbers, commands, given_with}
+use Rattle.command_words.specs.Commands.{app_with, command_shape, has_short, option_rule, values_in}
+use Rattle.command_words.specs.Settings.{name_of, IsValue}
+use Rattle.command_words.specs.Split.{AreAll, IsSplit, TakesNumbers, commands, given_with, options_of}
+use Rattle.command_words.specs.Words.{name_of_command}
 use Rattle.command_words.proofs.GivenLaws.{one_taken}
 use Rattle.command_words.proofs.JobLaws.{account_split}
 
@@ -30,6 +32,10 @@ started name options = record { top = record (new_shape name) { rules = map opti
 
 pub one_more : (name : Text) (options : List Text) (option : Text) → with_rule (started name options) (option_rule option) ≡ started name (options ++ option ∷ [])
 one_more name options option = ap (λ (rules : List Rule). let a : App = record { top = record (new_shape name) { rules = rules }; subs = [] } in a) (sym (map_push option_rule options option))
+
+-- the program with one command more
+abbrev pub with_one : App → CommandName → App
+with_one a c = with_subcommand a (command_shape (name_of_command c) (options_of c))
 
 -- of tests that hold, the third is of what is not there
 pub third : (a b g r : Bool) → (a && (not b && (not g && r))) ≡ true → g ≡ false
@@ -69,12 +75,12 @@ map_take f xs i d lt =
     let next : suc i ≡ i + 1 = omega arith in
     subst (λ (n : ℕ). map f (take n xs) ≡ map f (take i xs) ++ f (get_or xs i d) ∷ []) next (ap (λ ys. map f ys) (take-suc xs i d lt) ∙ map_push f (take i xs) (get_or xs i d))
 
-pub option_added : (name : Text) (options : List (Bor Text)) (i : ℕ) (d : Bor Text) (old new : App) → i < length options
-    → old ≡ started name (map (λ o. o.now) (take i options)) → new ≡ with_rule old (option_rule (get_or options i d).now)
-    → new ≡ started name (map (λ o. o.now) (take (i + 1) options))
-option_added name options i d old new lt old_is new_is =
-    new_is ∙ ap (λ (a : App). with_rule a (option_rule (get_or options i d).now)) old_is ∙ one_more name (map (λ (o : Bor Text). o.now) (take i options)) (get_or options i d).now
-    ∙ ap (λ (os : List Text). started name os) (sym (map_take (λ (o : Bor Text). o.now) options i d lt))
+pub option_added : (name : Text) (settings : List Setting) (i : ℕ) (d : Setting) (old new : App) → i < length settings
+    → old ≡ started name (map name_of (take i settings)) → new ≡ with_rule old (option_rule (name_of (get_or settings i d)))
+    → new ≡ started name (map name_of (take (i + 1) settings))
+option_added name settings i d old new lt old_is new_is =
+    new_is ∙ ap (λ (a : App). with_rule a (option_rule (name_of (get_or settings i d)))) old_is ∙ one_more name (map name_of (take i settings)) (name_of (get_or settings i d))
+    ∙ ap (λ (os : List Text). started name os) (sym (map_take name_of settings i d lt))
 
 pub number_at : (s : Setting) (texts : List (Bor Text)) (i : ℕ) (d : Bor Text) → AreAll s (map (λ t. t.now) texts) → i < length texts → (n : ℕ) × IsValue s (get_or texts i d).now n
 number_at s [] i d all lt = absurd (omega arith)

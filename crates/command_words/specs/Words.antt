@@ -9,6 +9,8 @@ use Rattle.command_words.specs.declared.sims.File.TheVariants.{Base, Rover, Nav}
 use Rattle.command_words.specs.declared.sims.Part.{Part}
 use Rattle.command_words.specs.declared.sims.Part.TheVariants as part
 use Rattle.command_words.specs.declared.sims.Sim.{Sim}
+use Rattle.command_words.specs.declared.command_name.CommandName.{CommandName}
+use Rattle.command_words.specs.declared.command_name.CommandName.TheVariants as command_name
 use Rattle.command_words.specs.declared.jobs.Job.{Job}
 use Rattle.command_words.specs.declared.jobs.Job.TheVariants as job
 use Rattle.command_words.specs.Numbers.{IsNumber, IsNumberIn, IsSatellite}
@@ -18,6 +20,19 @@ use Rattle.command_words.specs.Settings.{AreBandsOf, AreOptions, ArePairOptions,
 
 abbrev pub texts_of : List (String Global) → List (List ℕ)
 texts_of words = map (λ w. string_bytes w) words
+
+abbrev pub name_of_command : CommandName → List ℕ
+name_of_command command_name.Fix = codes "fix"
+name_of_command command_name.Arcs = codes "arcs"
+name_of_command command_name.Check = codes "check"
+name_of_command command_name.Residuals = codes "residuals"
+name_of_command command_name.Zero = codes "zero"
+name_of_command command_name.List = codes "list"
+name_of_command command_name.Orbit = codes "orbit"
+name_of_command command_name.Sim = codes "sim"
+name_of_command command_name.Migrate = codes "migrate"
+name_of_command command_name.Track = codes "track"
+name_of_command command_name.CheckTrack = codes "check-track"
 
 -- the command has that name, exactly these ordinary words and no option
 pub record IsPlainJob (name : List ℕ) (words : List (List ℕ)) (command : List ℕ) (plain : List (List ℕ)) (given : List Given) : Type 0 where
@@ -29,7 +44,7 @@ pub record IsPlainJob (name : List ℕ) (words : List (List ℕ)) (command : Lis
 pub record IsOrbitJob (nav : List ℕ) (system sat tick : ℕ) (command : List ℕ) (plain : List (List ℕ)) (given : List Given) : Type 0 where
   pub sat_word : List ℕ
   pub tick_word : List ℕ
-  pub asked : IsPlainJob (codes "orbit") (nav ∷ sat_word ∷ tick_word ∷ []) command plain given
+  pub asked : IsPlainJob (name_of_command command_name.Orbit) (nav ∷ sat_word ∷ tick_word ∷ []) command plain given
   pub satellite : IsSatellite sat_word system sat
   pub number : IsNumber tick_word tick
 
@@ -54,7 +69,7 @@ pub record IsSim (part_word seed_word epochs_word sats_word : List ℕ) (s : Sim
 
 -- `sim`, these four words, and no options but the bands and the system
 pub record IsSimJob (s : Sim) (command : List ℕ) (plain : List (List ℕ)) (given : List Given) : Type 0 where
-  pub command_is : command ≡ codes "sim"
+  pub command_is : command ≡ name_of_command command_name.Sim
   pub part_word : List ℕ
   pub seed_word : List ℕ
   pub epochs_word : List ℕ
@@ -71,21 +86,21 @@ pub record IsRunJob (name base rover nav : List ℕ) (o : Options) (command : Li
 
 -- `arcs`, three files, and options without a ratio and a budget
 pub record IsArcsJob (base rover nav : List ℕ) (o : Options) (command : List ℕ) (plain : List (List ℕ)) (given : List Given) : Type 0 where
-  pub command_is : command ≡ codes "arcs"
+  pub command_is : command ≡ name_of_command command_name.Arcs
   pub plain_are : plain ≡ base ∷ rover ∷ nav ∷ []
   pub options : ArePairOptions given o
 
 -- a command with these ordinary words and options asks for the job
 abbrev pub IsJobOf : List ℕ → List (List ℕ) → List Given → Job → Type 0
-IsJobOf command plain given (job.Zero rows) = IsPlainJob (codes "zero") (rows ∷ []) command plain given
-IsJobOf command plain given (job.List obs) = IsPlainJob (codes "list") (obs ∷ []) command plain given
+IsJobOf command plain given (job.Zero rows) = IsPlainJob (name_of_command command_name.Zero) (rows ∷ []) command plain given
+IsJobOf command plain given (job.List obs) = IsPlainJob (name_of_command command_name.List) (obs ∷ []) command plain given
 IsJobOf command plain given (job.Orbit nav system sat tick) = IsOrbitJob nav system sat tick.0 command plain given
-IsJobOf command plain given (job.Check cert) = IsPlainJob (codes "check") (cert ∷ []) command plain given
-IsJobOf command plain given (job.Residuals cert) = IsPlainJob (codes "residuals") (cert ∷ []) command plain given
-IsJobOf command plain given (job.Migrate cert) = IsPlainJob (codes "migrate") (cert ∷ []) command plain given
-IsJobOf command plain given (job.Fix base rover nav options) = IsRunJob (codes "fix") base rover nav options command plain given
-IsJobOf command plain given (job.Track base rover nav options) = IsRunJob (codes "track") base rover nav options command plain given
-IsJobOf command plain given (job.CheckTrack cert) = IsPlainJob (codes "check-track") (cert ∷ []) command plain given
+IsJobOf command plain given (job.Check cert) = IsPlainJob (name_of_command command_name.Check) (cert ∷ []) command plain given
+IsJobOf command plain given (job.Residuals cert) = IsPlainJob (name_of_command command_name.Residuals) (cert ∷ []) command plain given
+IsJobOf command plain given (job.Migrate cert) = IsPlainJob (name_of_command command_name.Migrate) (cert ∷ []) command plain given
+IsJobOf command plain given (job.Fix base rover nav options) = IsRunJob (name_of_command command_name.Fix) base rover nav options command plain given
+IsJobOf command plain given (job.Track base rover nav options) = IsRunJob (name_of_command command_name.Track) base rover nav options command plain given
+IsJobOf command plain given (job.CheckTrack cert) = IsPlainJob (name_of_command command_name.CheckTrack) (cert ∷ []) command plain given
 IsJobOf command plain given (job.Arcs base rover nav options) = IsArcsJob base rover nav options command plain given
 IsJobOf command plain given (job.Sim part seed epochs sats bands system) = IsSimJob (sim_with part seed epochs sats bands system) command plain given
 

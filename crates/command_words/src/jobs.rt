@@ -1,12 +1,12 @@
 //! The jobs that words ask for.
-ghost use Rattle.std.specs.Prelude.{◌≡◌, ◌∷◌, [], IfOk, IsErrOf, codes};
+ghost use Rattle.std.specs.Prelude.{◌≡◌, ◌≢◌, ◌∷◌, [], length, IfOk, IsErrOf, OnOk};
 ghost use Rattle.command_words.specs.declared.jobs.Job.{Job};
-ghost use Rattle.command_words.specs.Numbers.{IsSatellite};
-ghost use Rattle.command_words.specs.Words.{texts_of, IsJobOf, IsJob, IsInRange};
+ghost use Rattle.command_words.specs.Words.{name_of_command, texts_of, IsJobOf, IsJob, IsInRange};
 
 use crate::WordFault;
 use crate::choices::sim_choice_of;
-use crate::numbers::{Satellite, number_of, satellite_of};
+use crate::command_name::CommandName;
+use crate::numbers::{number_of, satellite_of};
 use crate::options::{options_of, pair_options_of};
 use crate::parts::{Parted, parted_of};
 use crate::settings::Given;
@@ -91,134 +91,176 @@ pub fn read_words(alloc: Global, words: &[String]) -> Result<Job, WordFault>
 {
     let line = split(alloc, words)?;
     let parted = parted_of(alloc, &line.matches)?;
-    job_of(alloc, line.command.as_bytes(), &parted)
+    job_of(alloc, line.command, &parted)
+}
+
+// The job of the command of that name with these words.
+fn job_of(alloc: Global, name: &str, parted: &Parted) -> Result<Job, WordFault>
+    ensures job { IfOk result (λ job. IsJobOf name.now parted.now.plain.items parted.now.given.items job) }
+    ensures usage { IsErrOf result WordFault.Usage → (job : Job) → IsJobOf name.now parted.now.plain.items parted.now.given.items job → ⊥ }
+{
+    match CommandName::named(name) {
+        Some(command) => job_of_command(alloc, command, &parted.plain, &parted.given),
+        None => Err(WordFault::Usage),
+    }
 }
 
 // The job of a command with these words.
-fn job_of(alloc: Global, command: &[u8], parted: &Parted) -> Result<Job, WordFault>
-    ensures job { IfOk result (λ job. IsJobOf command.now parted.now.plain.items parted.now.given.items job) }
-    ensures usage { IsErrOf result WordFault.Usage → (job : Job) → IsJobOf command.now parted.now.plain.items parted.now.given.items job → ⊥ }
+fn job_of_command(
+    alloc: Global,
+    command: CommandName,
+    plain: &[Word],
+    given: &[Given],
+) -> Result<Job, WordFault>
+    ensures job { IfOk result (λ job. IsJobOf (name_of_command command) plain.now given.now job) }
+    ensures usage { IsErrOf result WordFault.Usage → (job : Job) → IsJobOf (name_of_command command) plain.now given.now job → ⊥ }
 {
-    if command == b"fix".as_slice() {
-        return fix_job(alloc, &parted.plain, &parted.given);
-    }
-    if command == b"track".as_slice() {
-        return track_job(alloc, &parted.plain, &parted.given);
-    }
-    if command == b"arcs".as_slice() {
-        return arcs_job(alloc, &parted.plain, &parted.given);
-    }
-    if command == b"sim".as_slice() {
-        return sim_job(&parted.plain, &parted.given);
-    }
-    match parted.given.as_slice() {
-        [] => plain_job(alloc, command, &parted.plain),
-        _ => Err(WordFault::Usage),
+    match command {
+        CommandName::Fix => fix_job(alloc, plain, given),
+        CommandName::Arcs => arcs_job(alloc, plain, given),
+        CommandName::Track => track_job(alloc, plain, given),
+        CommandName::Orbit => orbit_job(alloc, plain, given),
+        CommandName::Sim => sim_job(plain, given),
+        CommandName::Zero => Ok(Job::Zero {
+            rows: one_file(alloc, plain, given)?,
+        }),
+        CommandName::List => Ok(Job::List {
+            obs: one_file(alloc, plain, given)?,
+        }),
+        CommandName::Check => Ok(Job::Check {
+            cert: one_file(alloc, plain, given)?,
+        }),
+        CommandName::Residuals => Ok(Job::Residuals {
+            cert: one_file(alloc, plain, given)?,
+        }),
+        CommandName::Migrate => Ok(Job::Migrate {
+            cert: one_file(alloc, plain, given)?,
+        }),
+        CommandName::CheckTrack => Ok(Job::CheckTrack {
+            cert: one_file(alloc, plain, given)?,
+        }),
     }
 }
 
-// The job of a command without options.
-fn plain_job(alloc: Global, command: &[u8], plain: &[Word]) -> Result<Job, WordFault>
-    requires no_arcs { command.now ≡ codes "arcs" → ⊥ }
-    requires no_fix { command.now ≡ codes "fix" → ⊥ }
-    requires no_track { command.now ≡ codes "track" → ⊥ }
-    requires no_sim { command.now ≡ codes "sim" → ⊥ }
-    ensures job { IfOk result (λ job. IsJobOf command.now plain.now [] job) }
-    ensures usage { IsErrOf result WordFault.Usage → (job : Job) → IsJobOf command.now plain.now [] job → ⊥ }
+// The file of a command that has one file and no option.
+fn one_file(alloc: Global, plain: &[Word], given: &[Given]) -> Result<Word, WordFault>
+    ensures file { IfOk result (λ file. plain.now ≡ file ∷ []) }
+    ensures no_option { OnOk result (given.now ≡ []) }
+    ensures usage { IsErrOf result WordFault.Usage → length plain.now ≡ 1 → given.now ≡ [] → ⊥ }
 {
-    match plain {
-        [file] => file_job(alloc, command, file),
-        [nav, sat, tick] => orbit_job(alloc, command, nav, sat, tick),
-        _ => Err(WordFault::Usage),
+    let [file] = plain else {
+        return Err(WordFault::Usage);
+    };
+    if !given.is_empty() {
+        return Err(WordFault::Usage);
     }
+    let file = Word::copy_of(alloc, file.as_str())?;
+    Ok(file)
 }
 
-// The job of a command with one file.
-fn file_job(alloc: Global, command: &[u8], file: &Word) -> Result<Job, WordFault>
-    ensures job { IfOk result (λ job. IsJobOf command.now (file.now ∷ []) [] job) }
-    ensures usage { IsErrOf result WordFault.Usage → (job : Job) → IsJobOf command.now (file.now ∷ []) [] job → ⊥ }
+// The files of a session.
+#[derive(Drop)]
+struct ThreeFiles {
+    base: Word,
+    rover: Word,
+    nav: Word,
+}
+
+// The files of a command that has three.
+fn three_files(alloc: Global, plain: &[Word]) -> Result<ThreeFiles, WordFault>
+    ensures files { IfOk result (λ files. plain.now ≡ files.base ∷ files.rover ∷ files.nav ∷ []) }
+    ensures usage { IsErrOf result WordFault.Usage → length plain.now ≢ 3 }
 {
-    if command == b"zero".as_slice() {
-        let rows = Word::copy_of(alloc, file.as_str())?;
-        return Ok(Job::Zero { rows });
-    }
-    if command == b"list".as_slice() {
-        let obs = Word::copy_of(alloc, file.as_str())?;
-        return Ok(Job::List { obs });
-    }
-    if command == b"check".as_slice() {
-        let cert = Word::copy_of(alloc, file.as_str())?;
-        return Ok(Job::Check { cert });
-    }
-    if command == b"residuals".as_slice() {
-        let cert = Word::copy_of(alloc, file.as_str())?;
-        return Ok(Job::Residuals { cert });
-    }
-    if command == b"migrate".as_slice() {
-        let cert = Word::copy_of(alloc, file.as_str())?;
-        return Ok(Job::Migrate { cert });
-    }
-    if command == b"check-track".as_slice() {
-        let cert = Word::copy_of(alloc, file.as_str())?;
-        return Ok(Job::CheckTrack { cert });
-    }
-    Err(WordFault::Usage)
+    let [base, rover, nav] = plain else {
+        return Err(WordFault::Usage);
+    };
+    let base = Word::copy_of(alloc, base.as_str())?;
+    let rover = Word::copy_of(alloc, rover.as_str())?;
+    let nav = Word::copy_of(alloc, nav.as_str())?;
+    Ok(ThreeFiles { base, rover, nav })
+}
+
+// The job of the command `fix`.
+fn fix_job(alloc: Global, plain: &[Word], given: &[Given]) -> Result<Job, WordFault>
+    ensures job { IfOk result (λ job. IsJobOf (name_of_command CommandName.Fix) plain.now given.now job) }
+    ensures usage { IsErrOf result WordFault.Usage → (job : Job) → IsJobOf (name_of_command CommandName.Fix) plain.now given.now job → ⊥ }
+{
+    let Some(options) = options_of(given) else {
+        return Err(WordFault::Usage);
+    };
+    let ThreeFiles { base, rover, nav } = three_files(alloc, plain)?;
+    Ok(Job::Fix {
+        base,
+        rover,
+        nav,
+        options,
+    })
+}
+
+// The job of the command `track`.
+fn track_job(alloc: Global, plain: &[Word], given: &[Given]) -> Result<Job, WordFault>
+    ensures job { IfOk result (λ job. IsJobOf (name_of_command CommandName.Track) plain.now given.now job) }
+    ensures usage { IsErrOf result WordFault.Usage → (job : Job) → IsJobOf (name_of_command CommandName.Track) plain.now given.now job → ⊥ }
+{
+    let Some(options) = options_of(given) else {
+        return Err(WordFault::Usage);
+    };
+    let ThreeFiles { base, rover, nav } = three_files(alloc, plain)?;
+    Ok(Job::Track {
+        base,
+        rover,
+        nav,
+        options,
+    })
+}
+
+// The job of the command `arcs`.
+fn arcs_job(alloc: Global, plain: &[Word], given: &[Given]) -> Result<Job, WordFault>
+    ensures job { IfOk result (λ job. IsJobOf (name_of_command CommandName.Arcs) plain.now given.now job) }
+    ensures usage { IsErrOf result WordFault.Usage → (job : Job) → IsJobOf (name_of_command CommandName.Arcs) plain.now given.now job → ⊥ }
+{
+    let Some(options) = pair_options_of(given) else {
+        return Err(WordFault::Usage);
+    };
+    let ThreeFiles { base, rover, nav } = three_files(alloc, plain)?;
+    Ok(Job::Arcs {
+        base,
+        rover,
+        nav,
+        options,
+    })
 }
 
 // The job of the command `orbit`.
-fn orbit_job(
-    alloc: Global,
-    command: &[u8],
-    nav: &Word,
-    sat: &Word,
-    tick: &Word,
-) -> Result<Job, WordFault>
-    requires no_arcs { command.now ≡ codes "arcs" → ⊥ }
-    requires no_fix { command.now ≡ codes "fix" → ⊥ }
-    requires no_track { command.now ≡ codes "track" → ⊥ }
-    requires no_sim { command.now ≡ codes "sim" → ⊥ }
-    ensures job { IfOk result (λ job. IsJobOf command.now (nav.now ∷ sat.now ∷ tick.now ∷ []) [] job) }
-    ensures usage { IsErrOf result WordFault.Usage → (job : Job) → IsJobOf command.now (nav.now ∷ sat.now ∷ tick.now ∷ []) [] job → ⊥ }
+fn orbit_job(alloc: Global, plain: &[Word], given: &[Given]) -> Result<Job, WordFault>
+    ensures job { IfOk result (λ job. IsJobOf (name_of_command CommandName.Orbit) plain.now given.now job) }
+    ensures usage { IsErrOf result WordFault.Usage → (job : Job) → IsJobOf (name_of_command CommandName.Orbit) plain.now given.now job → ⊥ }
 {
-    if command != b"orbit".as_slice() {
+    let [nav, sat, tick] = plain else {
+        return Err(WordFault::Usage);
+    };
+    if !given.is_empty() {
         return Err(WordFault::Usage);
     }
-    match satellite_of(sat.as_bytes()) {
-        Some(satellite) => orbit_at(alloc, nav, sat, satellite, tick),
-        None => Err(WordFault::Usage),
-    }
-}
-
-// The job `orbit` of a satellite that was read.
-fn orbit_at(
-    alloc: Global,
-    nav: &Word,
-    sat: &Word,
-    satellite: Satellite,
-    tick: &Word,
-) -> Result<Job, WordFault>
-    requires { IsSatellite sat.now satellite.system satellite.number }
-    ensures job { IfOk result (λ job. IsJobOf (codes "orbit") (nav.now ∷ sat.now ∷ tick.now ∷ []) [] job) }
-    ensures usage { IsErrOf result WordFault.Usage → (job : Job) → IsJobOf (codes "orbit") (nav.now ∷ sat.now ∷ tick.now ∷ []) [] job → ⊥ }
-{
-    match number_of(tick.as_bytes()) {
-        Some(ticks) => {
-            let nav = Word::copy_of(alloc, nav.as_str())?;
-            Ok(Job::Orbit {
-                nav,
-                system: satellite.system,
-                sat: satellite.number,
-                tick: Tick(ticks),
-            })
-        }
-        None => Err(WordFault::Usage),
-    }
+    let Some(satellite) = satellite_of(sat.as_bytes()) else {
+        return Err(WordFault::Usage);
+    };
+    let Some(ticks) = number_of(tick.as_bytes()) else {
+        return Err(WordFault::Usage);
+    };
+    let nav = Word::copy_of(alloc, nav.as_str())?;
+    Ok(Job::Orbit {
+        nav,
+        system: satellite.system,
+        sat: satellite.number,
+        tick: Tick(ticks),
+    })
 }
 
 // The job of the command `sim`.
 fn sim_job(plain: &[Word], given: &[Given]) -> Result<Job, WordFault>
-    ensures job { IfOk result (λ job. IsJobOf (codes "sim") plain.now given.now job) }
-    ensures usage { IsErrOf result WordFault.Usage → (job : Job) → IsJobOf (codes "sim") plain.now given.now job → ⊥ }
+    ensures job { IfOk result (λ job. IsJobOf (name_of_command CommandName.Sim) plain.now given.now job) }
+    ensures usage { IsErrOf result WordFault.Usage → (job : Job) → IsJobOf (name_of_command CommandName.Sim) plain.now given.now job → ⊥ }
 {
     match plain {
         [part, seed, epochs, sats] => sim_by_words(part, seed, epochs, sats, given),
@@ -234,9 +276,9 @@ fn sim_by_words(
     sats: &Word,
     given: &[Given],
 ) -> Result<Job, WordFault>
-    ensures job { IfOk result (λ job. IsJobOf (codes "sim") (part.now ∷ seed.now ∷ epochs.now ∷ sats.now ∷ []) given.now job) }
+    ensures job { IfOk result (λ job. IsJobOf (name_of_command CommandName.Sim) (part.now ∷ seed.now ∷ epochs.now ∷ sats.now ∷ []) given.now job) }
     ensures usage { IsErrOf result WordFault.Usage
-        → (job : Job) → IsJobOf (codes "sim") (part.now ∷ seed.now ∷ epochs.now ∷ sats.now ∷ []) given.now job → ⊥ }
+        → (job : Job) → IsJobOf (name_of_command CommandName.Sim) (part.now ∷ seed.now ∷ epochs.now ∷ sats.now ∷ []) given.now job → ⊥ }
 {
     let Some(choice) = sim_choice_of(given) else {
         return Err(WordFault::Usage);
@@ -252,70 +294,4 @@ fn sim_by_words(
         }),
         None => Err(WordFault::Usage),
     }
-}
-
-// The job of the command `fix`.
-fn fix_job(alloc: Global, plain: &[Word], given: &[Given]) -> Result<Job, WordFault>
-    ensures job { IfOk result (λ job. IsJobOf (codes "fix") plain.now given.now job) }
-    ensures usage { IsErrOf result WordFault.Usage → (job : Job) → IsJobOf (codes "fix") plain.now given.now job → ⊥ }
-{
-    let Some(options) = options_of(given) else {
-        return Err(WordFault::Usage);
-    };
-    let [base, rover, nav] = plain else {
-        return Err(WordFault::Usage);
-    };
-    let base = Word::copy_of(alloc, base.as_str())?;
-    let rover = Word::copy_of(alloc, rover.as_str())?;
-    let nav = Word::copy_of(alloc, nav.as_str())?;
-    Ok(Job::Fix {
-        base,
-        rover,
-        nav,
-        options,
-    })
-}
-
-// The job of the command `track`.
-fn track_job(alloc: Global, plain: &[Word], given: &[Given]) -> Result<Job, WordFault>
-    ensures job { IfOk result (λ job. IsJobOf (codes "track") plain.now given.now job) }
-    ensures usage { IsErrOf result WordFault.Usage → (job : Job) → IsJobOf (codes "track") plain.now given.now job → ⊥ }
-{
-    let Some(options) = options_of(given) else {
-        return Err(WordFault::Usage);
-    };
-    let [base, rover, nav] = plain else {
-        return Err(WordFault::Usage);
-    };
-    let base = Word::copy_of(alloc, base.as_str())?;
-    let rover = Word::copy_of(alloc, rover.as_str())?;
-    let nav = Word::copy_of(alloc, nav.as_str())?;
-    Ok(Job::Track {
-        base,
-        rover,
-        nav,
-        options,
-    })
-}
-
-// The job of the command `arcs`.
-fn arcs_job(alloc: Global, plain: &[Word], given: &[Given]) -> Result<Job, WordFault>
-    ensures job { IfOk result (λ job. IsJobOf (codes "arcs") plain.now given.now job) }
-    ensures usage { IsErrOf result WordFault.Usage → (job : Job) → IsJobOf (codes "arcs") plain.now given.now job → ⊥ }
-{
-    let Some(options) = pair_options_of(given) else {
-        return Err(WordFault::Usage);
-    };
-    let [base, rover, nav] = plain else {
-        return Err(WordFault::Usage);
-    };
-    let base = Word::copy_of(alloc, base.as_str())?;
-    let rover = Word::copy_of(alloc, rover.as_str())?;
-    let nav = Word::copy_of(alloc, nav.as_str())?;
-    Ok(Job::Arcs {
-        base,
-        rover,
-        nav,
-        options,
-    })
 }

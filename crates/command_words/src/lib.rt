@@ -9,6 +9,7 @@
 #![tactic(auto)]
 
 mod choices;
+mod command_name;
 mod fault;
 mod jobs;
 mod numbers;

@@ -2,20 +2,13 @@
 ghost use Rattle.std.specs.Prelude.{◌≡◌, [], IfOk, map};
 ghost use Rattle.clap.specs.Simple.{app_of, with_rule, with_subcommand};
 ghost use Rattle.command_words.specs.Commands.{app_with, bare_app, command_shape, option_rule, word_rule};
+ghost use Rattle.command_words.specs.Settings.{name_of};
 ghost use Rattle.command_words.specs.Split.{commands};
 
+use crate::command_name::CommandName;
+use crate::settings::Setting;
 use clap::{Arg, ArgAction, Command};
 use std::alloc::{AllocError, Global};
-
-static SIGNAL_OPTIONS: [&str; 2] = ["bands", "system"];
-
-static PAIR_OPTIONS: [&str; 9] = [
-    "mask", "gap", "jump", "arc", "step", "first", "count", "bands", "system",
-];
-
-static ALL_OPTIONS: [&str; 11] = [
-    "ratio", "budget", "mask", "gap", "jump", "arc", "step", "first", "count", "bands", "system",
-];
 
 // The command with one option more, which may be given again and has one value each time.
 fn with_option<'a>(
@@ -43,13 +36,13 @@ fn with_words<'a>(alloc: Global, command: Command<'a>) -> Result<Command<'a>, Al
 fn command_with<'a>(
     alloc: Global,
     name: &'a str,
-    options: &[&'a str],
+    settings: &[Setting],
 ) -> Result<Command<'a>, AllocError>
-    ensures { IfOk result (λ c. app_of c ≡ record { top = command_shape name.now (map (λ o. o.now) options.now); subs = [] }) }
+    ensures { IfOk result (λ c. app_of c ≡ record { top = command_shape name.now (map name_of settings.now); subs = [] }) }
 {
     let mut command = Command::new(alloc, name);
-    for option in options {
-        command = with_option(alloc, command, *option)?;
+    for setting in settings {
+        command = with_option(alloc, command, setting.name())?;
     }
     with_words(alloc, command)
 }
@@ -59,11 +52,11 @@ fn with_command<'a>(
     alloc: Global,
     program: Command<'a>,
     name: &'a str,
-    options: &[&'a str],
+    settings: &[Setting],
 ) -> Result<Command<'a>, AllocError>
-    ensures { IfOk result (λ c. app_of c ≡ with_subcommand (app_of program.entry) (command_shape name.now (map (λ o. o.now) options.now))) }
+    ensures { IfOk result (λ c. app_of c ≡ with_subcommand (app_of program.entry) (command_shape name.now (map name_of settings.now))) }
 {
-    let command = command_with(alloc, name, options)?;
+    let command = command_with(alloc, name, settings)?;
     program.subcommand(command)
 }
 
@@ -83,16 +76,9 @@ fn bare_program<'a>(alloc: Global) -> Command<'a>
 pub fn program<'a>(alloc: Global) -> Result<Command<'a>, AllocError>
     ensures { IfOk result (λ c. app_of c ≡ app_with commands) }
 {
-    let program = bare_program(alloc);
-    let program = with_command(alloc, program, "fix", ALL_OPTIONS.as_slice())?;
-    let program = with_command(alloc, program, "arcs", PAIR_OPTIONS.as_slice())?;
-    let program = with_command(alloc, program, "check", &[])?;
-    let program = with_command(alloc, program, "residuals", &[])?;
-    let program = with_command(alloc, program, "zero", &[])?;
-    let program = with_command(alloc, program, "list", &[])?;
-    let program = with_command(alloc, program, "orbit", &[])?;
-    let program = with_command(alloc, program, "sim", SIGNAL_OPTIONS.as_slice())?;
-    let program = with_command(alloc, program, "migrate", &[])?;
-    let program = with_command(alloc, program, "track", ALL_OPTIONS.as_slice())?;
-    with_command(alloc, program, "check-track", &[])
+    let mut program = bare_program(alloc);
+    for command in CommandName::ALL {
+        program = with_command(alloc, program, command.name(), command.settings())?;
+    }
+    Ok(program)
 }

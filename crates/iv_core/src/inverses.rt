@@ -30,6 +30,7 @@ pub struct Inverse {
 
 impl Inverse {
     /// About a · 2^shift over the number, if that isn't too large.
+    /// Nothing is claimed of the result: it is a guess, which `floor_near` tests at run time.
     pub fn quotient(&self, a: i64, shift: u32) -> i64 {
         let down = 64u32.saturating_sub(shift).saturating_sub(self.bits);
         share(a << 1, self.value) >> down.min(63)
@@ -45,6 +46,7 @@ pub struct Inverses {
 
 impl Inverses {
     /// About the inverses of two numbers of the same sign.
+    /// Nothing is claimed of the result: it only leads to guesses, which are tested at run time.
     pub fn of(lo: i64, hi: i64) -> Inverses {
         let near = lo.unsigned_abs().min(hi.unsigned_abs());
         let far = lo.unsigned_abs().max(hi.unsigned_abs());

@@ -4,7 +4,6 @@ use Rattle.clap.specs.Matches.{found_of}
 use Rattle.clap.specs.Walk.{Text, rows_of}
 use Rattle.command_words.specs.declared.jobs.Job.{Job}
 use Rattle.command_words.specs.declared.fault.WordFault.TheVariants.{Usage}
-use Rattle.command_words.specs.Commands.{values_in, word_id}
 use Rattle.command_words.specs.Words.{IsJobOf, texts_of}
 use Rattle.command_words.proofs.OneJob.{in_range}
 use Rattle.command_words.proofs.ReadLaws.{err_is, is_job, no_numbers, not_asked_so, not_split}
@@ -22,8 +21,7 @@ returns-clause-job c =
     let rows = rows_of (found_of c.in_ok-line.line.matches) in
     let given = c.in_ok-parted.parted.given.items in
     IfOk-weaker c.job_of.result _ _ (λ j asked. is_job (texts_of c.args.words.now) command rows given c.in_ok-line.ensures.ok c.in_ok-parted.ensures.given j
-    (subst (λ (name : Text). IsJobOf name (values_in word_id rows) given j) c.as_bytes.ensures.value
-    (subst (λ (ws : List Text). IsJobOf c.as_bytes.result.now ws given j) c.in_ok-parted.ensures.plain asked))) c.job_of.ensures.job
+    (subst (λ (ws : List Text). IsJobOf command ws given j) c.in_ok-parted.ensures.plain asked)) c.job_of.ensures.job
 
 pub returns-clause-range : goal.returns-clause-range
 returns-clause-range c = IfOk-weaker c.job_of.result _ _ (λ j asked. in_range _ _ _ j asked) c.job_of.ensures.job
@@ -34,8 +32,7 @@ returns-clause-usage c = λ is.
     let rows = rows_of (found_of c.in_ok-line.line.matches) in
     let given = c.in_ok-parted.parted.given.items in
     not_asked_so (texts_of c.args.words.now) command rows given c.in_ok-line.ensures.ok c.in_ok-parted.ensures.given
-    (subst (λ (name : Text). (j : Job) → IsJobOf name (values_in word_id rows) given j → ⊥) c.as_bytes.ensures.value
-    (subst (λ (ws : List Text). (j : Job) → IsJobOf c.as_bytes.result.now ws given j → ⊥) c.in_ok-parted.ensures.plain (c.job_of.ensures.usage is)))
+    (subst (λ (ws : List Text). (j : Job) → IsJobOf command ws given j → ⊥) c.in_ok-parted.ensures.plain (c.job_of.ensures.usage is))
 
 pub returns-in_err-parted-clause-usage : goal.returns-in_err-parted-clause-usage
 returns-in_err-parted-clause-usage c = λ is.

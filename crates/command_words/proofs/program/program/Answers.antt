@@ -1,30 +1,23 @@
-use Rattle.std.proofs.Common.{◌≡◌, ◌∙◌, List, [], ap, ap₂, codes, map}
-use Rattle.std.proofs.lemmas.Result.{IfOk-weaker}
+use Rattle.std.proofs.Common.{rules, ◌<◌, ◌∙◌, List, ap, ap₂, fold, get_or, length, map, sym, take_all}
+use Rattle.std.proofs.lemmas.List.Sums.{fold_more}
 use Rattle.clap.specs.Simple.{App, app_of, with_subcommand}
-use Rattle.std.specs.Borrow.{Bor}
 use Rattle.clap.specs.Walk.{Text}
+use Rattle.command_words.specs.declared.command_name.CommandName.{CommandName}
+use Rattle.command_words.specs.declared.command_name.CommandName.TheVariants as command_name
+use Rattle.command_words.specs.declared.settings.Setting.{Setting}
 use Rattle.command_words.specs.Commands.{bare_app, command_shape}
-use Rattle.command_words.specs.Split.{all_options, pair_options, signal_options}
+use Rattle.command_words.specs.Settings.{name_of}
+use Rattle.command_words.specs.Split.{all_commands}
+use Rattle.command_words.proofs.ProgramLaws.{with_one}
 use Rattle.command_words.proofs.program.program.Goals as goal
 
-abbrev with_one : Text → List Text → App → App
-with_one name options a = with_subcommand a (command_shape name options)
+pub loop-command-preserved : goal.loop-command-preserved
+loop-command-preserved c =
+    let lt : c.loop-command.command-index < length all_commands = search rules in
+    c.in_ok-program.ensures
+    ∙ ap₂ (λ (name : Text) (settings : List Setting). with_subcommand (app_of c.loop-command.program) (command_shape name (map name_of settings))) c.name.ensures c.settings.ensures
+    ∙ ap (λ (a : App). with_one a (get_or all_commands c.loop-command.command-index command_name.Fix)) c.loop-command.invariant
+    ∙ sym (fold_more with_one bare_app all_commands c.loop-command.command-index command_name.Fix lt)
 
 pub returns : goal.returns
-returns c =
-    let all : map (λ o. o.now) c.as_slice.result.now ≡ all_options = ap (λ (os : List (Bor Text)). map (λ o. o.now) os) c.as_slice.ensures in
-    let pairs : map (λ o. o.now) c.as_slice-2.result.now ≡ pair_options = ap (λ (os : List (Bor Text)). map (λ o. o.now) os) c.as_slice-2.ensures in
-    let signals : map (λ o. o.now) c.as_slice-3.result.now ≡ signal_options = ap (λ (os : List (Bor Text)). map (λ o. o.now) os) c.as_slice-3.ensures in
-    let fix : app_of c.in_ok-program.program ≡ with_one (codes "fix") all_options bare_app =
-    c.in_ok-program.ensures ∙ ap₂ (λ (a : App) (os : List Text). with_one (codes "fix") os a) c.bare_program-program.ensures all in
-    let arcs = c.in_ok-program-2.ensures ∙ ap₂ (λ (a : App) (os : List Text). with_one (codes "arcs") os a) fix pairs in
-    let check = c.in_ok-program-3.ensures ∙ ap (λ (a : App). with_one (codes "check") [] a) arcs in
-    let residuals = c.in_ok-program-4.ensures ∙ ap (λ (a : App). with_one (codes "residuals") [] a) check in
-    let zero = c.in_ok-program-5.ensures ∙ ap (λ (a : App). with_one (codes "zero") [] a) residuals in
-    let list = c.in_ok-program-6.ensures ∙ ap (λ (a : App). with_one (codes "list") [] a) zero in
-    let orbit = c.in_ok-program-7.ensures ∙ ap (λ (a : App). with_one (codes "orbit") [] a) list in
-    let sim = c.in_ok-program-8.ensures ∙ ap₂ (λ (a : App) (os : List Text). with_one (codes "sim") os a) orbit signals in
-    let migrate = c.in_ok-program-9.ensures ∙ ap (λ (a : App). with_one (codes "migrate") [] a) sim in
-    let again : map (λ o. o.now) c.as_slice-4.result.now ≡ all_options = ap (λ (os : List (Bor Text)). map (λ o. o.now) os) c.as_slice-4.ensures in
-    let track = c.in_ok-program-10.ensures ∙ ap₂ (λ (a : App) (os : List Text). with_one (codes "track") os a) migrate again in
-    IfOk-weaker c.with_command-11.result _ _ (λ r h. h ∙ ap (λ (a : App). with_one (codes "check-track") [] a) track) c.with_command-11.ensures
+returns c = c.loop-command.invariant ∙ ap (λ (cs : List CommandName). fold with_one bare_app cs) (take_all c.loop-command.command-index all_commands (search rules))
