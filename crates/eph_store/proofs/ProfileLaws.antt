@@ -44,15 +44,11 @@ pub is_some_whole : (r : Option ℕ) (d : Dec) (most : ℕ) → MatchOption r ((
 is_some_whole None d most h (n, small, is) = absurd (h n small is)
 is_some_whole (Some m) d most h is = refl
 
--- what a usable record's numbers are
-in_range : (raw : Raw) (k : ℕ) → IsUsable raw → k < 21 → InRange (get_or fields_in_order k Week) raw
-in_range raw k u h = u.profile k Week h
-
-pub toe_in_range : (raw : Raw) → IsUsable raw → (n : ℕ) × (n ≤ 604799) × IsWhole raw.toe_s n
-toe_in_range raw u = in_range raw 1 u (omega arith)
-
 pub usable_range : (raw : Raw) (k : ℕ) → IsUsable raw → k < 21 → InRange (get_or fields_in_order k Week) raw
 usable_range raw k u h = u.profile k Week h
+
+pub toe_in_range : (raw : Raw) → IsUsable raw → (n : ℕ) × (n ≤ 604799) × IsWhole raw.toe_s n
+toe_in_range raw u = usable_range raw 1 u (omega arith)
 
 -- the place of the first number out of its range
 pub out_at : (raw : Raw) (fields : List Field) (i : ℕ) (d : Field) → i < length fields → All (λ f. InRange f raw) (take i fields)

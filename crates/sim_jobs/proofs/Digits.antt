@@ -1,15 +1,15 @@
 -- Digits as they are written.
 use Rattle.std.proofs.Common.{◌≡◌, ℕ, zero, suc, ◌+◌, ◌-◌, ◌*◌, ◌/◌, ◌%◌, ◌^◌, ◌<◌, true, nat_le, List, [], ◌∷◌, ◌++◌, length, refl, sym, ap, ◌∙◌, arith, rules, pow-suc, add-mul}
+use Rattle.std.proofs.lemmas.Bool.{and_parts}
 use Rattle.std.specs.Prelude.{decimal}
 use Rattle.std.proofs.lemmas.Bool.Decides.{nat_tests}
 use Rattle.std.proofs.lemmas.Fmt.{digits_decimal, digits_value-decimal}
 use Rattle.std.proofs.lemmas.Str.Parse.{IsNumeralModel, numerals_by_fold}
+use Rattle.std.proofs.Math.Nat.{div-div-eq-div-mul, div-eq_of_lt, mul_assoc, mul_comm}
 use Rattle.decimal_text.specs.Whole.{is_digit, are_digits, number_from, digit_sum}
 use Rattle.decimal_text.specs.Write.{last_digits}
 use Rattle.decimal_text.proofs.Numbers.{digits_are, number_from-sum}
 use Rattle.sim_jobs.specs.Printed.{are_printed}
-use Rattle.sim_jobs.proofs.Printed.{first_and, second_and}
-use Rattle.std.proofs.Math.Nat.{div-div-eq-div-mul, div-eq_of_lt, mul_assoc, mul_comm}
 
 own : IsNumeralModel (λ ds. are_digits ds ≡ true) (number_from 0)
 own = numerals_by_fold _ (search rules) number_from (search rules)
@@ -59,7 +59,7 @@ last_digits-value k n few =
 
 pub digits_printed : (ds : List ℕ) → are_digits ds ≡ true → are_printed ds ≡ true
 digits_printed [] is = refl
-digits_printed (d ∷ ds) is = rw (printed d (first_and (is_digit d) (are_digits ds) is)) (digits_printed ds (second_and (is_digit d) (are_digits ds) is))
+digits_printed (d ∷ ds) is = rw (printed d (and_parts (is_digit d) (are_digits ds) is).0) (digits_printed ds (and_parts (is_digit d) (are_digits ds) is).1)
   where
     printed : (d : ℕ) → is_digit d ≡ true → nat_le 32 d ≡ true
     printed d is = grind (arith, nat_tests)
@@ -67,6 +67,9 @@ digits_printed (d ∷ ds) is = rw (printed d (first_and (is_digit d) (are_digits
 number_from-append : (n : ℕ) (xs ys : List ℕ) → number_from n (xs ++ ys) ≡ number_from (number_from n xs) ys
 number_from-append n [] ys = refl
 number_from-append n (x ∷ xs) ys = number_from-append (10 * n + (x - 48)) xs ys
+
+pub printed_digits : (k n : ℕ) → are_printed (last_digits k n) ≡ true
+printed_digits k n = digits_printed (last_digits k n) (last_digits-digits k n)
 
 pub sum-append : (xs ys : List ℕ) → digit_sum (xs ++ ys) ≡ digit_sum xs * 10 ^ length ys + digit_sum ys
 sum-append xs ys =

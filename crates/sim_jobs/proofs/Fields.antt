@@ -1,5 +1,6 @@
 -- Fields of a written line, and the bytes in its columns.
 use Rattle.std.proofs.Common.{◌≡◌, ℕ, zero, suc, ◌+◌, ◌^◌, ◌<◌, true, false, ◌==◌, List, [], ◌∷◌, ◌++◌, length, drop, get_or, Ok, Some, refl, ap, subst, ◌∙◌, arith}
+use Rattle.std.proofs.lemmas.Bool.{and_parts}
 use Rattle.std.proofs.lemmas.Bool.Decides.{nat_tests}
 use Rattle.std.proofs.lemmas.List.{append-nil}
 use Rattle.decimal_text.specs.Whole.{is_digit, are_digits}
@@ -7,7 +8,6 @@ use Rattle.decimal_text.specs.Write.{last_digits}
 use Rattle.decimal_text.proofs.Numbers.{digits_are}
 use Rattle.rinex_head.specs.Columns.{padded}
 use Rattle.rinex_head.specs.Fields.{without_blanks, digits_of, whole_of}
-use Rattle.sim_jobs.proofs.Printed.{first_and}
 use Rattle.sim_jobs.proofs.Digits.{last_digits-digits, last_digits-value}
 
 not_blank : (d : ℕ) → is_digit d ≡ true → (d == 32) ≡ false
@@ -15,7 +15,7 @@ not_blank d is = grind (arith, nat_tests)
 
 pub no_blanks : (ds : List ℕ) → are_digits ds ≡ true → without_blanks ds ≡ ds
 no_blanks [] is = refl
-no_blanks (d ∷ ds) is = rw (not_blank d (first_and (is_digit d) (are_digits ds) is)) refl
+no_blanks (d ∷ ds) is = rw (not_blank d (and_parts (is_digit d) (are_digits ds) is).0) refl
 
 -- the digits of a number are read as it
 pub whole_digits : (first k n : ℕ) → n < 10 ^ suc k → whole_of first (last_digits (suc k) n) ≡ Ok (Some n)

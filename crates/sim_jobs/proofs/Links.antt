@@ -5,7 +5,8 @@ use Rattle.std.proofs.lemmas.Bool.{cases_lt, cases_eq}
 use Rattle.std.proofs.lemmas.Option.{none-some, same_Some}
 use Rattle.obs_rows.specs.declared.arcs.Arc.{Arc}
 use Rattle.slip_arcs.specs.Linked.{AreNeighbours, IsChain, AreLinked, HaveDatums}
-use Rattle.sim_jobs.specs.Matches.{IsDatumOf, AreInOrder, AreMarked}
+use Rattle.slip_arcs.proofs.Chains.{IsFresh, share_first, chain_stays}
+use Rattle.sim_jobs.specs.Matches.{IsDatumOf, AreMarked}
 
 -- ---- links go both ways, and one after another
 neighbours_back : (arcs : List Arc) (k m : ℕ) → AreNeighbours arcs k m → AreNeighbours arcs m k
@@ -56,28 +57,6 @@ there_from (x ∷ xs) zero k a is low = (x, refl)
 there_from (x ∷ xs) (suc n) zero a is low = absurd (omega arith)
 there_from (x ∷ xs) (suc n) (suc k) a is low = there_from xs n k a is (omega arith)
 
--- from an arc before which all end no chain leads to an earlier one
-abbrev pub IsFresh : List Arc → ℕ → Arc → Type 0
-IsFresh arcs k a = (m : ℕ) (b : Arc) → m < k → slice_get arcs m ≡ Some b → b.last < a.first
-
-chain_stays : (arcs : List Arc) (k : ℕ) (a : Arc) → AreInOrder arcs → slice_get arcs k ≡ Some a → IsFresh arcs k a → (path : List ℕ) (j n : ℕ) → k ≤ j → IsChain arcs j path n → k ≤ n
-chain_stays arcs k a order is fresh [] j n from chain = let e = chain in omega arith
-chain_stays arcs k a order is fresh (m ∷ ms) j n from chain =
-    let near = chain.0 in
-    let share = near.share in
-    let low : a.first ≤ near.one.first =
-    ⊎_elim (λ (same : k ≡ j).
-    let one : Some a ≡ Some near.one = sym is ∙ ap (λ (i : ℕ). slice_get arcs i) same ∙ near.one_is in
-    subst (λ (b : Arc). a.first ≤ b.first) (same_Some a near.one one) (omega arith))
-    (λ (other : k ≡ j → ⊥). order.rising k j a near.one (omega arith) is near.one_is) (cases_eq k j) in
-    let next : k ≤ m =
-    ⊎_elim (λ (less : m < k).
-    let l : near.other.last < a.first = fresh m near.other less near.other_is in
-    let p = share.1 in
-    let q = share.4 in
-    absurd (omega arith)) (λ (more : k ≤ m). more) (cases_lt m k) in
-    chain_stays arcs k a order is fresh ms m n next chain.1
-
 -- an earlier arc that ends no earlier than this begins
 pub record Reaches (arcs : List Arc) (k : ℕ) (a : Arc) : Type 0 where
   pub place : ℕ
@@ -111,18 +90,9 @@ reached : (arcs : List Arc) (k : ℕ) (a : Arc) → AreMarked arcs → slice_get
 reached arcs k a marked is free =
     ⊎_elim (λ (found : Reaches arcs k a). found)
     (λ (none : IsFresh arcs k a).
-    let on : IsTrue a.datum = (marked.datums k a is).1 (λ n linked. chain_stays arcs k a marked.order is none linked.0 k n (omega arith) linked.1) in
+    let on : IsTrue a.datum = (marked.datums k a is).1 (λ n linked. chain_stays arcs k a marked.order.rising is none linked.0 k n (omega arith) linked.1) in
     absurd (cc (on, free)))
     (reaches_or_not arcs k k a is (omega arith))
-
-share_first : (arcs : List Arc) (k m : ℕ) (a b : Arc) → AreInOrder arcs → slice_get arcs k ≡ Some a → slice_get arcs m ≡ Some b → m < k → a.first ≤ b.last → AreNeighbours arcs k m
-share_first arcs k m a b order is also before reaches = record {
-  one = a;
-  other = b;
-  one_is = is;
-  other_is = also;
-  share = (a.first, omega arith, order.forward k a is, order.rising m k b a before also is, reaches);
-}
 
 -- a chain from arc k back to the datum d, over at most `bound` arcs
 linked_to : (bound : ℕ) (arcs : List Arc) (d k : ℕ) (e a : Arc) → AreMarked arcs → slice_get arcs d ≡ Some e → IsTrue e.datum → slice_get arcs k ≡ Some a → d ≤ k → k ≤ bound
@@ -134,13 +104,13 @@ linked_to (suc bound) arcs d k e a marked at datum is low high none =
     let less : d < k = omega arith in
     let r : Reaches arcs k a = reached arcs k a marked is (none k a less (omega arith) is) in
     let m : ℕ = r.place in
-    let near : AreNeighbours arcs k m = share_first arcs k m a r.arc marked.order is r.is r.before r.reaches in
+    let near : AreNeighbours arcs k m = share_first arcs k m a r.arc marked.order.rising (marked.order.forward k a is) is r.is r.before r.reaches in
     let below : d ≤ m =
     ⊎_elim
     (λ (earlier : m < d).
     let rise : e.first ≤ a.first = marked.order.rising d k e a less at is in
     let reach : a.first ≤ r.arc.last = r.reaches in
-    let with : AreNeighbours arcs d m = share_first arcs d m e r.arc marked.order at r.is earlier (omega (arith, rise, reach)) in
+    let with : AreNeighbours arcs d m = share_first arcs d m e r.arc marked.order.rising (marked.order.forward d e at) at r.is earlier (omega (arith, rise, reach)) in
     let first : d ≤ m = (marked.datums d e at).0 datum m (linked_next arcs d m with) in
     first)
     (λ (more : d ≤ m). more) (cases_lt m d) in

@@ -1,5 +1,5 @@
 -- The simulated texts are there, are files, and aren't refused together.
-use Rattle.std.proofs.Common.{◌≡◌, ◌∙◌, inl, ℕ, zero, suc, ◌+◌, ◌*◌, ◌^◌, ◌<◌, ◌≤◌, Bool, true, false, ◌==◌, nat_le, if◌then◌else◌, pos, ◌≤ℤ◌, List, [], ◌∷◌, length, slice_index, Option, Some, IfSome, codes, refl, sym, ap, subst, arith}
+use Rattle.std.proofs.Common.{◌≡◌, ◌∙◌, inl, ℕ, zero, suc, ◌+◌, ◌*◌, ◌^◌, ◌<◌, ◌≤◌, Bool, true, false, ◌==◌, if◌then◌else◌, pos, ◌≤ℤ◌, List, [], ◌∷◌, length, slice_index, Option, Some, IfSome, codes, refl, sym, ap, subst, arith}
 use Rattle.std.proofs.Math.Nat.{mul-add}
 use Rattle.std.proofs.lemmas.Bool.{eqb-true}
 use Rattle.std.proofs.lemmas.Int.{ints}
@@ -21,7 +21,7 @@ use Rattle.sim_session.specs.Observations.{step_of}
 use Rattle.sim_session.specs.Texts.{has_l5, tracking_of, IsBaseText, IsRoverText, IsNavigationText}
 use Rattle.sim_jobs.specs.NavRecords.{raws_of}
 use Rattle.sim_jobs.specs.ObsFiles.{epochs_of, file_of}
-use Rattle.sim_jobs.proofs.TextReadings.{base_reads, rover_reads, navigation_reads}
+use Rattle.sim_jobs.proofs.TextReadings.{base_reads, rover_reads, navigation_reads, step_some}
 use Rattle.run_options.specs.declared.options.Options.{Options}
 use Rattle.run_options.specs.Defaults.{Numbers}
 use Rattle.obs_rows.specs.declared.band_sets.TheConstants.{BANDS_L1_L5}
@@ -155,13 +155,6 @@ first_at t step values m inside = tag_at t step 0 values m inside ∙ ap (λ (n 
 
 apart : (t : Tracking) (step : ℕ) (values : List (List made.Signals)) → 0 < step → AreApart 100000 (tags_of (epochs_of t step 0 values))
 apart t step values some = λ m inside. far_apart step m _ _ some (first_at t step values m (omega (arith, inside))) (first_at t step values (m + 1) inside)
-
-step_some : (epochs : ℕ) → 0 < step_of epochs
-step_some epochs = by (nat_le epochs 240)
-  where
-    by : (t : Bool) → 0 < (if t then 30 else 2)
-    by true = omega arith
-    by false = omega arith
 
 sparse : (t : Tracking) (epochs gap : ℕ) (base rover : List (List made.Signals)) → gap ≡ 100000 → AreSparse gap (file_of t (step_of epochs) base) (file_of t (step_of epochs) rover)
 sparse t epochs gap base rover small = subst (λ (g : ℕ). AreSparse g (file_of t (step_of epochs) base) (file_of t (step_of epochs) rover)) (sym small)

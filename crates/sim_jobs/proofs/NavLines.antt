@@ -12,15 +12,12 @@ use Rattle.sim_session.specs.Numbers.{sign_or, number_text}
 use Rattle.sim_session.specs.Navigation.{first_line, further_line}
 use Rattle.sim_jobs.specs.Printed.{are_printed}
 use Rattle.sim_jobs.proofs.Printed.{printed-append, line_first}
-use Rattle.sim_jobs.proofs.Digits.{last_digits-digits, digits_printed}
+use Rattle.sim_jobs.proofs.Digits.{printed_digits}
 use Rattle.sim_jobs.proofs.NavNumbers.{HasRoom, number_again}
 
 -- ---- printed bytes
 printed_cons : (b : ℕ) (bs : List ℕ) → nat_le 32 b ≡ true → are_printed bs ≡ true → are_printed (b ∷ bs) ≡ true
 printed_cons b bs p q = rw p q
-
-printed_digits : (k n : ℕ) → are_printed (last_digits k n) ≡ true
-printed_digits k n = digits_printed (last_digits k n) (last_digits-digits k n)
 
 printed_sign : (other : ℕ) (z : ℤ) → nat_le 32 other ≡ true → nat_le 32 (sign_or other z) ≡ true
 printed_sign other (pos n) p = p

@@ -1,5 +1,6 @@
 -- A record's lines give its numbers.
 use Rattle.std.proofs.Common.{◌≡◌, ℕ, ℤ, pos, negsuc, zero, suc, ◌+◌, ◌^◌, ◌≤◌, ◌<◌, ◌-ℤ◌, ◌*ℤ◌, ◌≤ℤ◌, Bool, ◌&&◌, true, nat_le, List, [], ◌∷◌, ◌++◌, Ok, Some, unsigned_abs, refl, sym, ap, ◌∙◌, arith}
+use Rattle.std.proofs.lemmas.Bool.{and_parts}
 use Rattle.std.proofs.lemmas.Bool.Decides.{nat_tests}
 use Rattle.std.proofs.lemmas.List.{append_assoc}
 use Rattle.std.proofs.lemmas.List.Elements.{All-from_recursion}
@@ -18,7 +19,6 @@ use Rattle.rinex_nav.specs.RecordLines.{satellite_of, satellite_in, moment_of, t
 use Rattle.rinex_nav.specs.NavForm.{EightLines, further_of, IsFurther, IsRecord}
 use Rattle.sim_session.specs.Satellites.{IsSatellite, AreNormal, anomalies, longitudes, anomaly, node, root_a_tenths}
 use Rattle.sim_session.specs.Navigation.{zero_number, second_number, week_number, first_line, further_line, record_text}
-use Rattle.sim_jobs.proofs.Printed.{first_and, second_and}
 use Rattle.sim_jobs.proofs.Fields.{whole_digits}
 use Rattle.sim_jobs.proofs.Dates.{moment_is, ticks_are}
 use Rattle.sim_jobs.specs.NavRecords.{raw_of}
@@ -115,11 +115,11 @@ ten_at [] k all = nothing k
     nothing : (k : ℕ) → unsigned_abs (slice_index_or [] k (pos 0)) ≤ 9
     nothing zero = omega arith
     nothing (suc k) = omega arith
-ten_at (z ∷ zs) zero all = at_most (unsigned_abs z) (first_and (nat_le (unsigned_abs z) 9) (in_ten zs) all)
+ten_at (z ∷ zs) zero all = at_most (unsigned_abs z) (and_parts (nat_le (unsigned_abs z) 9) (in_ten zs) all).0
   where
     at_most : (n : ℕ) → nat_le n 9 ≡ true → n ≤ 9
     at_most n is = grind (arith, nat_tests)
-ten_at (z ∷ zs) (suc k) all = ten_at zs k (second_and (nat_le (unsigned_abs z) 9) (in_ten zs) all)
+ten_at (z ∷ zs) (suc k) all = ten_at zs k (and_parts (nat_le (unsigned_abs z) 9) (in_ten zs) all).1
 
 anomalies_are : in_ten anomalies ≡ true
 unfolding in_ten

@@ -1,29 +1,20 @@
 -- The numbers of made satellites have room in their columns.
 use Rattle.std.proofs.Common.{◌≡◌, ℕ, ℤ, pos, negsuc, zero, suc, ◌*◌, ◌^◌, ◌≤◌, ◌<◌, ◌+ℤ◌, ◌*ℤ◌, ◌≤ℤ◌, ◌⊎◌, inl, inr, unsigned_abs, Bool, true, false, nat_le, lit<, refl, sym, ap, ◌∙◌, arith}
+use Rattle.std.proofs.lemmas.Nat.{mul-le}
 use Rattle.std.proofs.lemmas.Int.{ints, unsigned_abs-mul}
 use Rattle.std.proofs.lemmas.Bool.Decides.{nat_tests}
-use Rattle.std.proofs.Math.Nat.{one-le-pow, pow-le-pow_right, mul-le-mul_right, le-mul_of_pos_right, zero-lt-suc, mul_comm}
+use Rattle.std.proofs.Math.Nat.{pow-le-pow_right, mul-le-mul_right}
 use Rattle.rational.specs.Rational.{◌≈◌}
 use Rattle.eph_store.specs.Decimals.{decimal, with_exponent, value_of}
 use Rattle.decimal_text.specs.Whole.{size_of}
 use Rattle.decimal_text.specs.declared.exponent.Dec.{Dec}
 use Rattle.sim_session.specs.Numbers.{IsNormal}
 use Rattle.sim_jobs.proofs.NavNumbers.{HasRoom}
-
-size_is : (z : ℤ) → size_of z ≡ unsigned_abs z
-size_is (pos n) = refl
-size_is (negsuc n) = refl
+use Rattle.sim_jobs.proofs.OneSpelling.{size_is, ten, at_least}
 
 sized : (z : ℤ) → negsuc 98 ≤ℤ z → z ≤ℤ pos 99 → size_of z < 10 ^ 2
 sized (pos n) low high = omega (arith, ints)
 sized (negsuc n) low high = omega (arith, ints)
-
-at_least : (a b : ℕ) → 1 ≤ b → a ≤ a * b
-at_least a zero some = absurd (omega arith)
-at_least a (suc b) some = le-mul_of_pos_right a (zero-lt-suc b)
-
-ten : (k : ℕ) → 1 ≤ 10 ^ k
-ten k = one-le-pow k 10 (lit< tt)
 
 -- a positive exponent would make the number too large
 no_positive : (mant n : ℤ) (m p : ℕ) → 10 ^ 12 ≤ size_of mant → unsigned_abs n < 10 ^ 6 → (mant *ℤ pos (10 ^ m)) *ℤ pos (10 ^ p) ≡ n *ℤ pos 1 → ⊥
@@ -36,12 +27,6 @@ no_positive mant n m p low small same =
     let two = at_least (unsigned_abs mant * 10 ^ m) (10 ^ p) (ten p) in
     let abs = size_is mant in
     omega arith
-
-product_below : (a b c d : ℕ) → a ≤ c → b ≤ d → a * b ≤ c * d
-product_below a b c d h k =
-    let one : a * b ≤ c * b = mul-le-mul_right b h in
-    let two : b * c ≤ d * c = mul-le-mul_right c k in
-    omega (arith, mul_comm b c, mul_comm d c)
 
 not_far : (m : ℕ) → (33 ≤ m → ⊥) → m < 33
 not_far m fails = by_test (nat_le 33 m) refl
@@ -61,7 +46,7 @@ few_places mant n m p low high places same = by (unsigned_abs n) refl
     above m far = let more : 34 ≤ suc m = omega arith in pow-le-pow_right (lit< tt) more
 
     left : unsigned_abs mant * 10 ^ p ≤ 10 ^ 13 * 10 ^ 20
-    left = let abs = size_is mant in product_below (unsigned_abs mant) (10 ^ p) (10 ^ 13) (10 ^ 20) (omega arith) (pow-le-pow_right (lit< tt) places)
+    left = let abs = size_is mant in mul-le (unsigned_abs mant) (10 ^ p) (10 ^ 13) (10 ^ 20) (omega arith) (pow-le-pow_right (lit< tt) places)
 
     some : 10 ^ 12 ≤ unsigned_abs mant * 10 ^ p
     some = let abs = size_is mant in let more = at_least (unsigned_abs mant) (10 ^ p) (ten p) in omega arith

@@ -34,8 +34,9 @@ use Rattle.sim_jobs.proofs.Printed.{printed-append, line_first}
 use Rattle.sim_jobs.proofs.Fields.{drop-behind, get-behind, padded-front, padded-whole, whole_digits}
 use Rattle.sim_jobs.proofs.Dates.{moment_is, ticks_are}
 use Rattle.sim_jobs.specs.ObsFiles.{system_in, values_of, satellites_of, tick_at, epochs_of, HaveRoom}
-use Rattle.sim_jobs.proofs.ObsTexts.{printed_digits, printed_fixed, fixed_is, count_is}
+use Rattle.sim_jobs.proofs.ObsTexts.{printed_fixed, fixed_is, count_is}
 use Rattle.sim_jobs.proofs.ObsSatellites.{content, line_read, short, the_kept, AreBelow, none_below, more_below, read_as}
+use Rattle.sim_jobs.proofs.Digits.{printed_digits}
 
 -- ---- an epoch's line
 second_text : ℕ → List ℕ

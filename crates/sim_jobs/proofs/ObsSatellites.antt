@@ -28,8 +28,8 @@ use Rattle.sim_session.specs.Tracked.{system_letter, amounts_of}
 use Rattle.sim_jobs.specs.Printed.{are_printed}
 use Rattle.sim_jobs.proofs.Printed.{printed-append, line_first}
 use Rattle.sim_jobs.specs.ObsFiles.{system_in, types_of, values_of}
-use Rattle.sim_jobs.proofs.ObsTexts.{printed_digits}
 use Rattle.sim_jobs.proofs.ObsFields.{printed_fields, length-fields, numbered, placed, values_read}
+use Rattle.sim_jobs.proofs.Digits.{printed_digits}
 
 pub content : Tracking → ℕ → Signals → List ℕ
 content t n s = system_letter t ∷ (last_digits 2 n ++ fields_text (amounts_of t s))

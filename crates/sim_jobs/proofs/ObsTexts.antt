@@ -5,7 +5,7 @@ use Rattle.std.proofs.lemmas.List.{append-nil}
 use Rattle.std.proofs.lemmas.Fmt.{decimal_nonempty}
 use Rattle.std.specs.Prelude.{decimal, replicate}
 use Rattle.decimal_text.specs.Whole.{size_of, are_digits, number_from}
-use Rattle.decimal_text.specs.Write.{last_digits, sign_text, part_text, fixed_text}
+use Rattle.decimal_text.specs.Write.{sign_text, part_text, fixed_text}
 use Rattle.decimal_text.specs.Fixed.{fixed_of}
 use Rattle.decimal_text.proofs.Numbers.{digits_are}
 use Rattle.rinex_head.specs.Fields.{without_blanks, digits_of, whole_of}
@@ -13,7 +13,7 @@ use Rattle.sim_session.specs.Columns.{right_in, fixed_in}
 use Rattle.sim_session.specs.ObservationText.{IsInColumns}
 use Rattle.sim_jobs.specs.Printed.{are_printed}
 use Rattle.sim_jobs.proofs.Printed.{printed-append}
-use Rattle.sim_jobs.proofs.Digits.{decimal_digits, decimal_value, digits_printed, last_digits-digits}
+use Rattle.sim_jobs.proofs.Digits.{decimal_digits, decimal_value, digits_printed, printed_digits}
 use Rattle.sim_jobs.proofs.Fixed.{fixed_again}
 use Rattle.sim_jobs.proofs.Fields.{no_blanks}
 
@@ -21,9 +21,6 @@ use Rattle.sim_jobs.proofs.Fields.{no_blanks}
 printed_blanks : (k : ℕ) → are_printed (replicate k 32) ≡ true
 printed_blanks zero = refl
 printed_blanks (suc k) = printed_blanks k
-
-pub printed_digits : (k n : ℕ) → are_printed (last_digits k n) ≡ true
-printed_digits k n = digits_printed (last_digits k n) (last_digits-digits k n)
 
 printed_part : (places n : ℕ) → are_printed (part_text places n) ≡ true
 printed_part zero n = refl

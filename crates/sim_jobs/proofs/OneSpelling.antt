@@ -12,14 +12,14 @@ use Rattle.decimal_text.specs.Whole.{size_of}
 use Rattle.decimal_text.specs.declared.exponent.Dec.{Dec}
 use Rattle.sim_session.specs.Numbers.{IsNormal}
 
-size_is : (z : ℤ) → size_of z ≡ unsigned_abs z
+pub size_is : (z : ℤ) → size_of z ≡ unsigned_abs z
 size_is (pos n) = refl
 size_is (negsuc n) = refl
 
-ten : (k : ℕ) → 1 ≤ 10 ^ k
+pub ten : (k : ℕ) → 1 ≤ 10 ^ k
 ten k = one-le-pow k 10 (lit< tt)
 
-at_least : (a b : ℕ) → 1 ≤ b → a ≤ a * b
+pub at_least : (a b : ℕ) → 1 ≤ b → a ≤ a * b
 at_least a b some = le-mul_of_pos_right a (omega (arith, some))
 
 -- ---- which power of ten a number of 13 digits is multiplied by

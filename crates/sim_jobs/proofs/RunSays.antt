@@ -1,29 +1,25 @@
 -- What the ending of `sim run` says of the session that it made, and its statuses.
-use Rattle.std.proofs.Common.{◌≡◌, ℕ, Bool, true, false, codes, if◌then◌else◌, refl, sym, subst}
+use Rattle.std.proofs.Common.{◌≡◌, ℕ, Bool, true, false, codes, refl, sym, subst}
 use Rattle.std.specs.Io.KnownBytes.{Appends}
 use Rattle.outcome_report.specs.OutcomeText.{is_fixed}
-use Rattle.job_answers.specs.declared.status.Status.TheVariants.{Done, Declined}
-use Rattle.job_answers.specs.Statuses.{IsVerdictStatus, IsJobStatus}
+use Rattle.job_answers.specs.Statuses.{IsVerdictStatus, IsJobStatus, verdict_status}
 use Rattle.job_answers.specs.Endings.{Ending}
 use Rattle.job_answers.specs.Delivered.{SinkChange}
-use Rattle.job_answers.proofs.EndingLaws.{verdict_at, job_status_at}
+use Rattle.job_answers.proofs.EndingLaws.{verdict_at}
+use Rattle.job_answers.proofs.TextLaws.{job_of_verdict}
 use Rattle.sim_jobs.specs.SimRunJobs.{run_text, SimRunEnds}
 use Rattle.sim_jobs.specs.SimRunSays.{HaveOutcome, SaysMatch, SaysOfSimRun}
 
 -- ---- statuses
-verdict_of : (fixed : Bool) → IsVerdictStatus (if fixed then Done else Declined)
+verdict_of : (fixed : Bool) → IsVerdictStatus (verdict_status fixed)
 verdict_of true = tt
 verdict_of false = tt
 
-job_of : (fixed : Bool) → IsJobStatus (if fixed then Done else Declined)
-job_of true = tt
-job_of false = tt
-
-pub sim_run_status : (seed epochs sats bands system : ℕ) (end : Ending) → SimRunEnds seed epochs sats bands system end → IsJobStatus end.status
-sim_run_status seed epochs sats bands system end run = job_status_at end _ run.ends.end_is (job_of (is_fixed run.ends.outcome.answer))
-
 pub sim_run_verdict : (seed epochs sats bands system : ℕ) (end : Ending) → SimRunEnds seed epochs sats bands system end → IsVerdictStatus end.status
 sim_run_verdict seed epochs sats bands system end run = verdict_at end _ run.ends.end_is (verdict_of (is_fixed run.ends.outcome.answer))
+
+pub sim_run_status : (seed epochs sats bands system : ℕ) (end : Ending) → SimRunEnds seed epochs sats bands system end → IsJobStatus end.status
+sim_run_status seed epochs sats bands system end run = job_of_verdict end.status (sim_run_verdict seed epochs sats bands system end run)
 
 -- ---- what is said
 says_at : (seed epochs sats bands system : ℕ) (end t : Ending) (out : SinkChange) → end ≡ t → SaysOfSimRun seed epochs sats bands system t.status out
@@ -31,7 +27,7 @@ says_at : (seed epochs sats bands system : ℕ) (end t : Ending) (out : SinkChan
 says_at seed epochs sats bands system end t out same says = subst (λ (e : Ending). SaysOfSimRun seed epochs sats bands system e.status out) (sym same) says
 
 by_verdict : (seed epochs sats bands system : ℕ) (out : SinkChange) (fixed : Bool) → SaysMatch seed epochs sats bands system fixed out
-    → SaysOfSimRun seed epochs sats bands system (if fixed then Done else Declined) out
+    → SaysOfSimRun seed epochs sats bands system (verdict_status fixed) out
 by_verdict seed epochs sats bands system out true says = says
 by_verdict seed epochs sats bands system out false says = says
 

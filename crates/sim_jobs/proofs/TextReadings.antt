@@ -26,7 +26,7 @@ use Rattle.sim_jobs.proofs.ObsFile as observations
 use Rattle.sim_jobs.specs.Reads.{ReadsAsObserved, ReadsAsBase, ReadsAsRover, ReadsAsRecords}
 
 -- a session lasts two hours at most
-step_some : (epochs : ℕ) → 0 < step_of epochs
+pub step_some : (epochs : ℕ) → 0 < step_of epochs
 step_some epochs = by (nat_le epochs 240)
   where
     by : (t : Bool) → 0 < (if t then 30 else 2)

@@ -1,6 +1,5 @@
 -- What shifts don't matter to, and arcs without shifts.
 use Rattle.std.proofs.Common.{◌≡◌, ℕ, ◌+◌, ◌<◌, ◌≤◌, ◌^◌, Bool, true, false, cond, List, [], ◌∷◌, map, get_or, All, pos, arith, sym, ap, ◌∙◌, refl, subst}
-use Rattle.std.proofs.lemmas.List.Sums.{sum_by-cons}
 use Rattle.obs_rows.specs.declared.arcs.Arc.{Arc}
 use Rattle.obs_rows.specs.declared.rows.Row.{Row}
 use Rattle.obs_rows.specs.declared.pair_rows.PairRows.{PairRows}
@@ -12,12 +11,10 @@ use Rattle.round_steps.specs.Counts.{holds, held}
 use Rattle.round_steps.specs.Shifts.{AreSameArcs, AreShiftsBelow, without_shifts}
 use Rattle.round_steps.proofs.ShiftLaws.{length_same, three_below}
 use Rattle.session.proofs.CutLaws.{Like, like}
+use Rattle.session.proofs.RangeLaws.{with_first}
 use Rattle.track_rows.specs.PairRules.{AreUnshifted}
 
 -- ---- how many arcs hold a pair
-with_first : (x : Arc) (xs : List Arc) (pair : ℕ) → held (x ∷ xs) pair ≡ cond (holds pair x) 1 0 + held xs pair
-with_first x xs pair = sum_by-cons (λ (a : Arc). cond (holds pair a) 1 0) x xs
-
 held_without : (arcs : List Arc) (pair : ℕ) → held (map without_shifts arcs) pair ≡ held arcs pair
 held_without [] pair = refl
 held_without (a ∷ arcs) pair =

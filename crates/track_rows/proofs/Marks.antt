@@ -1,30 +1,18 @@
 -- The flags of the arcs that have begun.
 use Rattle.std.proofs.Common.{◌≡◌, ◌⊎◌, ◌↔◌, inl, inr, ⊎_elim, ℕ, zero, suc, ◌+◌, ◌<◌, ◌||◌, Bool, true, false, Some, List, [], ◌∷◌, ◌++◌, length, replicate, arith, sym, ap, ◌∙◌, refl, subst}
 use Rattle.std.specs.Prelude.{slice_get}
-use Rattle.std.proofs.lemmas.Bool.{cases_eq, false≢true}
+use Rattle.std.proofs.lemmas.Bool.{cases_eq, false≢true, or_cases, or_left, or_right}
 use Rattle.std.proofs.lemmas.Option.{none-some, same_Some, slice_get_within}
 use Rattle.std.proofs.lemmas.List.Quantifiers.{Any-push}
+use Rattle.std.proofs.lemmas.List.{length_push}
 use Rattle.obs_rows.specs.declared.arcs.Arc.{Arc}
 use Rattle.obs_rows.specs.declared.pair_rows.PairRows.{PairRows}
 use Rattle.row_build.specs.HeldArcs.{holds_pair, IsHeld}
 use Rattle.round_steps.specs.Shifts.{AreSameArcs}
 use Rattle.track_rows.specs.Tracks.{HasRow}
 use Rattle.track_rows.specs.Walks.{AreFlags, AreMarked}
-use Rattle.std.proofs.lemmas.List.{length_push}
 use Rattle.whole_math.proofs.Lists.{any_more, any_in, push_get, push_before, last_push}
 use Rattle.track_rows.proofs.SameArcs.{held_in}
-
-or_cases : (b c : Bool) → (b || c) ≡ true → (b ≡ true) ⊎ (c ≡ true)
-or_cases true c either = inl refl
-or_cases false c either = inr either
-
-or_left : (b c : Bool) → b ≡ true → (b || c) ≡ true
-or_left true c is = refl
-or_left false c is = absurd (false≢true is)
-
-or_right : (b c : Bool) → c ≡ true → (b || c) ≡ true
-or_right true c is = refl
-or_right false c is = is
 
 -- the flags of the first n arcs
 pub record AreMarkedTo (n : ℕ) (begun : List Bool) (arcs : List Arc) (pair : ℕ) (flags : List Bool) : Type 0 where
