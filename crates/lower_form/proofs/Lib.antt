@@ -5,3 +5,4 @@ mod FrontKept
 mod LowerLaws
 pub mod Exponents
 pub mod OneForm
+pub mod ZeroForms

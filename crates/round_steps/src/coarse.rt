@@ -4,17 +4,41 @@ ghost use Rattle.std.specs.Prelude.{◌≡◌, ℕ, ◌^◌, ◌<◌, Bool, unsi
 ghost use Rattle.normal_sum.specs.Normals.{IsNormalOf};
 ghost use Rattle.obs_rows.specs.Signals.{counted};
 ghost use Rattle.integer_form.specs.FloatPoint.{item};
+ghost use Rattle.lower_form.specs.Rooms.{IsClean};
 ghost use Rattle.round_steps.specs.Steps.{IsFloatOf, IsCoarseStep, IsRoundDeclined};
 
 use crate::limits::first_over;
 use crate::points::moved_point;
 use cert_check::tail_of;
 use cert_data::Tail;
-use form_tables::{BASELINE_COLUMNS, MOST_FACTORS};
+use form_tables::{BASELINE_COLUMNS, FormTable, MOST_FACTORS};
 use integer_form::Place;
-use lower_form::{front, lower};
+use lower_form::{FrontForm, FrontRoom, lower, refill_front};
 use normal_sum::{Normal, refill_sum};
 use obs_rows::{Session, is_receiver_point};
+
+/// The tables of coarse rounds, kept from one to the next: to make them anew for each would cost more than its steps.
+#[derive(Clone, Copy, Debug)]
+pub(crate) struct CoarseTables {
+    normal: Normal,
+    steps: FrontRoom,
+    front: FrontForm,
+    pub ghost clean: { IsClean 4 steps },
+    pub ghost columns: { front.columns ≡ 4 },
+}
+
+impl CoarseTables {
+    /// Tables that no round has used.
+    pub(crate) fn empty() -> CoarseTables {
+        let steps = FrontRoom::empty();
+        let front = FrontForm::of(BASELINE_COLUMNS + 1, 0, &FormTable::zeros());
+        CoarseTables {
+            normal: Normal::empty(),
+            steps,
+            front,
+        }
+    }
+}
 
 /// The numbers of the baseline, and 0 for all other columns.
 fn padded(baseline: &[i64; BASELINE_COLUMNS]) -> [i64; MOST_FACTORS]
@@ -27,15 +51,18 @@ fn padded(baseline: &[i64; BASELINE_COLUMNS]) -> [i64; MOST_FACTORS]
     numbers
 }
 
-/// The numbers of the float point where no integers are counted, by the front.
-fn numbers_by_front(session: &Session, normal: &Normal) -> Result<[i64; MOST_FACTORS], Tail>
-    requires of_rows { IsNormalOf session.now.arcs (counted session.now.signals session.now.scale) session.now.pairs normal.now }
-    requires no_integers { normal.now.columns ≡ 4 }
+/// The numbers of the float point where no integers are counted, by the front of the normal matrix of these tables.
+fn numbers_by_front(
+    session: &Session,
+    tables: &mut CoarseTables,
+) -> Result<[i64; MOST_FACTORS], Tail>
+    requires of_rows { IsNormalOf session.now.arcs (counted session.now.signals session.now.scale) session.now.pairs tables.old.normal }
+    requires no_integers { tables.old.normal.columns ≡ 4 }
     ensures float { IfOk result (λ x. IsFloatOf session.now x) }
     ensures refused { IfErr result (λ t. (last : Bool) → IsRoundDeclined last session.now t) }
 {
-    match front(normal) {
-        Ok(ref first) => match first.baseline_of(&[]) {
+    match refill_front(&tables.normal, &mut tables.steps, &mut tables.front) {
+        Ok(()) => match tables.front.baseline_of(&[]) {
             Ok(numbers) => Ok(padded(&numbers)),
             Err(fault) => Err(Tail::Overwidth { place: fault.place }),
         },
@@ -58,31 +85,31 @@ fn numbers_by_form(session: &Session, normal: &Normal) -> Result<[i64; MOST_FACT
     }
 }
 
-/// The numbers of the float point of a session, whose normal matrix is written over another.
-fn numbers_of(session: &Session, normal: &mut Normal) -> Result<[i64; MOST_FACTORS], Tail>
+/// The numbers of the float point of a session, in the tables of an earlier one.
+fn numbers_of(session: &Session, tables: &mut CoarseTables) -> Result<[i64; MOST_FACTORS], Tail>
     ensures float { IfOk result (λ x. IsFloatOf session.now x) }
     ensures refused { IfErr result (λ t. (last : Bool) → IsRoundDeclined last session.now t) }
 {
-    refill_sum(normal, session);
-    if normal.columns == BASELINE_COLUMNS + 1 {
-        numbers_by_front(session, normal)
+    refill_sum(&mut tables.normal, session);
+    if tables.normal.columns == BASELINE_COLUMNS + 1 {
+        numbers_by_front(session, tables)
     } else {
-        numbers_by_form(session, normal)
+        numbers_by_form(session, &tables.normal)
     }
 }
 
 /// What a coarse round makes of its session, or the tail with which it ends the run: the point where it moves to, or `None`
-/// where it is settled. It is what `round_step` makes of it, without the form. The normal matrix is written over that of an
-/// earlier round.
+/// where it is settled. It is what `round_step` makes of it, without the form. What is made is written over that of an earlier
+/// round.
 pub(crate) fn coarse_step(
     session: &Session,
-    normal: &mut Normal,
+    tables: &mut CoarseTables,
     last: bool,
 ) -> Result<Option<[i64; 3]>, Tail>
     ensures step { IfOk result (IsCoarseStep last session.now) }
     ensures declined { IfErr result (IsRoundDeclined last session.now) }
 {
-    let numbers = numbers_of(session, normal)?;
+    let numbers = numbers_of(session, tables)?;
     let Some(entry) = first_over(session.scale, &numbers) else {
         return Ok(None);
     };

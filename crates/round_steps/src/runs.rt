@@ -10,12 +10,11 @@ ghost use Rattle.obs_rows.specs.declared.limits.TheConstants.{MOST_RATIO};
 ghost use Rattle.round_steps.specs.Shifts.{AreSameArcs, AreShiftsBelow};
 ghost use Rattle.round_steps.specs.Runs.{Rules, StayTheSame, IsSessionAt, SettlesAt, IsCoarseEnd, IsEnd, FitsEnd, IsBestEnd, round_at, most_rounds, coarse_sessions, sessions_of};
 
-use crate::coarse::coarse_step;
+use crate::coarse::{CoarseTables, coarse_step};
 use crate::{Step, grown, round_step};
 use cert_check::decide_settled;
 use cert_data::{RoundCounts, Stage, Tail};
 use integer_form::Place;
-use normal_sum::Normal;
 use obs_rows::{Arc, COARSE_SCALE, Session, fine_signals};
 use std::alloc::{AllocError, Global};
 
@@ -115,12 +114,12 @@ pub fn coarse_rounds<R: Rounds>(
 {
     let mut point = *base;
     let mut made = 1;
-    let mut normal = Normal::empty();
+    let mut tables = CoarseTables::empty();
     'rounds: loop {
         let Some(session) = rounds.session(alloc, arcs, &point, COARSE_SCALE)? else {
             return Ok(CoarseEnd::Declined { made, tail: AT_Y });
         };
-        match coarse_step(&session, &mut normal, made == COARSE_ROUNDS) {
+        match coarse_step(&session, &mut tables, made == COARSE_ROUNDS) {
             Ok(None) => return Ok(CoarseEnd::Settled { made, point }),
             Ok(Some(moved)) => {
                 point = moved;

@@ -12,4 +12,3 @@ pub mod SumTables
 mod Results
 pub mod StrictlyBest
 pub mod RatioLaws
-pub mod ZeroForms

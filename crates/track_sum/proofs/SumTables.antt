@@ -15,19 +15,15 @@ use Rattle.track_sum.specs.declared.factors.PairFactors.{PairFactors}
 use Rattle.track_sum.specs.PairFronts.{IsFrontOfPair, AreFronts, brief}
 use Rattle.track_sum.specs.Factors.{AreFactors}
 use Rattle.track_sum.specs.Decided.{IsSumOfFronts}
+use Rattle.track_sum.specs.Sums.{HoldsSums, AreAtMost}
 use Rattle.track_sum.proofs.KeptFactors.{fronts_listed}
 use Rattle.track_sum.proofs.TrackEntries.{summed_form, small_track}
 use Rattle.track_sum.proofs.FrontLists.{fronts_long, small_fronts, exponents_are}
 
 -- the greatest exponent of the fronts, as the pairs' matrices tell it
 pub record IsGreatest (arcs : List Arc) (ss : List ℕ) (pairs : List PairRows) (greatest : ℕ) : Type 0 where
-  pub above : (k : ℕ) → k < length pairs → (d : PairRows) (f : FrontForm) → IsFrontOfPair arcs ss (get_or pairs k d) f → f.h ≤ greatest
+  pub above : AreAtMost arcs ss pairs greatest
   pub attained : (k : ℕ) × ((k < length pairs) × ((d : PairRows) (f : FrontForm) → IsFrontOfPair arcs ss (get_or pairs k d) f → f.h ≡ greatest))
-
--- the table of the fronts, over the sum of that exponent and e
-abbrev pub HoldsSums : List Arc → List ℕ → List PairRows → ℕ → List (List ℤ) → Type 0
-HoldsSums arcs ss pairs h t = (fs : List FrontForm) → AreFronts arcs ss pairs fs → (r c : ℕ) → r ≤ c → c < 1 + integer_count arcs ss →
-    entry t (3 + r) (3 + c) ≡ track_entry (1 + integer_count arcs ss) h (map brief fs) r c
 
 pub record IsSummed (arcs : List Arc) (ss : List ℕ) (pairs : List PairRows) (e h : ℕ) (t : List (List ℤ)) : Type 0 where
   pub fs : List FrontForm

@@ -4,3 +4,4 @@ pub mod PairFronts
 pub mod Factors
 pub mod Decided
 pub mod Parts
+pub mod Sums

@@ -1,5 +1,5 @@
 //! The fronts of single pairs.
-ghost use Rattle.std.specs.Prelude.{◌≡◌, ℕ, ◌+◌, ◌-◌, ◌<◌, ◌≤◌, ◌∷◌, [], length, All, IfOk, OnOk, IfErr, get_or};
+ghost use Rattle.std.specs.Prelude.{◌≡◌, ◌⊎◌, ℕ, ◌+◌, ◌-◌, ◌<◌, ◌≤◌, ◌∷◌, [], length, All, IfOk, OnOk, IfErr, get_or};
 ghost use Rattle.obs_rows.specs.declared.pair_rows.PairRows.{PairRows};
 ghost use Rattle.obs_rows.specs.declared.units.TheConstants.{MOST_FREE_ARCS};
 ghost use Rattle.obs_rows.specs.Arcs.{free_count};
@@ -11,6 +11,7 @@ ghost use Rattle.integer_form.specs.Kept.{form_of_table};
 ghost use Rattle.lower_form.specs.Fronts.{BoundsAllData};
 ghost use Rattle.lower_form.specs.Rooms.{IsClean};
 ghost use Rattle.track_sum.specs.PairFronts.{IsFrontOfPair, IsRefusedPair};
+ghost use Rattle.track_sum.specs.Sums.{AreAtMost};
 
 use form_tables::{BASELINE_COLUMNS, FormTable};
 use lower_form::{FrontForm, FrontRoom, LowerFault, exponent, front, refill_front};
@@ -86,28 +87,46 @@ impl PairRoom {
         refill_pair(&mut self.normal, arcs, signals, 0, pair);
         exponent(&self.normal)
     }
+
+    /// The exponent of the front of a pair's rows, or this number where it is greater.
+    fn raised(&mut self, arcs: &[Arc], signals: Signals, pair: &PairRows, least: u32) -> u32
+        requires arcs { HasItsArcs arcs.now pair.now }
+        requires free { free_count arcs.now ≤ MOST_FREE_ARCS }
+        requires few { least ≤ 77 }
+        ensures above { (f : FrontForm) → IsFrontOfPair arcs.now (fine_signals signals) pair.now f → f.h ≤ result }
+        ensures from { least ≤ result }
+        ensures one { ((f : FrontForm) → IsFrontOfPair arcs.now (fine_signals signals) pair.now f → f.h ≡ result) ⊎ (result ≡ least) }
+        ensures few { result ≤ 77 }
+        ensures columns { self.new.front.columns ≡ self.old.front.columns }
+    {
+        let h = self.exponent(arcs, signals, pair);
+        if h > least { h } else { least }
+    }
 }
 
-/// The greatest exponent of the fronts of pairs, and 0 of none. It is that of the matrices, so no front is made for it.
+/// The greatest exponent of the fronts of every so many-th pair, from the first on, and 0 of none. It is that of the
+/// matrices, so no front is made for it.
 pub(crate) fn greatest_exponent(
     room: &mut PairRoom,
     arcs: &[Arc],
     signals: Signals,
     pairs: &[PairRows],
+    every: usize,
 ) -> u32
     requires arcs { All (HasItsArcs arcs.now) pairs.now }
     requires free { free_count arcs.now ≤ MOST_FREE_ARCS }
-    ensures above { (k : ℕ) → k < length pairs.now → (d : PairRows) (f : FrontForm) → IsFrontOfPair arcs.now (fine_signals signals) (get_or pairs.now k d) f → f.h ≤ result }
+    requires some { 1 ≤ every }
+    ensures above { every ≡ 1 → AreAtMost arcs.now (fine_signals signals) pairs.now result }
     ensures attained { 1 ≤ length pairs.now →
         (k : ℕ) × ((k < length pairs.now) × ((d : PairRows) (f : FrontForm) → IsFrontOfPair arcs.now (fine_signals signals) (get_or pairs.now k d) f → f.h ≡ result)) }
     ensures few { result ≤ 77 }
     ensures columns { room.new.front.columns ≡ room.old.front.columns }
 {
     let mut greatest = 0;
-    for pair in pairs {
-        let h = room.exponent(arcs, signals, pair);
-        if h > greatest {
-            greatest = h;
+    for k in 0..pairs.len() {
+        let left = k % every;
+        if left == 0 {
+            greatest = room.raised(arcs, signals, &pairs[k], greatest);
         }
     }
     greatest

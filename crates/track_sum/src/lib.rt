@@ -3,7 +3,7 @@
 //! `sum_of_fronts` is exactly that sum, and `form_of_track` its finish (`sum`, `form`); they are refused as the first pair
 //! that has no front, and the second besides as the finish of the sum is (`refused`). A front is as large as thirty pairs' rows,
 //! so of each only the factors of the baseline's columns are kept (`factors`), and the common power of two is taken from the
-//! pairs' matrices before. The fronts are made in one room of tables (`PairRoom`). `moves_at` gives the baseline of each pair at given integers by these factors (`moves`), refused
+//! matrices of some pairs before, and of all only where another pair's front asks for a greater power. The fronts are made in one room of tables (`PairRoom`). `moves_at` gives the baseline of each pair at given integers by these factors (`moves`), refused
 //! exactly where one of them is too wide (`narrow`, `wide`).
 //!
 //! `laws` names what the sum says: 64 times the pairs' sums of squares together are at least 2^h times the value of the

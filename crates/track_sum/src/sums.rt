@@ -1,5 +1,5 @@
 //! The fronts of all pairs, brought over one power of two and added, and the form that they leave. Each is made once.
-ghost use Rattle.std.specs.Prelude.{◌≡◌, ◌≢◌, ◌⊎◌, ℕ, ◌+◌, ◌-◌, ◌*◌, ◌^◌, ◌<◌, ◌≤◌, List, length, map, get_or, All, IfOk, IfErr, ◌+ℤ◌, unsigned_abs};
+ghost use Rattle.std.specs.Prelude.{◌≡◌, ◌≢◌, ◌⊎◌, ℕ, ◌+◌, ◌-◌, ◌*◌, ◌^◌, ◌<◌, ◌≤◌, List, length, All, IfOk, IfErr, ◌+ℤ◌, unsigned_abs};
 ghost use Rattle.obs_rows.specs.declared.pair_rows.PairRows.{PairRows};
 ghost use Rattle.obs_rows.specs.declared.units.TheConstants.{MOST_FREE_ARCS};
 ghost use Rattle.obs_rows.specs.Arcs.{free_count};
@@ -12,9 +12,9 @@ ghost use Rattle.form_tables.specs.declared.sizes.TheConstants.{MOST_COLUMNS};
 ghost use Rattle.integer_form.specs.declared.front_form.FrontForm.{FrontForm};
 ghost use Rattle.integer_form.specs.Told.{IsToldAs};
 ghost use Rattle.elimination.specs.Finish.{IsFinishOf, finish_of};
-ghost use Rattle.track_sum.specs.Fronts.{track_entry};
 ghost use Rattle.track_sum.specs.Parts.{part_at};
-ghost use Rattle.track_sum.specs.PairFronts.{IsFrontOfPair, AreFronts, IsFirstRefused, brief};
+ghost use Rattle.track_sum.specs.PairFronts.{IsFirstRefused};
+ghost use Rattle.track_sum.specs.Sums.{HoldsSums, AreAtMost, IsStopped};
 ghost use Rattle.track_sum.specs.Factors.{AreFactors};
 ghost use Rattle.track_sum.specs.Decided.{IsSumOfFronts, IsTrackForm, IsFinishRefused};
 
@@ -80,8 +80,18 @@ fn add_front(table: &mut NormalTable, front: &FrontForm, shift: u32)
     }
 }
 
+/// Why fronts aren't added.
+#[derive(Clone, Copy, Debug)]
+enum NoSum {
+    /// A pair has none, for this reason.
+    Refused(LowerFault),
+    /// The exponent of one is above the power of two.
+    Over,
+}
+
 /// Adds what all pairs add to the form over 2^h, after the baseline's columns, on the diagonal and after it, and keeps the
-/// factors of their fronts. The inner error is told of the first pair that has no front.
+/// factors of their fronts. The inner error is told of the first pair that has no front, or whose front's exponent is above
+/// `most`.
 fn add_fronts(
     alloc: Global,
     room: &mut PairRoom,
@@ -89,30 +99,33 @@ fn add_fronts(
     arcs: &[Arc],
     signals: Signals,
     pairs: &[PairRows],
+    most: u32,
     h: u32,
-) -> Result<Result<Vec<PairFactors>, LowerFault>, AllocError>
+) -> Result<Result<Vec<PairFactors>, NoSum>, AllocError>
     requires arcs { All (HasItsArcs arcs.now) pairs.now }
     requires free { free_count arcs.now ≤ MOST_FREE_ARCS }
     requires few { length pairs.now ≤ MOST_PAIRS }
     requires h_in { h ≤ 90 }
-    requires above { (k : ℕ) → k < length pairs.now → (d : PairRows) (f : FrontForm) → IsFrontOfPair arcs.now (fine_signals signals) (get_or pairs.now k d) f → f.h ≤ h }
+    requires most { most ≤ h }
     requires columns { room.old.front.columns ≡ 4 + integer_count arcs.now (fine_signals signals) }
     requires zeros { table.old ≡ zero_rows MOST_COLUMNS MOST_COLUMNS }
     ensures factors { IfOk result (λ r. IfOk r (λ kept. AreFactors arcs.now (fine_signals signals) pairs.now kept.items)) }
-    ensures sums { IfOk result (λ r. IfOk r (λ kept. (fs : List FrontForm) → AreFronts arcs.now (fine_signals signals) pairs.now fs →
-        (r c : ℕ) → r ≤ c → c < 1 + integer_count arcs.now (fine_signals signals) →
-        entry table.new (3 + r) (3 + c) ≡ track_entry (1 + integer_count arcs.now (fine_signals signals)) h (map brief fs) r c)) }
-    ensures refused { IfOk result (λ r. IfErr r (IsFirstRefused arcs.now (fine_signals signals) pairs.now)) }
+    ensures sums { IfOk result (λ r. IfOk r (λ kept. HoldsSums arcs.now (fine_signals signals) pairs.now h table.new)) }
+    ensures above { IfOk result (λ r. IfOk r (λ kept. AreAtMost arcs.now (fine_signals signals) pairs.now most)) }
+    ensures stopped { IfOk result (λ r. IfErr r (IsStopped arcs.now (fine_signals signals) pairs.now (AreAtMost arcs.now (fine_signals signals) pairs.now most → ⊥))) }
 {
     let mut kept = Vec::with_capacity(alloc, pairs.len())?;
     for pair in pairs {
         match room.fill(arcs, signals, pair) {
             Ok(()) => {
                 let front = &room.front;
+                if front.h > most {
+                    return Ok(Err(NoSum::Over));
+                }
                 add_front(table, front, h - front.h);
                 kept.push(PairFactors::of(front))?;
             }
-            Err(fault) => return Ok(Err(fault)),
+            Err(fault) => return Ok(Err(NoSum::Refused(fault))),
         }
     }
     Ok(Ok(kept))
@@ -124,6 +137,46 @@ pub struct SummedFronts {
     pub sum: FrontForm,
     pub factors: Vec<PairFactors>,
 }
+
+/// The sum over the power of two that every so many-th pair asks for. The inner error is told of the first pair that has no
+/// front, or that asks for a greater power: none does where they are all asked.
+// Never inlined: its tables would then lie on the stack twice.
+#[inline(never)]
+fn sum_by(
+    alloc: Global,
+    arcs: &[Arc],
+    signals: Signals,
+    pairs: &[PairRows],
+    every: usize,
+) -> Result<Result<SummedFronts, NoSum>, AllocError>
+    requires arcs { All (HasItsArcs arcs.now) pairs.now }
+    requires free { free_count arcs.now ≤ MOST_FREE_ARCS }
+    requires some { 1 ≤ length pairs.now }
+    requires few { length pairs.now ≤ MOST_PAIRS }
+    requires every { 1 ≤ every }
+    ensures sum { IfOk result (λ r. IfOk r (λ f. (fs : List FrontForm) × IsSumOfFronts arcs.now (fine_signals signals) pairs.now fs f.sum)) }
+    ensures factors { IfOk result (λ r. IfOk r (λ f. AreFactors arcs.now (fine_signals signals) pairs.now f.factors.items)) }
+    ensures few { IfOk result (λ r. IfOk r (λ f. f.sum.h ≤ 90)) }
+    ensures stopped { IfOk result (λ r. IfErr r (IsStopped arcs.now (fine_signals signals) pairs.now (every ≢ 1))) }
+{
+    let mut room = PairRoom::new(arcs, signals);
+    let most = greatest_exponent(&mut room, arcs, signals, pairs, every);
+    let h = most + least_power(pairs.len());
+    let mut table = NormalTable::zeros();
+    match add_fronts(alloc, &mut room, &mut table, arcs, signals, pairs, most, h)? {
+        Ok(factors) => {
+            let integers = integer_count(arcs, fine_signals(signals));
+            let p = form_table(&table, integers + 1);
+            let sum = FrontForm::of(BASELINE_COLUMNS + integers + 1, h, &p);
+            Ok(Ok(SummedFronts { sum, factors }))
+        }
+        Err(stopped) => Ok(Err(stopped)),
+    }
+}
+
+/// Of so many pairs one is asked for its power of two before the fronts are made. Only where another one asks for a greater
+/// power are all asked, and the fronts made again.
+const ASKED_OF: usize = 16;
 
 /// The fronts of all pairs, brought over one power of two and added, with no factors of the baseline's columns. The inner error is
 /// told of the first pair that has no front.
@@ -147,17 +200,14 @@ pub fn sum_of_fronts(
     ensures few { IfOk result (λ r. IfOk r (λ f. f.sum.h ≤ 90)) }
     ensures refused { IfOk result (λ r. IfErr r (IsFirstRefused arcs.now (fine_signals signals) pairs.now)) }
 {
-    let mut room = PairRoom::new(arcs, signals);
-    let h = greatest_exponent(&mut room, arcs, signals, pairs) + least_power(pairs.len());
-    let mut table = NormalTable::zeros();
-    match add_fronts(alloc, &mut room, &mut table, arcs, signals, pairs, h)? {
-        Ok(factors) => {
-            let integers = integer_count(arcs, fine_signals(signals));
-            let p = form_table(&table, integers + 1);
-            let sum = FrontForm::of(BASELINE_COLUMNS + integers + 1, h, &p);
-            Ok(Ok(SummedFronts { sum, factors }))
-        }
-        Err(fault) => Ok(Err(fault)),
+    match sum_by(alloc, arcs, signals, pairs, ASKED_OF)? {
+        Ok(summed) => Ok(Ok(summed)),
+        Err(NoSum::Refused(fault)) => Ok(Err(fault)),
+        Err(NoSum::Over) => match sum_by(alloc, arcs, signals, pairs, 1)? {
+            Ok(summed) => Ok(Ok(summed)),
+            Err(NoSum::Refused(fault)) => Ok(Err(fault)),
+            Err(NoSum::Over) => unreachable!(),
+        },
     }
 }
 

@@ -1,56 +1,85 @@
-use Rattle.std.proofs.Common.{◌≡◌, ◌⊎◌, inl, inr, ⊎_elim, ℕ, ◌+◌, ◌<◌, ◌≤◌, List, length, get_or, arith, rules, sym, ◌∙◌, subst, below_more}
+use Rattle.std.proofs.Common.{◌≡◌, ◌⊎◌, inl, inr, ⊎_elim, ℕ, ◌+◌, ◌<◌, ◌≤◌, ◌%◌, List, length, get_or, arith, rules, refl, sym, ap, ◌∙◌, subst, below_more}
 use Rattle.std.proofs.lemmas.List.{get_or_default}
 use Rattle.obs_rows.specs.declared.arcs.Arc.{Arc}
 use Rattle.obs_rows.specs.declared.pair_rows.PairRows.{PairRows}
 use Rattle.obs_rows.specs.Signals.{fine_signals}
 use Rattle.integer_form.specs.declared.front_form.FrontForm.{FrontForm}
 use Rattle.track_sum.specs.PairFronts.{IsFrontOfPair}
+use Rattle.track_sum.specs.declared.fronts.PairRoom.{PairRoom}
 use Rattle.track_sum.proofs.fronts.greatest_exponent.Goals as goal
-use Rattle.track_sum.proofs.fronts.greatest_exponent.Goals.{then-h-greatest, else-h-greatest}
+use Rattle.track_sum.proofs.fronts.greatest_exponent.Goals.{then-left-eq0, else-left-eq0}
 
--- the greater of two numbers
-record Grown (old h new : ℕ) : Type 0 where
-  old_in : old ≤ new
-  h_in : h ≤ new
-  one : (new ≡ h) ⊎ (new ≡ old)
+-- no number is left by one, and none of none
+by_one : (k : ℕ) → k % 1 ≡ 0
+by_one k = omega arith
 
-pub loop-pair-preserved : goal.loop-pair-preserved
-loop-pair-preserved c =
+of_none : (every : ℕ) → 1 ≤ every → 0 % every ≡ 0
+of_none every h = omega (arith, h)
+
+-- one pair more: the number after it, and whether it is a new one
+record Next (arcs : List Arc) (ss : List ℕ) (pairs : List PairRows) (every k old new : ℕ) : Type 0 where
+  from : old ≤ new
+  above : (every ≡ 1) ⊎ (k ≡ 0) → (d : PairRows) (g : FrontForm) → IsFrontOfPair arcs ss (get_or pairs k d) g → g.h ≤ new
+  one : ((d : PairRows) (g : FrontForm) → IsFrontOfPair arcs ss (get_or pairs k d) g → g.h ≡ new) ⊎ (new ≡ old)
+  few : new ≤ 77
+
+never : (every k : ℕ) → 1 ≤ every → (k % every ≡ 0 → ⊥) → (every ≡ 1) ⊎ (k ≡ 0) → ⊥
+never every k h not w = ⊎_elim (λ (e : every ≡ 1). not (subst (λ (m : ℕ). k % m ≡ 0) (sym e) (by_one k)))
+    (λ (e : k ≡ 0). not (subst (λ (m : ℕ). m % every ≡ 0) (sym e) (of_none every h))) w
+
+same : (a b c : ℕ) → a ≡ b → c ≤ b → c ≤ a
+same a b c e h = omega (arith, e, h)
+
+pub loop-k-preserved : goal.loop-k-preserved
+loop-k-preserved c =
     let pairs : List PairRows = c.args.pairs.now in
     let arcs : List Arc = c.args.arcs.now in
     let ss : List ℕ = fine_signals c.args.signals in
-    let k : ℕ = c.loop-pair.pair-index in
-    let x : PairRows = c.pair-item.result in
+    let k : ℕ = c.loop-k.k in
+    let old : ℕ = c.loop-k.greatest in
+    let new : ℕ = c.if-left-eq0.greatest in
     let inside : k < length pairs = search rules in
-    let h : ℕ = c.exponent-h.result in
-    let at : (d : PairRows) → get_or pairs k d ≡ x = λ d. get_or_default pairs k d x inside ∙ sym c.pair-item.is in
-    let h_is : (d : PairRows) (g : FrontForm) → IsFrontOfPair arcs ss (get_or pairs k d) g → g.h ≡ h =
-    λ d g i. c.exponent-h.ensures.exponent g (subst (λ (p : PairRows). IsFrontOfPair arcs ss p g) (at d) i) in
-    let new : ℕ = c.if-h-greatest.greatest in
-    let grown : Grown c.loop-pair.greatest h new = elim c.if-h-greatest.branch [
-      | then-h-greatest w ↦ record { old_in = omega (arith, w.if-h-greatest, w.greatest-is); h_in = omega (arith, w.greatest-is); one = inl w.greatest-is }
-      | else-h-greatest w ↦ record { old_in = omega (arith, w.greatest-is); h_in = omega (arith, w.if-h-greatest, w.greatest-is); one = inr w.greatest-is }
+    let at : (x : PairRows) → x ≡ get_or pairs k x → (d : PairRows) → get_or pairs k d ≡ x = λ x e d. get_or_default pairs k d x inside ∙ sym e in
+    let of : (x d : PairRows) (g : FrontForm) → x ≡ get_or pairs k x → IsFrontOfPair arcs ss (get_or pairs k d) g → IsFrontOfPair arcs ss x g =
+    λ x d g e i. subst (λ (p : PairRows). IsFrontOfPair arcs ss p g) (at x e d) i in
+    let n : Next arcs ss pairs c.args.every k old new = elim c.if-left-eq0.branch [
+      | then-left-eq0 w ↦ record {
+        from = same new w.raised-greatest.result old w.greatest-is w.raised-greatest.ensures.from;
+        above = λ v d g i. same new w.raised-greatest.result g.h w.greatest-is (w.raised-greatest.ensures.above g (of w.index-pairs-k.result d g w.index-pairs-k.is i));
+        one = ⊎_elim (λ own. inl (λ d g i. own g (of w.index-pairs-k.result d g w.index-pairs-k.is i) ∙ sym w.greatest-is)) (λ e. inr (w.greatest-is ∙ e)) w.raised-greatest.ensures.one;
+        few = within new w.raised-greatest.result 77 (equal new w.raised-greatest.result w.greatest-is) w.raised-greatest.ensures.few;
+      }
+      | else-left-eq0 w ↦ record {
+        from = same new old old w.greatest-is (equal old old refl);
+        above = λ v. absurd (never c.args.every k c.requires.some w.if-left-eq0.false v);
+        one = inr w.greatest-is;
+        few = within new old 77 (equal new old w.greatest-is) c.loop-k.invariant.few;
+      }
+    ] in
+    let columns : c.if-left-eq0.room.front.columns ≡ c.loop-k.room.front.columns = elim c.if-left-eq0.branch [
+      | then-left-eq0 w ↦ ap (λ (r : PairRoom). r.front.columns) w.room-is ∙ w.raised-greatest.ensures.columns
+      | else-left-eq0 w ↦ ap (λ (r : PairRoom). r.front.columns) w.room-is
     ] in
     record {
-      above = below_more (λ j. (d : PairRows) (g : FrontForm) → IsFrontOfPair arcs ss (get_or pairs j d) g → g.h ≤ new) k
-          (λ j l d g i. within g.h c.loop-pair.greatest new (c.loop-pair.invariant.above j l d g i) grown.old_in) (λ d g i. same g.h h new (h_is d g i) grown.h_in);
+      above = λ e. below_more (λ j. (d : PairRows) (g : FrontForm) → IsFrontOfPair arcs ss (get_or pairs j d) g → g.h ≤ new) k
+          (λ j l d g i. within g.h old new (c.loop-k.invariant.above e j l d g i) n.from) (λ d g i. n.above (inl e) d g i);
       attained = λ l. ⊎_elim
-          (λ (e : new ≡ h). (k, (next k, λ d g i. h_is d g i ∙ sym e)))
-          (λ (e : new ≡ c.loop-pair.greatest). ⊎_elim
-          (λ (none : k ≡ 0). (k, (next k, λ d g i. h_is d g i ∙ both h new c.loop-pair.greatest grown.h_in e (c.loop-pair.invariant.none none))))
-          (λ (some : 1 ≤ k). let a = c.loop-pair.invariant.attained some in (a.0, (later a.0 k a.1.0, λ d g i. a.1.1 d g i ∙ sym e)))
+          (λ own. (k, (next k, own)))
+          (λ (e : new ≡ old). ⊎_elim
+          (λ (none : k ≡ 0). (k, (next k, λ d g i. least g.h new old (n.above (inr none) d g i) e (c.loop-k.invariant.none none))))
+          (λ (some : 1 ≤ k). let a = c.loop-k.invariant.attained some in (a.0, (later a.0 k a.1.0, λ d g i. a.1.1 d g i ∙ sym e)))
           (either k))
-          grown.one;
+          n.one;
       none = λ e. absurd (omega (arith, e));
-      columns = c.exponent-h.ensures.columns ∙ c.loop-pair.invariant.columns;
-      few = ⊎_elim (λ (e : new ≡ h). same new h 77 e c.exponent-h.ensures.few) (λ (e : new ≡ c.loop-pair.greatest). same new c.loop-pair.greatest 77 e c.loop-pair.invariant.few) grown.one;
+      few = n.few;
+      columns = columns ∙ c.loop-k.invariant.columns;
     }
   where
     within : (a b c : ℕ) → a ≤ b → b ≤ c → a ≤ c
     within a b c h g = omega (arith, h, g)
 
-    same : (a b c : ℕ) → a ≡ b → b ≤ c → a ≤ c
-    same a b c h g = omega (arith, h, g)
+    equal : (a b : ℕ) → a ≡ b → a ≤ b
+    equal a b e = omega (arith, e)
 
     next : (k : ℕ) → k < k + 1
     next k = omega arith
@@ -58,20 +87,20 @@ loop-pair-preserved c =
     later : (a k : ℕ) → a < k → a < k + 1
     later a k h = omega (arith, h)
 
-    both : (h new old : ℕ) → h ≤ new → new ≡ old → old ≡ 0 → h ≡ new
-    both h new old l e z = omega (arith, l, e, z)
+    least : (h new old : ℕ) → h ≤ new → new ≡ old → old ≡ 0 → h ≡ new
+    least h new old l e z = omega (arith, l, e, z)
 
     either : (k : ℕ) → (k ≡ 0) ⊎ (1 ≤ k)
     either k = grind arith
 
 pub returns-clause-above : goal.returns-clause-above
-returns-clause-above c = λ k l d f i. c.loop-pair.invariant.above k (omega (arith, c.loop-pair-test.false, l)) d f i
+returns-clause-above c = λ e k l d f i. c.loop-k.invariant.above e k (omega (arith, c.loop-k-test.false, l)) d f i
 
 pub returns-clause-attained : goal.returns-clause-attained
 returns-clause-attained c = λ l.
-    let k : ℕ = c.loop-pair.pair-index in
+    let k : ℕ = c.loop-k.k in
     let upper : k ≤ length c.args.pairs.now = search rules in
-    let a = c.loop-pair.invariant.attained (some k (length c.args.pairs.now) l c.loop-pair-test.false) in
+    let a = c.loop-k.invariant.attained (some k (length c.args.pairs.now) l c.loop-k-test.false) in
     (a.0, (within a.0 k (length c.args.pairs.now) a.1.0 upper, a.1.1))
   where
     some : (k n : ℕ) → 1 ≤ n → n ≤ k → 1 ≤ k

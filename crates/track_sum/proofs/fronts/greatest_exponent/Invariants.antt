@@ -5,11 +5,11 @@ use Rattle.integer_form.specs.declared.front_form.FrontForm.{FrontForm}
 use Rattle.track_sum.specs.PairFronts.{IsFrontOfPair}
 use Rattle.track_sum.proofs.fronts.greatest_exponent.Given as goal
 
-abbrev pub invariant-loop-pair : goal.invariant-loop-pair
-invariant-loop-pair l = record {
-  above : (k : ℕ) → k < l.pair-index → (d : PairRows) (f : FrontForm) → IsFrontOfPair l.arcs (fine_signals l.signals) (get_or l.pairs k d) f → f.h ≤ l.greatest;
-  attained : 1 ≤ l.pair-index → (k : ℕ) × ((k < l.pair-index) × ((d : PairRows) (f : FrontForm) → IsFrontOfPair l.arcs (fine_signals l.signals) (get_or l.pairs k d) f → f.h ≡ l.greatest));
-  none : l.pair-index ≡ 0 → l.greatest ≡ 0;
+abbrev pub invariant-loop-k : goal.invariant-loop-k
+invariant-loop-k l = record {
+  above : l.every ≡ 1 → (k : ℕ) → k < l.k → (d : PairRows) (f : FrontForm) → IsFrontOfPair l.arcs (fine_signals l.signals) (get_or l.pairs k d) f → f.h ≤ l.greatest;
+  attained : 1 ≤ l.k → (k : ℕ) × ((k < l.k) × ((d : PairRows) (f : FrontForm) → IsFrontOfPair l.arcs (fine_signals l.signals) (get_or l.pairs k d) f → f.h ≡ l.greatest));
+  none : l.k ≡ 0 → l.greatest ≡ 0;
   few : l.greatest ≤ 77;
   columns : l.room.front.columns ≡ l.initial.room.front.columns;
 }

@@ -5,7 +5,7 @@ use Rattle.std.proofs.lemmas.List.Elements.{All-push}
 use Rattle.integer_form.specs.FloatPoint.{HasWide}
 use Rattle.track_sum.specs.declared.factors.PairFactors.{PairFactors}
 use Rattle.track_sum.specs.Factors.{move_by}
-use Rattle.track_sum.proofs.ZeroForms.{zero_symmetric, zero_small, zero_outside}
+use Rattle.lower_form.proofs.ZeroForms.{zero_symmetric, zero_small, zero_outside}
 use Rattle.track_sum.proofs.moves.moves_at.Goals as goal
 
 pub of-front-requires-clause-symmetric : goal.of-front-requires-clause-symmetric

@@ -23,6 +23,7 @@ use Rattle.track_sum.proofs.SumOfForms.{entry_more}
 use Rattle.track_sum.proofs.TrackEntries.{none_entry}
 use Rattle.track_sum.proofs.FrontLists.{columns_of_front, HasPlace, front_place, fronts_from}
 use Rattle.track_sum.proofs.OneForm.{same_parts}
+use Rattle.track_sum.proofs.OneFront.{one_front}
 use Rattle.track_sum.proofs.sums.add_fronts.Goals as goal
 
 -- ---- one pair more
@@ -51,6 +52,9 @@ factors_more arcs ss pairs kept more k p m are inside at is pushed =
     (subst (λ (ps : List PairRows). AreFactors arcs ss ps (kept ++ m ∷ [])) (sym (take_more pairs k p inside))
     (all_zipped_more (AreOfPair arcs ss) (take k pairs) kept (get_or pairs k p) m are (subst (λ (x : PairRows). AreOfPair arcs ss x m) (sym at) is)))
 
+within_most : (a b m : ℕ) → a ≡ b → b ≤ m → a ≤ m
+within_most a b m e h = omega (arith, e, h)
+
 larger : (a b i : ℕ) → a ≤ b + 2 ^ 64 → b ≤ i * 2 ^ 64 → a ≤ (i + 1) * 2 ^ 64
 larger a b i h g = omega arith
 
@@ -75,13 +79,9 @@ loop-pair-init c =
       factors = subst (λ (ks : List PairFactors). AreFactors c.args.arcs.now (fine_signals c.args.signals) [] ks) (sym none) tt;
       columns = c.requires.columns;
       fronts = λ j l d. absurd (omega (arith, l));
+      above = λ j l d f i. absurd (omega (arith, l));
       sizes = λ r k l b. size_zero _ (z (3 + r) (3 + k));
     }
-
-pub overflow_sub-h : goal.overflow_sub-h
-overflow_sub-h c =
-    c.requires.above c.loop-pair.pair-index c.loop-pair-test.true c.pair-item.result c.fill.new.self.front
-    (subst (λ (p : PairRows). IsFrontOfPair c.args.arcs.now (fine_signals c.args.signals) p c.fill.new.self.front) c.pair-item.is c.in-Ok.ensures.front)
 
 pub add_front-requires-clause-sizes : goal.add_front-requires-clause-sizes
 add_front-requires-clause-sizes c =
@@ -115,11 +115,29 @@ loop-pair-preserved c =
       columns = c.in-Ok.ensures.columns ∙ c.loop-pair.invariant.columns;
       fronts = below_more (λ j. (d : PairRows) → HasFront arcs ss (get_or pairs j d)) k c.loop-pair.invariant.fronts
           (λ d. (f, subst (λ (x : PairRows). IsFrontOfPair arcs ss x f) (c.pair-item.is ∙ sym (get_or_default pairs k d p inside)) is));
+      above = below_more (λ j. (d : PairRows) (g : FrontForm) → IsFrontOfPair arcs ss (get_or pairs j d) g → g.h ≤ c.args.most) k c.loop-pair.invariant.above
+          (λ d g i. within_most g.h f.h c.args.most (one_front arcs ss p g f (subst (λ (x : PairRows). IsFrontOfPair arcs ss x g) (get_or_default pairs k d p inside ∙ sym c.pair-item.is) i) is).h
+          c.if-front-most.false);
       sizes = λ r q l b. larger _ _ k (c.add_front.ensures.sizes r q l (within q (integer_count arcs ss) b columns)) (c.loop-pair.invariant.sizes r q l b);
     }
 
-pub returns-in-Err-clause-refused : goal.returns-in-Err-clause-refused
-returns-in-Err-clause-refused c =
+-- the first pair whose front is over
+pub returns-then-front-most-clause-stopped : goal.returns-then-front-most-clause-stopped
+returns-then-front-most-clause-stopped c =
+    let pairs : List PairRows = c.args.pairs.now in
+    let k : ℕ = c.loop-pair.pair-index in
+    let p : PairRows = c.pair-item.result in
+    let f : FrontForm = c.fill.new.self.front in
+    let inside : k < length pairs = search rules in
+    let is : IsFrontOfPair c.args.arcs.now (fine_signals c.args.signals) p f = c.in-Ok.ensures.front in
+    λ are. apart f.h c.args.most c.if-front-most.true
+    (are k inside p f (subst (λ (x : PairRows). IsFrontOfPair c.args.arcs.now (fine_signals c.args.signals) x f) (c.pair-item.is ∙ sym (get_or_default pairs k p p inside)) is))
+  where
+    apart : (a b : ℕ) → b < a → a ≤ b → ⊥
+    apart a b h g = absurd (omega (arith, h, g))
+
+pub returns-in-Err-clause-stopped : goal.returns-in-Err-clause-stopped
+returns-in-Err-clause-stopped c =
     let pairs : List PairRows = c.args.pairs.now in
     let k : ℕ = c.loop-pair.pair-index in
     let inside : k < length pairs = search rules in
@@ -144,3 +162,9 @@ returns-clause-sums c = λ fs are r q l b.
   where
     past : (a b k : ℕ) → a ≡ b → b ≤ k → a ≤ k
     past a b k e h = omega arith
+
+pub returns-clause-above : goal.returns-clause-above
+returns-clause-above c = λ k l d f i. c.loop-pair.invariant.above k (before k (length c.args.pairs.now) c.loop-pair.pair-index l c.loop-pair-test.false) d f i
+  where
+    before : (a n k : ℕ) → a < n → n ≤ k → a < k
+    before a n k h g = omega (arith, h, g)

@@ -5,7 +5,7 @@ use Rattle.obs_rows.specs.Integers.{integer_count}
 use Rattle.form_tables.specs.Tables.{entry}
 use Rattle.integer_form.specs.declared.front_form.FrontForm.{FrontForm}
 use Rattle.track_sum.specs.Fronts.{track_entry}
-use Rattle.track_sum.specs.PairFronts.{HasFront, AreFronts, brief}
+use Rattle.track_sum.specs.PairFronts.{IsFrontOfPair, HasFront, AreFronts, brief}
 use Rattle.track_sum.specs.Factors.{AreFactors}
 use Rattle.track_sum.proofs.sums.add_fronts.Given as goal
 
@@ -18,5 +18,6 @@ invariant-loop-pair l = record {
   factors : AreFactors l.arcs (fine_signals l.signals) (take l.pair-index l.pairs) l.kept.items;
   columns : l.room.front.columns ≡ 4 + integer_count l.arcs (fine_signals l.signals);
   fronts : (k : ℕ) → k < l.pair-index → (d : PairRows) → HasFront l.arcs (fine_signals l.signals) (get_or l.pairs k d);
+  above : (k : ℕ) → k < l.pair-index → (d : PairRows) (f : FrontForm) → IsFrontOfPair l.arcs (fine_signals l.signals) (get_or l.pairs k d) f → f.h ≤ l.most;
   sizes : (r c : ℕ) → r ≤ c → c < 1 + integer_count l.arcs (fine_signals l.signals) → unsigned_abs (entry l.table (3 + r) (3 + c)) ≤ l.pair-index * 2 ^ 64;
 }

@@ -1,6 +1,6 @@
 use Rattle.integer_form.specs.declared.front_form.FrontForm.{FrontForm}
 use Rattle.track_sum.specs.declared.factors.PairFactors.{PairFactors}
-use Rattle.track_sum.proofs.ZeroForms.{zero_outside}
+use Rattle.lower_form.proofs.ZeroForms.{zero_outside}
 use Rattle.track_sum.proofs.factors.PairFactors.put_in.Goals as goal
 
 pub invariant_of-front : goal.invariant_of-front

@@ -1,7 +1,7 @@
 use Rattle.std.proofs.Common.{◌≡◌, ℕ, ◌+◌, List, arith, ap, ◌∙◌}
 use Rattle.obs_rows.specs.Integers.{integer_count}
 use Rattle.normal_sum.proofs.PlaceLaws.{count_within}
-use Rattle.track_sum.proofs.ZeroForms.{zero_symmetric, zero_small, zero_outside}
+use Rattle.lower_form.proofs.ZeroForms.{zero_symmetric, zero_small, zero_outside}
 use Rattle.track_sum.proofs.fronts.PairRoom.new.Goals as goal
 
 -- one column for each integer, the baseline's and the constant
