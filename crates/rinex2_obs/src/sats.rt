@@ -4,6 +4,7 @@ ghost use Rattle.std.specs.declared.option.Option.{Option};
 ghost use Rattle.gps_time.specs.declared.Tick.{Tick};
 ghost use Rattle.obs_store.specs.declared.series.Epoch.{Epoch};
 ghost use Rattle.obs_store.specs.declared.values.SatObs.{SatObs};
+ghost use Rattle.obs_store.specs.Missing.{missing_values};
 ghost use Rattle.rinex_head.specs.Walk.{Reads, ReadsFree};
 ghost use Rattle.rinex2_obs.specs.Profile.{kept_of};
 ghost use Rattle.rinex2_obs.specs.SatNumbers.{AreNames, AreNew, IsWith};
@@ -15,7 +16,7 @@ use crate::sat_names::{NameList, further_names};
 use crate::sat_numbers::SatNames;
 use line_source::Lines;
 use obs_fields::{KeptType, Layout, set_values};
-use obs_store::{SatObs, Satellites};
+use obs_store::{SLOTS, Satellites, Value};
 use rinex_head::{At, TextFault, What, next_line};
 use std::alloc::Global;
 
@@ -36,27 +37,26 @@ fn read_names(lines: &mut Lines<'_>, list: NameList) -> Result<SatNames, At>
     Ok(list.names)
 }
 
-// The lines of a satellite of GPS.
+// The lines of a satellite of GPS. Its values are set in the place of missing ones.
 fn read_rows(
     lines: &mut Lines<'_>,
     header: &Header,
     kept: &[KeptType],
-    number: u8,
-) -> Result<SatObs, At>
-    requires { kept.now ≡ kept_of header.now.types }
-    ensures reads { (epochs : List Epoch) (tag : Tick) (power : Bool) (sats : List SatObs) (names : List (Option ℕ)) → ReadsFree obs2_rules lines.old lines.new (more_sats header.now epochs tag power sats (Some number ∷ names)) (λ sat. more_sats header.now epochs tag power (sats ++ sat ∷ []) names) result }
-    ensures number { IfOk result (λ sat. sat.number ≡ number) }
+    values: &mut [Option<Value>; SLOTS],
+) -> Result<(), At>
+    requires kept { kept.now ≡ kept_of header.now.types }
+    requires missing { values.old ≡ missing_values }
+    ensures reads { (number : ℕ) (epochs : List Epoch) (tag : Tick) (power : Bool) (sats : List SatObs) (names : List (Option ℕ)) → ReadsFree obs2_rules lines.old lines.new (more_sats header.now epochs tag power sats (Some number ∷ names)) (λ u. more_sats header.now epochs tag power (sats ++ record { number = number; values = values.new } ∷ []) names) result }
     ensures less { length lines.new.left ≤ length lines.old.left }
 {
-    let mut sat = SatObs::missing(number);
     for at in 0..header.rows() {
         let line = next_line(lines, What::Truncated)?;
-        match set_values(Layout::Rinex2, at, line.bytes, kept, &mut sat.values) {
+        match set_values(Layout::Rinex2, at, line.bytes, kept, values) {
             Ok(()) => {}
             Err(flaw) => return Err(flaw.at(line.number)),
         }
     }
-    Ok(sat)
+    Ok(())
 }
 
 // The lines of a satellite of another system.
@@ -86,11 +86,12 @@ fn read_satellite(
 {
     match name {
         Some(number) => {
-            let sat = match read_rows(lines, header, kept, number) {
-                Ok(sat) => sat,
+            let mut values = [None; SLOTS];
+            match read_rows(lines, header, kept, &mut values) {
+                Ok(()) => {}
                 Err(at) => return Err(TextFault::Refused(at)),
-            };
-            match sats.push(sat) {
+            }
+            match sats.add(number, &values) {
                 Ok(()) => Ok(()),
                 Err(_) => Err(TextFault::NoMemory),
             }

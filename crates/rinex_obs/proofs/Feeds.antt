@@ -1,10 +1,10 @@
 -- The lines of a text that is taken in pieces.
 use Rattle.std.proofs.Common.{◌≡◌, ◌<◌, ◌≤◌, ◌+◌, ◌-◌, ◌==◌, nat_lt, ℕ, zero, suc, Bool, true, false, List, [], ◌∷◌, ◌++◌, length, take, drop, slice_index, Result, Ok, Err, OnOk, IfErr, refl, sym, ap, subst, ◌∙◌, arith, append_assoc, length-append, length-take}
-use Rattle.std.proofs.lemmas.Bool.{false_from_ne_true}
 use Rattle.std.proofs.lemmas.Bool.Decides.{nat_tests}
 use Rattle.std.proofs.lemmas.List.{append-nil}
 use Rattle.std.specs.Str.Lines.{strip_carriage_return}
 use Rattle.line_source.specs.Lines.{lines_from, lines_of}
+use Rattle.line_source.proofs.LineEnds.{ends_at}
 use Rattle.rinex_head.specs.declared.place.At.{At}
 use Rattle.rinex_head.specs.declared.place.What.TheVariants.{LongLine}
 use Rattle.rinex_head.specs.Places.{place, at_line}
@@ -19,34 +19,11 @@ use Rattle.obs_fields.proofs.AmountLaws.{tail_is}
 use Rattle.rinex_obs.specs.ObsRules.{Expected, obs_rules, obs_of, finish}
 use Rattle.rinex_obs.specs.ObsForm.{HasObsFile}
 use Rattle.rinex_obs.proofs.FormPlaces.{file_of_rules, rules_of_file, ends, ok_exit, only_exit}
-use Rattle.memchr.specs.Find.{is_byte, Passes, Nowhere, NoneBefore}
-use Rattle.rinex_obs.specs.Started.{EndsLine, GoesOn}
+use Rattle.memchr.specs.Find.{is_byte, Passes, NoneBefore}
+use Rattle.rinex_obs.specs.Started.{EndsLine}
 use Rattle.rinex_obs.specs.Feeding.{line_gives, gives_with, Takes, TakesAll, IsFed, IsAnswerTo}
 
 -- ---- where a line ends
-
-goes_byte : (b : ℕ) (rest line : List ℕ) → (b == 10) ≡ false → lines_from (b ∷ rest) line ≡ lines_from rest (line ++ b ∷ [])
-goes_byte b rest line other = rw other refl
-
-ends_byte : (b : ℕ) (rest line : List ℕ) → (b == 10) ≡ true → lines_from (b ∷ rest) line ≡ strip_carriage_return line ∷ lines_from rest []
-ends_byte b rest line feed = rw feed refl
-
--- bytes without a line feed belong to the line
-pub goes_on : (bytes : List ℕ) → Nowhere (Passes (is_byte 10) bytes) 0 (length bytes) → GoesOn bytes
-goes_on [] none line more = ap (λ l. lines_from more l) (sym (append-nil line))
-goes_on (b ∷ bs) none line more =
-    goes_byte b (bs ++ more) line (false_from_ne_true (b == 10) (none 0 (omega arith) (omega arith)))
-    ∙ goes_on bs (λ k from inside. none (suc k) (omega arith) (omega arith)) (line ++ b ∷ []) more
-    ∙ ap (λ l. lines_from more l) (append_assoc line (b ∷ []) bs)
-
--- the first line feed ends it
-pub ends_at : (bytes : List ℕ) (k : ℕ) → k < length bytes → Nowhere (Passes (is_byte 10) bytes) 0 k → Passes (is_byte 10) bytes k → EndsLine bytes (take k bytes) (drop (suc k) bytes)
-ends_at [] k inside none is line more = absurd (omega arith)
-ends_at (b ∷ bs) zero inside none is line more = ends_byte b (bs ++ more) line is ∙ ap (λ l. strip_carriage_return l ∷ lines_from (bs ++ more) []) (sym (append-nil line))
-ends_at (b ∷ bs) (suc k) inside none is line more =
-    goes_byte b (bs ++ more) line (false_from_ne_true (b == 10) (none 0 (omega arith) (omega arith)))
-    ∙ ends_at bs k (omega arith) (λ j from lt. none (suc j) (omega arith) (omega arith)) is (line ++ b ∷ []) more
-    ∙ ap (λ l. strip_carriage_return l ∷ lines_from (drop (suc k) bs ++ more) []) (append_assoc line (b ∷ []) (take k bs))
 
 pub ends_slices : (bytes : List ℕ) (k : ℕ) → NoneBefore (Passes (is_byte 10) bytes) 0 (length bytes) k × Passes (is_byte 10) bytes k
     → EndsLine bytes (take k bytes) (take (length bytes - (k + 1)) (drop (k + 1) bytes))

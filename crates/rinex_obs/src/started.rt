@@ -66,7 +66,7 @@ impl StartedLine {
 }
 
 /// The bytes before the first line feed and those after it, if there is one.
-#[tactic(auto, using(crate::proofs::Feeds::ends_slices, crate::proofs::Feeds::front_slices, crate::proofs::Feeds::goes_on))]
+#[tactic(auto, using(crate::proofs::Feeds::ends_slices, crate::proofs::Feeds::front_slices, line_source::proofs::LineEnds::goes_on))]
 pub fn split_line(bytes: &[u8]) -> Option<(&[u8], &[u8])>
     ensures ends { IfSome result (λ parts. EndsLine bytes.now parts.0.now parts.1.now) }
     ensures front { IfSome result (λ parts. parts.0.now ≡ take (length parts.0.now) bytes.now) }

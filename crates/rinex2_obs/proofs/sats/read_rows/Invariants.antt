@@ -9,10 +9,9 @@ use Rattle.rinex2_obs.proofs.sats.read_rows.Given as goal
 
 abbrev pub invariant-loop-at : goal.invariant-loop-at
 invariant-loop-at l = record {
-  reads : (epochs : List Epoch) (tag : Tick) (power : Bool) (sats : List SatObs) (names : List (Option ℕ))
-      → rest_gives obs2_rules l.fn.lines (more_sats l.header epochs tag power sats (Some l.number ∷ names))
-      ≡ rest_gives obs2_rules l.lines (more_rows l.header epochs tag power sats (Some l.number) names l.at l.sat.values);
-  same : l.sat.number ≡ l.number;
+  reads : (number : ℕ) (epochs : List Epoch) (tag : Tick) (power : Bool) (sats : List SatObs) (names : List (Option ℕ))
+      → rest_gives obs2_rules l.fn.lines (more_sats l.header epochs tag power sats (Some number ∷ names))
+      ≡ rest_gives obs2_rules l.lines (more_rows l.header epochs tag power sats (Some number) names l.at l.values);
   less : length l.lines.left ≤ length l.fn.lines.left;
   end : l.at-end ≡ rows_of l.header.types;
 }
