@@ -5,7 +5,7 @@ ghost use Rattle.trig_box.specs.AnglePairs.{IsAnglePair};
 ghost use Rattle.trig_box.specs.PairBoxes.{HoldsPair, AreAtMostWide, HasEndsWithin};
 ghost use Rattle.trig_box.specs.Chain.{code_pair};
 
-use crate::{PairBox, around, pad_for, point_pair};
+use crate::{PairBox, around, pad_for, point_pair, small_point_pair};
 
 /// An angle in units of 2^-56, of at most 16 rad, and the cosine and the sine that 5 doublings lead to, in units of 2^-62.
 #[derive(Clone, Copy, Debug)]
@@ -27,6 +27,15 @@ impl PointPair {
         ensures { result.angle ≡ angle }
     {
         let (cos, sin) = point_pair(angle, 5);
+        PointPair { angle, cos, sin }
+    }
+
+    /// The same for an angle below 2^-16 rad, by shorter sums.
+    pub fn of_small(angle: i64) -> PointPair
+        requires { unsigned_abs angle ≤ 2 ^ 40 }
+        ensures { result.angle ≡ angle }
+    {
+        let (cos, sin) = small_point_pair(angle);
         PointPair { angle, cos, sin }
     }
 
