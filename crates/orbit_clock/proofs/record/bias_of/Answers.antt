@@ -1,4 +1,4 @@
-use Rattle.std.proofs.Common.{◌≡◌, suc, ◌^◌, to_z, of_z, [], ◌∷◌, ℤ, pos, negsuc, ◌*ℤ◌, ap, ◌∙◌, refl, sym, subst, lit≤}
+use Rattle.std.proofs.Common.{◌≡◌, suc, ◌^◌, to_z, [], ◌∷◌, ℤ, pos, negsuc, ◌*ℤ◌, ap, ◌∙◌, refl, sym, subst, lit≤}
 use Rattle.std.proofs.lemmas.Int.{to_z-of_z}
 use Rattle.std.specs.Int.{w64}
 use Rattle.whole_math.proofs.Ring.{va, ko, ◌⊕◌, ◌⊗◌, ng}
