@@ -1,8 +1,8 @@
 //! The eccentric anomaly: boxes of all solutions of Kepler's equation M = E − e·sin E (IS-GPS-200, table 20-IV).
 //!
 //! `anomaly_box` holds every solution of Kepler's equation for every mean anomaly and eccentricity of its boxes
-//! (`holds`), and says how near its boxes the solutions are whose mean anomaly lies outside (`near`). It takes no
-//! memory and is never refused.
+//! (`holds`), and says how near its boxes the solutions are whose mean anomaly lies outside (`near`). `anomaly_near` is
+//! the same by a shorter search, from a solution nearby. They take no memory and are never refused.
 #![tactic(auto)]
 
 ghost use Rattle.std.specs.Prelude.{◌≡◌, ◌+◌, ◌-◌, ◌*◌, ◌^◌, ◌<◌, ◌≤◌, pos, ◌+ℤ◌, ◌-ℤ◌, ◌*ℤ◌, ℤ, ◌≤ℤ◌, unsigned_abs, IfSome};
@@ -15,8 +15,11 @@ ghost use Rattle.trig_box.specs.AnglePairs.{IsAnglePair};
 ghost use Rattle.kepler_box.specs.Kepler.{SolvesKepler, HoldsAnomaly, IsNearAnomaly, IsPairAtMostWide, IsAnomalyBox};
 ghost use Rattle.kepler_box.specs.Steps.{IsMeanAnomaly, IsAngle, IsEccentricity, IsStep, AreNear, last_step, residual_limit, radius_limit, angle_width_limit, pair_width_limit};
 
+mod rough;
+
 use iv_core::Iv;
-use trig_box::{PairBox, pair_box, rough_pair};
+use rough::{next_angle, rough_step};
+use trig_box::{PairBox, PointPair, pair_box};
 
 // After fourteen a further step leads at most 3 units away, wherever the first began.
 const ROUNDS: u32 = 14;
@@ -57,6 +60,16 @@ fn sine_of(angle: i64) -> Iv<60>
     pair_box(&point, 5).sin
 }
 
+// The same by the pair of the angle
+fn sine_at(point: &PointPair) -> Iv<60>
+    requires angle { IsAngle point.now.angle }
+    ensures holds { (c s : Rational) → IsAnglePair 5 (of_scale 56 point.now.angle) c s → Holds result s }
+    ensures lo_size { unsigned_abs result.lo ≤ 2 ^ 61 }
+    ensures hi_size { unsigned_abs result.hi ≤ 2 ^ 61 }
+{
+    point.within(0).sin
+}
+
 fn product(e: i64, sine: i64) -> i128
     requires e_size { unsigned_abs e ≤ 2 ^ 55 }
     requires size { unsigned_abs sine ≤ 2 ^ 61 }
@@ -73,11 +86,6 @@ fn coarse(z: i128) -> i64
     ensures size { Within (pos (2 ^ 52)) result }
 {
     (z >> 64) as i64
-}
-
-// The upper half of a product
-fn high(a: i64, b: i64) -> i64 {
-    (a as i128 * b as i128 >> 64) as i64
 }
 
 // e · sine in units of 2^-56, rounded down
@@ -160,29 +168,20 @@ fn nearer(m: i64, e: i64, angle: i64) -> i64
     in_reach(m, angle + drawn_out(change, pull, second))
 }
 
-// The next angle by Newton's rule, from a rough pair. `means` and `shapes` are the sums of the ends of the mean anomaly's box and of the
-// eccentricity's, so that the right side's middle is meant. The change is in units of 2^-60, so that only the last sum is rounded.
-fn rough_step(means: i64, shapes: i64, angle: i64) -> i64 {
-    let (cos, sin) = rough_pair(angle);
-    let apart = means.wrapping_sub(angle.wrapping_mul(2));
-    let change = apart
-        .wrapping_mul(8)
-        .wrapping_add(high(shapes, sin).wrapping_mul(2));
-    // change / (1 - pull), by three terms more; pull is in units of 2^-64
-    let pull = high(shapes, cos) << 5;
-    let first = change.wrapping_add(high(change, pull));
-    let second = change.wrapping_add(high(first, pull));
-    let sum = change.wrapping_add(high(second, pull));
-    angle.wrapping_add(sum.wrapping_add(8) >> 4)
-}
-
 // About the solution, in reach of m. Nothing more is claimed of it: it is where a solution is looked for first.
 fn aimed(m: i64, means: i64, shapes: i64) -> i64
     requires mean { IsMeanAnomaly m }
     ensures { IsAngle result }
 {
-    let near = rough_step(means, shapes, rough_step(means, shapes, m));
-    in_reach(m, rough_step(means, shapes, near))
+    in_reach(m, rough_step(means, shapes, rough_step(means, shapes, m)))
+}
+
+// The same, from an angle nearby with its pair
+fn aimed_from(m: i64, means: i64, shapes: i64, start: &PointPair) -> i64
+    requires mean { IsMeanAnomaly m }
+    ensures { IsAngle result }
+{
+    in_reach(m, next_angle(means, shapes, start))
 }
 
 // The angle from which a further step leads at most 3 units away. Newton's rule leads near it.
@@ -265,26 +264,29 @@ pub struct Anomaly {
     pub angle: Iv<56>,
     pub cos: Iv<60>,
     pub sin: Iv<60>,
+    /// The pair of the angle's middle: where a search for a solution nearby may begin
+    pub middle: PointPair,
 }
 
 // The box that reaches `radius` beyond the angle, with the boxes of its pairs
-fn pairs_around(angle: i64, radius: i64) -> Anomaly
-    requires angle { IsAngle angle }
+fn pairs_around(point: &PointPair, radius: i64) -> Anomaly
+    requires angle { IsAngle point.now.angle }
     requires radius_low { pos 0 ≤ℤ radius }
     requires radius_high { radius ≤ℤ radius_limit }
-    ensures lo { result.angle.lo ≡ angle -ℤ radius }
-    ensures hi { result.angle.hi ≡ angle +ℤ radius }
+    ensures lo { result.angle.lo ≡ point.now.angle -ℤ radius }
+    ensures hi { result.angle.hi ≡ point.now.angle +ℤ radius }
     ensures pairs { (x c s : Rational) →
         Holds result.angle x → IsAnglePair 5 x c s → Holds result.cos c × Holds result.sin s }
     ensures pair_width { IsPairAtMostWide pair_width_limit result }
     ensures ends { IsWithin (9 * 2 ^ 57) result.cos × IsWithin (9 * 2 ^ 57) result.sin }
 {
-    let reach = around(angle, radius);
-    let pair = pair_box(&reach, 5);
+    let reach = around(point.angle, radius);
+    let pair = point.within(radius);
     Anomaly {
         angle: reach,
         cos: pair.cos,
         sin: pair.sin,
+        middle: *point,
     }
 }
 
@@ -296,7 +298,8 @@ fn found_at(m: &Iv<56>, e: &Iv<60>, angle: i64) -> Option<Anomaly>
     requires angle { IsAngle angle }
     ensures { IfSome result (λ b. IsAnomalyBox m.now e.now b) }
 {
-    let sine = sine_of(angle);
+    let point = PointPair::of(angle);
+    let sine = sine_at(&point);
     let right = right_side(m, e, &sine);
     let lo = right.lo();
     let hi = right.hi();
@@ -307,7 +310,7 @@ fn found_at(m: &Iv<56>, e: &Iv<60>, angle: i64) -> Option<Anomaly>
         return None;
     }
     let radius = widened(residual_of(angle, lo, hi));
-    Some(pairs_around(angle, radius))
+    Some(pairs_around(&point, radius))
 }
 
 /// `anomaly_box` by steps from box to box, which come near enough to every solution. It serves where a rough start does not.
@@ -323,7 +326,7 @@ pub fn anomaly_by_steps(m: &Iv<56>, e: &Iv<60>) -> Anomaly
     let sine = sine_of(angle);
     let right = right_side(m, e, &sine);
     let radius = widened(residual_of(angle, right.lo(), right.hi()));
-    pairs_around(angle, radius)
+    pairs_around(&PointPair::of(angle), radius)
 }
 
 /// Boxes of every solution of Kepler's equation for a mean anomaly in `m` and an eccentricity in `e`.
@@ -367,6 +370,24 @@ pub fn anomaly_box(m: &Iv<56>, e: &Iv<60>) -> Anomaly
     let means = m.lo().wrapping_add(m.hi());
     let shapes = e.lo().wrapping_add(e.hi());
     let guess = aimed(middle_of(m.lo(), m.hi()), means, shapes);
+    match found_at(m, e, guess) {
+        Some(found) => found,
+        None => anomaly_by_steps(m, e),
+    }
+}
+
+/// `anomaly_box` by a search that begins at the pair of an angle nearby. Nothing that is said of the boxes rests on it.
+pub fn anomaly_near(m: &Iv<56>, e: &Iv<60>, start: &PointPair) -> Anomaly
+    requires mean { IsWithin (12 * 2 ^ 56) m.now }
+    requires mean_narrow { width_of m.now ≤ℤ pos (2 ^ 4) }
+    requires eccentricity_low { pos 0 ≤ℤ e.now.lo }
+    requires eccentricity_high { e.now.hi ≤ℤ pos (2 ^ 55) }
+    requires eccentricity_narrow { width_of e.now ≤ℤ pos 2 }
+    ensures { IsAnomalyBox m.now e.now result }
+{
+    let means = m.lo().wrapping_add(m.hi());
+    let shapes = e.lo().wrapping_add(e.hi());
+    let guess = aimed_from(middle_of(m.lo(), m.hi()), means, shapes, start);
     match found_at(m, e, guess) {
         Some(found) => found,
         None => anomaly_by_steps(m, e),

@@ -1,6 +1,7 @@
 //! Eccentric anomalies as mpmath gives them.
 use iv_core::Iv;
-use kepler_box::{Anomaly, anomaly_box, anomaly_by_steps};
+use kepler_box::{Anomaly, anomaly_box, anomaly_by_steps, anomaly_near};
+use trig_box::PointPair;
 
 // A mean anomaly in units of 2^-56 and an eccentricity in units of 2^-60; then the solution as mpmath gives it, rounded
 // down: the angle in units of 2^-56, its cosine and its sine in units of 2^-60.
@@ -200,6 +201,29 @@ fn box_fault(row: &Solution) -> Option<&'static str> {
     }
     let found = anomaly_box(&Iv::from_ends(m, m), &Iv::from_ends(e, e));
     held_fault(&found, angle, cos, sin)
+}
+
+// What of a row isn't held from a start a little aside, and from one at the mean anomaly.
+fn near_fault(row: &Solution) -> Option<&'static str> {
+    let (m, e, angle, cos, sin) = *row;
+    if m < -(12 << 56) || m > 12 << 56 || e < 0 || e > 1 << 55 {
+        return Some("out of range");
+    }
+    let (means, shapes) = (Iv::from_ends(m, m), Iv::from_ends(e, e));
+    for aside in [m, angle.clamp(-(12 << 56), 12 << 56) + (1 << 20)] {
+        let found = anomaly_near(&means, &shapes, &PointPair::of(aside));
+        if let Some(fault) = held_fault(&found, angle, cos, sin) {
+            return Some(fault);
+        }
+    }
+    None
+}
+
+#[test]
+fn solutions_nearby(rt: HostRuntime) {
+    for row in SOLUTIONS.iter() {
+        assert_eq!(rt; near_fault(row), None, "at {} and {}", row.0, row.1);
+    }
 }
 
 #[test]

@@ -2,7 +2,7 @@
 ghost use Rattle.std.specs.Prelude.{◌*◌, ◌^◌, ◌≤◌, pos, ◌≤ℤ◌};
 
 use iv_core::Iv;
-use orbit_place::{AXIS, Orbit, eccentric_pair, place_of};
+use orbit_place::{ANGLE, AXIS, Orbit, Shape, eccentric_pair, place_of, rotation_of};
 use sized_box::SizedBox;
 use std::process::Abort;
 
@@ -273,11 +273,11 @@ fn orbit_of(rt: &impl Abort, case: &Case) -> Orbit {
     let mean = Iv::from_ends(case.mean, case.mean);
     let eccentricity = Iv::from_ends(case.eccentricity, case.eccentricity);
     Orbit {
-        eccentricity: SizedBox::new(eccentricity),
+        shape: Shape::of(&SizedBox::new(eccentricity)),
         anomaly: eccentric_pair(&mean, &eccentricity),
         axis: axis_at(rt, case.axis),
         epoch_time: at(rt, case.epoch_time),
-        perigee: at(rt, case.perigee),
+        perigee: rotation_of(&at::<56, ANGLE, 1>(rt, case.perigee)),
         inclination: at(rt, case.inclination),
         node: at(rt, case.node),
         inclination_rate: at(rt, case.inclination_rate),

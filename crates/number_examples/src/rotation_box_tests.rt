@@ -1,6 +1,6 @@
 //! Sums, doubles and true anomalies as mpmath gives them.
 use iv_core::Iv;
-use orbit_place::{Rotation, eccentric_pair, on_ellipse, rotation_of, wide_rotation_of};
+use orbit_place::{Rotation, Shape, eccentric_pair, on_ellipse, rotation_of, wide_rotation_of};
 use sized_box::SizedBox;
 
 const LIMIT: u64 = 1 << 60;
@@ -157,7 +157,8 @@ fn ellipse_fault(row: &Ellipse) -> Option<&'static str> {
         return Some("out of range");
     }
     let anomaly = eccentric_pair(&Iv::from_ends(mean, mean), &Iv::from_ends(e, e));
-    let found = on_ellipse(&SizedBox::new(Iv::from_ends(e, e)), &anomaly);
+    let shape = Shape::of(&SizedBox::new(Iv::from_ends(e, e)));
+    let found = on_ellipse(&shape, &anomaly);
     if !is_around(&found.radius.held, radius) {
         return Some("the radius");
     }

@@ -2,7 +2,7 @@
 use Rattle.std.proofs.Common.{◌+◌, ◌-◌, ◌*◌, ◌^◌, ℤ, pos, ◌+ℤ◌, ◌-ℤ◌, ◌*ℤ◌, ◌≤ℤ◌, ◌<ℤ◌, arith}
 use Rattle.std.proofs.lemmas.Int.{ints, by_lt_z}
 use Rattle.whole_math.proofs.Inequalities.{pos_nn}
-use Rattle.whole_math.proofs.Certificates.{weak, square_root, nm}
+use Rattle.whole_math.proofs.Certificates.{weak, square_root}
 use Rattle.rational.specs.Rational.{Rational, of_scale, two_to_minus, mul_r, AreWithin, InBox}
 use Rattle.orbit_place.proofs.RootCertificates.{low_square, high_square, half_square, upper_square, too_wide, above_root, below_root, above_near, below_near}
 

@@ -5,17 +5,18 @@ use Rattle.rational.specs.Rational.{Rational, ◌≈◌, of_whole, times, divide
 use Rattle.iv_core.specs.declared.Iv.{Iv}
 use Rattle.iv_core.specs.Intervals.{Holds}
 use Rattle.orbit_model.specs.Elements.{Elements, Constants}
-use Rattle.orbit_model.specs.Solution.{Quantities, IsSatelliteSolution}
+use Rattle.trig_box.specs.AnglePairs.{Pair}
+use Rattle.orbit_model.specs.Solution.{Quantities, IsSatelliteSolution, IsPairOf5}
 use Rattle.orbit_place.specs.Rotations.{HoldsBoth}
 use Rattle.orbit_place.specs.declared.orbit.Orbit.{Orbit}
 
 -- the boxes hold the numbers of a record and the quantities that the place is made from; times are over 10^4 s, and rates are times it
 pub record HoldsOrbit (b : Orbit) (eph : Elements) (q : Quantities) : Type 0 where
-  pub eccentricity : Holds b.eccentricity.held eph.ecc
+  pub eccentricity : Holds b.shape.eccentricity.held eph.ecc
   pub anomaly : HoldsBoth b.anomaly.cos b.anomaly.sin q.eccentric_pair
   pub axis : Holds b.axis.held q.axis
   pub epoch_time : Holds b.epoch_time.held (divided q.tk 10000 (lit< tt))
-  pub perigee : Holds b.perigee.held eph.peri
+  pub perigee : (p : Pair) → IsPairOf5 eph.peri p → HoldsBoth b.perigee.cos b.perigee.sin p
   pub inclination : Holds b.inclination.held eph.incl
   pub node : Holds b.node.held eph.node
   pub inclination_rate : Holds b.inclination_rate.held (times 10000 eph.incl_rate)

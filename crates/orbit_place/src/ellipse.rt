@@ -56,6 +56,28 @@ pub struct OnEllipse {
     pub ghost radius_least: { pos (2 ^ 60 - 1025 * 2 ^ 45) ≤ℤ radius.held.lo },
 }
 
+/// An eccentricity e and the near-roots of 1 - e². The lower end of these is one of them, but for 2^-50.
+#[derive(Clone, Copy, Debug)]
+pub struct Shape {
+    pub eccentricity: SizedBox<60, ECCENTRICITY, 1>,
+    pub root: SizedBox<60, SIZE, REST_WIDTH>,
+    pub ghost root_in: { (e w : Rational) → Holds eccentricity.held e → IsNearRoot w (sub_r one (mul_r e e)) → Holds root.held w },
+    pub ghost root_near: { (e : Rational) → Holds eccentricity.held e →
+        AreWithin (two_to_minus 50) (mul_r (of_scale 60 root.held.lo) (of_scale 60 root.held.lo)) (sub_r one (mul_r e e)) },
+}
+
+impl Shape {
+    /// The shape of an ellipse of that eccentricity.
+    pub fn of(eccentricity: &SizedBox<60, ECCENTRICITY, 1>) -> Shape
+        ensures { result.eccentricity.held ≡ eccentricity.now.held }
+    {
+        Shape {
+            eccentricity: *eccentricity,
+            root: root_of_rest(eccentricity),
+        }
+    }
+}
+
 fn one() -> Iv<60>
     ensures lo { result.lo ≡ pos (2 ^ 60) }
     ensures hi { result.hi ≡ pos (2 ^ 60) }
@@ -98,20 +120,16 @@ fn root_of_rest(eccentricity: &SizedBox<60, ECCENTRICITY, 1>) -> SizedBox<60, SI
 }
 
 /// The radius and the true anomaly, from the eccentricity and the pair of the eccentric anomaly.
-pub fn on_ellipse(
-    eccentricity: &SizedBox<60, ECCENTRICITY, 1>,
-    anomaly: &Rotation<1, ANOMALY_WIDTH>,
-) -> OnEllipse
-    ensures radius { (e : Rational) (p : Pair) → Holds eccentricity.now.held e →
+pub fn on_ellipse(shape: &Shape, anomaly: &Rotation<1, ANOMALY_WIDTH>) -> OnEllipse
+    ensures radius { (e : Rational) (p : Pair) → Holds shape.now.eccentricity.held e →
         HoldsBoth anomaly.now.cos anomaly.now.sin p → Holds result.radius.held (sub_r one (mul_r e p.cos)) }
-    ensures true_anomaly { (e w : Rational) (p v : Pair) → Holds eccentricity.now.held e →
+    ensures true_anomaly { (e w : Rational) (p v : Pair) → Holds shape.now.eccentricity.held e →
         HoldsBoth anomaly.now.cos anomaly.now.sin p → IsNearRoot w (sub_r one (mul_r e e)) →
         IsTrueAnomaly e w p v → HoldsBoth result.true_anomaly.cos result.true_anomaly.sin v }
 {
-    let radius = radius_of(eccentricity, anomaly);
-    let root = root_of_rest(eccentricity);
-    let shifted: SizedBox<60, PART, SHIFTED_WIDTH> = anomaly.cosine().sub(eccentricity);
-    let shortened: SizedBox<60, PART, SHORTENED_WIDTH> = root.mul(&anomaly.sine());
+    let radius = radius_of(&shape.eccentricity, anomaly);
+    let shifted: SizedBox<60, PART, SHIFTED_WIDTH> = anomaly.cosine().sub(&shape.eccentricity);
+    let shortened: SizedBox<60, PART, SHORTENED_WIDTH> = shape.root.mul(&anomaly.sine());
     let cos = shifted.div::<60, RADIUS, RADIUS_WIDTH, LEAST_RADIUS, 60, QUOTIENT, TRUE_WIDTH>(
         &radius,
     );

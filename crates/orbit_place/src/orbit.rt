@@ -1,7 +1,8 @@
 //! The numbers of an orbit, and how large they are.
 ghost use Rattle.std.specs.Prelude.{◌*◌, ◌^◌, ◌<◌, pos, ◌≤ℤ◌};
 
-use crate::ellipse::{ANOMALY_WIDTH, ECCENTRICITY};
+use crate::ellipse::{ANOMALY_WIDTH, Shape};
+use crate::plane::PERIGEE_WIDTH;
 use crate::rotations::Rotation;
 use sized_box::SizedBox;
 
@@ -27,15 +28,16 @@ pub const RADIUS_CHANGE: u64 = 10_000 << 40;
 #[derive(Clone, Copy, Debug)]
 pub struct Orbit {
     /// e
-    pub eccentricity: SizedBox<60, ECCENTRICITY, 1>,
+    pub shape: Shape,
     /// The pair of E
     pub anomaly: Rotation<1, ANOMALY_WIDTH>,
     /// A, in metres
     pub axis: SizedBox<36, AXIS, 4>,
     /// tk, in 10^4 s
     pub epoch_time: SizedBox<60, EPOCH_TIME, 3>,
-    /// ω, i0 and Ω0, in radians
-    pub perigee: SizedBox<56, ANGLE, 1>,
+    /// The pair of ω
+    pub perigee: Rotation<1, PERIGEE_WIDTH>,
+    /// i0 and Ω0, in radians
     pub inclination: SizedBox<56, ANGLE, 1>,
     pub node: SizedBox<56, ANGLE, 1>,
     /// The rates of i and Ω, in 10^-4 rad/s

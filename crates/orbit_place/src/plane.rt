@@ -8,11 +8,12 @@ ghost use Rattle.orbit_place.specs.Rotations.{HoldsBoth};
 ghost use Rattle.orbit_place.specs.Held.{ForSolutions};
 
 use crate::ellipse::{RADIUS, RADIUS_WIDTH, TRUE_WIDTH, on_ellipse};
-use crate::orbit::{ANGLE, AXIS, Orbit, RADIUS_CHANGE, SMALL};
+use crate::orbit::{AXIS, Orbit, RADIUS_CHANGE, SMALL};
 use crate::rotations::{Rotation, rotation_of};
 use sized_box::SizedBox;
 
-const PERIGEE_WIDTH: u64 = 544;
+/// The width of the boxes of the perigee's pair, in units of 2^-60.
+pub const PERIGEE_WIDTH: u64 = 544;
 
 // The argument of latitude, before its correction, and twice it.
 const LATITUDE_PART: u64 = 2281;
@@ -64,13 +65,12 @@ pub struct InPlane {
 // ν + ω
 fn latitude_of(
     true_anomaly: &Rotation<2, TRUE_WIDTH>,
-    perigee: &SizedBox<56, ANGLE, 1>,
+    perigee: &Rotation<1, PERIGEE_WIDTH>,
 ) -> Rotation<4, LATITUDE_WIDTH>
-    ensures holds { (x : Rational) (p q : Pair) → HoldsBoth true_anomaly.now.cos true_anomaly.now.sin p →
-        Holds perigee.now.held x → IsPairOf5 x q → HoldsBoth result.cos result.sin (turned p q) }
+    ensures holds { (p q : Pair) → HoldsBoth true_anomaly.now.cos true_anomaly.now.sin p →
+        HoldsBoth perigee.now.cos perigee.now.sin q → HoldsBoth result.cos result.sin (turned p q) }
 {
-    let turn: Rotation<1, PERIGEE_WIDTH> = rotation_of(perigee);
-    true_anomaly.turn::<1, PERIGEE_WIDTH, LATITUDE_PART, 4, LATITUDE_WIDTH>(&turn)
+    true_anomaly.turn::<1, PERIGEE_WIDTH, LATITUDE_PART, 4, LATITUDE_WIDTH>(perigee)
 }
 
 /// A correction of an angle, in radians: s sin 2Φ + c cos 2Φ
@@ -135,7 +135,7 @@ pub fn in_plane(orbit: &Orbit) -> InPlane
     ensures latitude { ForSolutions orbit.now (λ q. HoldsBoth result.latitude.cos result.latitude.sin q.corrected_pair) }
     ensures twice { ForSolutions orbit.now (λ q. HoldsBoth result.twice.cos result.twice.sin q.twice_pair) }
 {
-    let ellipse = on_ellipse(&orbit.eccentricity, &orbit.anomaly);
+    let ellipse = on_ellipse(&orbit.shape, &orbit.anomaly);
     let argument = latitude_of(&ellipse.true_anomaly, &orbit.perigee);
     let twice = argument.double::<TWICE_PART, 9, TWICE_WIDTH>();
     let change = angle_change(&orbit.cus, &orbit.cuc, &twice);

@@ -4,10 +4,12 @@ ghost use Rattle.std.specs.Int.{abs_diff};
 ghost use Rattle.rational.specs.Rational.{Rational, ◌≈◌, mul_r, times};
 ghost use Rattle.iv_core.specs.Intervals.{Holds};
 ghost use Rattle.orbit_model.specs.Elements.{Constants, sent_at};
-ghost use Rattle.orbit_model.specs.Solution.{Quantities, IsNearSolution, with_share};
+ghost use Rattle.trig_box.specs.AnglePairs.{Pair};
+ghost use Rattle.orbit_model.specs.Solution.{Quantities, IsNearSolution, with_share, IsPairOf5};
 ghost use Rattle.orbit_clock.specs.Records.{elements_of, constants_of};
 ghost use Rattle.orbit_clock.specs.Timings.{HoldsTiming};
 ghost use Rattle.orbit_place.specs.Held.{HoldsOrbit};
+ghost use Rattle.orbit_place.specs.Rotations.{HoldsBoth};
 ghost use Rattle.sv_orbit.specs.Solutions.{HoldsSolution, gps};
 
 use crate::SvBox;
@@ -15,7 +17,10 @@ use decimal_box::decimal_box;
 use eph_store::Eph;
 use gps_time::Tick;
 use orbit_clock::{AXIS, ClockRecord, Timing, World, axis, timing_at};
-use orbit_place::{ANGLE, Orbit, RADIUS_CHANGE, SMALL, TINY, eccentric_pair, place_of};
+use orbit_place::{
+    ANGLE, Orbit, PERIGEE_WIDTH, RADIUS_CHANGE, Rotation, SMALL, Shape, TINY, eccentric_pair_near,
+    place_of, rotation_of,
+};
 use sized_box::SizedBox;
 
 /// A record with the constants of its system, and boxes of all that its satellite's place and clock are made from: what does not
@@ -24,10 +29,13 @@ use sized_box::SizedBox;
 pub struct SvRecord {
     /// What the clock's correction and Kepler's equation take.
     pub clock: ClockRecord,
+    /// e
+    pub shape: Shape,
     /// A, in metres
     pub axis: SizedBox<36, AXIS, 4>,
-    /// ω, i0 and Ω0, in radians
-    pub perigee: SizedBox<56, ANGLE, 1>,
+    /// The pair of ω
+    pub perigee: Rotation<1, PERIGEE_WIDTH>,
+    /// i0 and Ω0, in radians
     pub inclination: SizedBox<56, ANGLE, 1>,
     pub node: SizedBox<56, ANGLE, 1>,
     /// The rates of i and Ω, in 10^-4 rad/s
@@ -40,9 +48,10 @@ pub struct SvRecord {
     pub cis: SizedBox<60, SMALL, 1>,
     pub crc: SizedBox<40, RADIUS_CHANGE, 1>,
     pub crs: SizedBox<40, RADIUS_CHANGE, 1>,
+    pub ghost eccentricity_in: { Holds shape.eccentricity.held (elements_of clock.eph).ecc },
     pub ghost axis_in: { (x : Rational) → x ≈ mul_r (elements_of clock.eph).root_a (elements_of clock.eph).root_a → Holds axis.held x },
     pub ghost axis_least: { pos (20249999 * 2 ^ 36) ≤ℤ axis.held.lo },
-    pub ghost perigee_in: { Holds perigee.held (elements_of clock.eph).peri },
+    pub ghost perigee_in: { (p : Pair) → IsPairOf5 (elements_of clock.eph).peri p → HoldsBoth perigee.cos perigee.sin p },
     pub ghost inclination_in: { Holds inclination.held (elements_of clock.eph).incl },
     pub ghost node_in: { Holds node.held (elements_of clock.eph).node },
     pub ghost inclination_rate_in: { Holds inclination_rate.held (times (10 ^ 4) (elements_of clock.eph).incl_rate) },
@@ -55,16 +64,25 @@ pub struct SvRecord {
     pub ghost crs_in: { Holds crs.held (elements_of clock.eph).crs },
 }
 
+// The pair of ω
+fn perigee(eph: &Eph) -> Rotation<1, PERIGEE_WIDTH>
+    ensures { (p : Pair) → IsPairOf5 (elements_of eph.now).peri p → HoldsBoth result.cos result.sin p }
+{
+    rotation_of(&decimal_box::<56, 65, 1, 0, ANGLE>(eph.peri))
+}
+
 impl SvRecord {
     /// The boxes of a record, with the constants of its system.
     pub fn of(eph: &Eph, world: &World) -> SvRecord
         ensures eph { result.clock.eph ≡ eph.now }
         ensures world { result.clock.world ≡ world.now }
     {
+        let clock = ClockRecord::of(eph, world);
         SvRecord {
-            clock: ClockRecord::of(eph, world),
+            clock,
+            shape: Shape::of(&clock.eccentricity),
             axis: axis(eph),
-            perigee: decimal_box::<56, 65, 1, 0, ANGLE>(eph.peri),
+            perigee: perigee(eph),
             inclination: decimal_box::<56, 65, 1, 0, ANGLE>(eph.incl),
             node: decimal_box::<56, 65, 1, 0, ANGLE>(eph.node),
             inclination_rate: decimal_box::<60, 1, 8, 4, TINY>(eph.incl_rate),
@@ -84,10 +102,10 @@ fn orbit_of(made: &SvRecord, timing: &Timing) -> Orbit
     ensures { (sent : Rational) (world : Constants) (q : Quantities) (near : IsNearSolution world (elements_of made.now.clock.eph) sent q) →
         HoldsTiming timing.now q → HoldsOrbit result (with_share (elements_of made.now.clock.eph) near.share) q }
 {
-    let shape = made.clock.eccentricity;
+    let eccentricity = made.clock.eccentricity.held;
     Orbit {
-        eccentricity: shape,
-        anomaly: eccentric_pair(&timing.mean.held, &shape.held),
+        shape: made.shape,
+        anomaly: eccentric_pair_near(&timing.mean.held, &eccentricity, &timing.start),
         axis: made.axis,
         epoch_time: timing.epoch_time.loose(),
         perigee: made.perigee,

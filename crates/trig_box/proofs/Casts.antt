@@ -1,10 +1,7 @@
 -- What the casts of a doubling leave of it.
-use Rattle.std.proofs.Common.{◌≡◌, ◌*◌, ◌^◌, ◌≤◌, ℤ, ◌-ℤ◌, unsigned_abs, to_z, of_z, FitsSigned, arith}
+use Rattle.std.proofs.Common.{◌≡◌, ◌*◌, ◌^◌, ◌≤◌, ℤ, unsigned_abs, to_z, of_z, FitsSigned, arith}
 use Rattle.std.proofs.lemmas.Int.{ints}
 use Rattle.std.specs.Int.{w64, w128}
-
-pub difference_is : (p q x y : ℤ) → unsigned_abs p ≤ 9 * 2 ^ 122 → unsigned_abs q ≤ 9 * 2 ^ 122 → p ≡ x → q ≡ y → to_z w128 (of_z w128 (to_z w128 (of_z w128 p) -ℤ to_z w128 (of_z w128 q))) ≡ x -ℤ y
-difference_is p q x y h k e f = omega (arith, ints)
 
 pub wide_is : (p x : ℤ) → unsigned_abs p ≤ 9 * 2 ^ 122 → p ≡ x → to_z w128 (of_z w128 p) ≡ x
 wide_is p x h e = omega (arith, ints)

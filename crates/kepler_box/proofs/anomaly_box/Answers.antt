@@ -1,1 +1,0 @@
-use Rattle.kepler_box.proofs.anomaly_box.Goals as goal

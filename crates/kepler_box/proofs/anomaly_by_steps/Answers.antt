@@ -1,5 +1,5 @@
-use Rattle.std.proofs.Common.{ℤ, pos, ◌+ℤ◌, ◌-ℤ◌, ◌≤ℤ◌, subst, subst₂, sym, ◌∙◌}
-use Rattle.std.proofs.lemmas.Int.{to_z-of_z}
+use Rattle.std.proofs.Common.{◌≡◌, ◌*◌, ◌^◌, ◌≤◌, neg_ℤ, unsigned_abs, arith, ℤ, pos, ◌+ℤ◌, ◌-ℤ◌, ◌≤ℤ◌, subst, subst₂, sym, ◌∙◌}
+use Rattle.std.proofs.lemmas.Int.{ints, to_z-of_z}
 use Rattle.std.specs.Int.{w64}
 use Rattle.rational.specs.Rational.{Rational, InBox, of_scale}
 use Rattle.trig_box.specs.AnglePairs.{IsAnglePair}
@@ -62,6 +62,14 @@ residual_of-requires-clause-below c =
     let el = to_z-of_z w64 c.lo-3.result (record { sfits = c.lo-3.type_inv }) ∙ c.lo-3.ensures in
     subst₂ (λ (y z : ℤ). (y -ℤ z) ≤ℤ pos 14) (sym ex) (sym el) r.1
 
+in_range : (x y : ℤ) → y ≡ x → neg_ℤ (pos (13 * 2 ^ 56)) ≤ℤ x → x ≤ℤ pos (13 * 2 ^ 56) → unsigned_abs y ≤ 2 ^ 60
+in_range x y e h k = omega (arith, ints)
+
+pub of-requires : goal.of-requires
+of-requires c =
+    in_range c.settle-angle.result _ (to_z-of_z w64 c.settle-angle.result (record { sfits = c.settle-angle.type_inv }))
+    c.settle-angle.ensures.angle.0 c.settle-angle.ensures.angle.1
+
 found : (c : goal.After-pairs_around) →
     IsFound c.args.m.now.lo c.args.m.now.hi c.args.e.now.lo c.args.e.now.hi c.settle-angle.result c.widened-radius.result c.sine_of-sine.result.lo
     c.sine_of-sine.result.hi c.right_side-right.result.lo c.right_side-right.result.hi
@@ -73,11 +81,12 @@ found c =
     let b : ℤ = c.sine_of-sine.result.hi in
     let n : ℤ = c.residual_of.result in
     let ex = to_z-of_z w64 x (record { sfits = c.settle-angle.type_inv }) in
+    let ep = c.of.ensures ∙ ex in
     let er = to_z-of_z w64 r (record { sfits = c.widened-radius.type_inv }) in
     let en = to_z-of_z w64 n (record { sfits = c.residual_of.type_inv }) in
     let eh = to_z-of_z w64 c.hi-2.result (record { sfits = c.hi-2.type_inv }) ∙ c.hi-2.ensures in
     let el = to_z-of_z w64 c.lo-3.result (record { sfits = c.lo-3.type_inv }) ∙ c.lo-3.ensures in
-    let e = ends_of x r c.pairs_around.result.angle.lo c.pairs_around.result.angle.hi _ _ ex er c.settle-angle.ensures.angle.0 c.settle-angle.ensures.angle.1
+    let e = ends_of x r c.pairs_around.result.angle.lo c.pairs_around.result.angle.hi _ _ ep er c.settle-angle.ensures.angle.0 c.settle-angle.ensures.angle.1
     c.widened-radius.ensures.low c.widened-radius.ensures.high c.pairs_around.ensures.lo c.pairs_around.ensures.hi in
     record {
       e_low = c.requires.eccentricity_low;
@@ -96,9 +105,9 @@ found c =
 
 pub returns : goal.returns
 returns c =
-    let ex = to_z-of_z w64 c.settle-angle.result (record { sfits = c.settle-angle.type_inv }) in
+    let ep = c.of.ensures ∙ to_z-of_z w64 c.settle-angle.result (record { sfits = c.settle-angle.type_inv }) in
     let er = to_z-of_z w64 c.widened-radius.result (record { sfits = c.widened-radius.type_inv }) in
-    let e = ends_of c.settle-angle.result c.widened-radius.result c.pairs_around.result.angle.lo c.pairs_around.result.angle.hi _ _ ex er
+    let e = ends_of c.settle-angle.result c.widened-radius.result c.pairs_around.result.angle.lo c.pairs_around.result.angle.hi _ _ ep er
     c.settle-angle.ensures.angle.0 c.settle-angle.ensures.angle.1 c.widened-radius.ensures.low c.widened-radius.ensures.high
     c.pairs_around.ensures.lo c.pairs_around.ensures.hi in
     record {

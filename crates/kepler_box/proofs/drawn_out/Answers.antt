@@ -1,4 +1,4 @@
-use Rattle.std.proofs.Common.{◌^◌, ℤ, pos, ◌+ℤ◌, neg_ℤ, ◌≤ℤ◌, FitsSigned, arith, to_z, of_z}
+use Rattle.std.proofs.Common.{◌^◌, ℤ, pos, ◌+ℤ◌, FitsSigned, arith, to_z, of_z}
 use Rattle.std.proofs.lemmas.Int.{ints}
 use Rattle.std.specs.Int.{w64}
 use Rattle.whole_math.specs.Bounds.{Within}

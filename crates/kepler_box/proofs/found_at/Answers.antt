@@ -1,4 +1,4 @@
-use Rattle.std.proofs.Common.{ℤ, pos, ◌+ℤ◌, ◌-ℤ◌, ◌≤ℤ◌, subst, subst₂, sym, ◌∙◌}
+use Rattle.std.proofs.Common.{ℤ, ◌-ℤ◌, ◌≤ℤ◌, subst, subst₂, ◌∙◌}
 use Rattle.std.proofs.lemmas.Int.{to_z-of_z}
 use Rattle.std.specs.Int.{w64}
 use Rattle.rational.specs.Rational.{Rational, InBox, of_scale}
@@ -8,26 +8,27 @@ use Rattle.kepler_box.proofs.Parts.{wide_of, ends_of}
 use Rattle.kepler_box.proofs.found_at.Goals as goal
 
 found : (c : goal.After-pairs_around) →
-    IsFound c.args.m.now.lo c.args.m.now.hi c.args.e.now.lo c.args.e.now.hi c.args.angle c.widened-radius.result c.sine_of-sine.result.lo
-    c.sine_of-sine.result.hi c.right_side-right.result.lo c.right_side-right.result.hi
+    IsFound c.args.m.now.lo c.args.m.now.hi c.args.e.now.lo c.args.e.now.hi c.args.angle c.widened-radius.result c.sine_at-sine.result.lo
+    c.sine_at-sine.result.hi c.right_side-right.result.lo c.right_side-right.result.hi
     c.pairs_around.result.angle.lo c.pairs_around.result.angle.hi c.pairs_around.result.cos.lo c.pairs_around.result.cos.hi c.pairs_around.result.sin.lo c.pairs_around.result.sin.hi
 found c =
     let x : ℤ = c.args.angle in
     let r : ℤ = c.widened-radius.result in
-    let a : ℤ = c.sine_of-sine.result.lo in
-    let b : ℤ = c.sine_of-sine.result.hi in
+    let a : ℤ = c.sine_at-sine.result.lo in
+    let b : ℤ = c.sine_at-sine.result.hi in
     let n : ℤ = c.residual_of.result in
     let ex = to_z-of_z w64 x c.ranges.angle in
+    let ep = c.of-point.ensures ∙ ex in
     let er = to_z-of_z w64 r (record { sfits = c.widened-radius.type_inv }) in
     let en = to_z-of_z w64 n (record { sfits = c.residual_of.type_inv }) in
     let eh = to_z-of_z w64 c.hi-hi.result (record { sfits = c.hi-hi.type_inv }) ∙ c.hi-hi.ensures in
     let el = to_z-of_z w64 c.lo-lo.result (record { sfits = c.lo-lo.type_inv }) ∙ c.lo-lo.ensures in
-    let e = ends_of x r c.pairs_around.result.angle.lo c.pairs_around.result.angle.hi _ _ ex er c.requires.angle.0 c.requires.angle.1
+    let e = ends_of x r c.pairs_around.result.angle.lo c.pairs_around.result.angle.hi _ _ ep er c.requires.angle.0 c.requires.angle.1
     c.widened-radius.ensures.low c.widened-radius.ensures.high c.pairs_around.ensures.lo c.pairs_around.ensures.hi in
     record {
       e_low = c.requires.e_low;
       e_high = c.requires.e_high;
-      sine = subst (λ (z : ℤ). (c s : Rational) → IsAnglePair 5 (of_scale 56 z) c s → InBox 60 a b s) ex c.sine_of-sine.ensures.holds;
+      sine = subst (λ (z : ℤ). (c s : Rational) → IsAnglePair 5 (of_scale 56 z) c s → InBox 60 a b s) ep c.sine_at-sine.ensures.holds;
       right = c.right_side-right.ensures.holds;
       above = wide_of _ n _ r (subst₂ (λ (y z : ℤ). (y -ℤ z) ≤ℤ n) eh ex c.residual_of.ensures.above) en c.widened-radius.ensures.wide;
       below = wide_of _ n _ r (subst₂ (λ (y z : ℤ). (y -ℤ z) ≤ℤ n) ex el c.residual_of.ensures.below) en c.widened-radius.ensures.wide;
@@ -41,9 +42,9 @@ found c =
 
 pub returns : goal.returns
 returns c =
-    let ex = to_z-of_z w64 c.args.angle c.ranges.angle in
+    let ep = c.of-point.ensures ∙ to_z-of_z w64 c.args.angle c.ranges.angle in
     let er = to_z-of_z w64 c.widened-radius.result (record { sfits = c.widened-radius.type_inv }) in
-    let e = ends_of c.args.angle c.widened-radius.result c.pairs_around.result.angle.lo c.pairs_around.result.angle.hi _ _ ex er
+    let e = ends_of c.args.angle c.widened-radius.result c.pairs_around.result.angle.lo c.pairs_around.result.angle.hi _ _ ep er
     c.requires.angle.0 c.requires.angle.1 c.widened-radius.ensures.low c.widened-radius.ensures.high
     c.pairs_around.ensures.lo c.pairs_around.ensures.hi in
     record {

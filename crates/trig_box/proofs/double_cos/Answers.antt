@@ -1,22 +1,32 @@
-use Rattle.std.proofs.Common.{◌≡◌, ◌^◌, ◌-ℤ◌, ◌*ℤ◌, ap, ap₂, ◌∙◌, to_z, of_z}
-use Rattle.std.proofs.lemmas.Int.{to_z-of_z}
+use Rattle.std.proofs.Common.{◌≡◌, ◌*◌, ◌^◌, ◌≤◌, ℤ, [], ◌∷◌, ◌+ℤ◌, ◌-ℤ◌, ◌*ℤ◌, refl, arith, ap, ap₂, ◌∙◌, to_z, of_z, unsigned_abs}
+use Rattle.std.proofs.lemmas.Int.{ints, to_z-of_z}
 use Rattle.std.specs.Int.{w64}
+use Rattle.whole_math.proofs.Ring.{ring, va, ◌⊕◌, ◌⊖◌, ◌⊗◌}
 use Rattle.whole_math.specs.Rounding.{floor_div}
-use Rattle.trig_box.proofs.Casts.{difference_is, narrow_fits, narrow_is}
+use Rattle.trig_box.proofs.Casts.{wide_is, narrow_fits, narrow_is}
 use Rattle.trig_box.proofs.double_cos.Goals as goal
 
-pub overflow_cast-result : goal.overflow_cast-result
-overflow_cast-result c =
+sum_is : (x y c s : ℤ) → x ≡ c → y ≡ s → unsigned_abs (c +ℤ s) ≤ 3 * 2 ^ 61 → to_z w64 (of_z w64 (x +ℤ y)) ≡ c +ℤ s
+sum_is x y c s e f h = omega (arith, ints)
+
+less_is : (x y c s : ℤ) → x ≡ c → y ≡ s → unsigned_abs (c -ℤ s) ≤ 3 * 2 ^ 61 → to_z w64 (of_z w64 (x -ℤ y)) ≡ c -ℤ s
+less_is x y c s e f h = omega (arith, ints)
+
+squares : (c s : ℤ) → (c +ℤ s) *ℤ (c -ℤ s) ≡ (c *ℤ c) -ℤ (s *ℤ s)
+squares c s = ring (c ∷ s ∷ []) ((va 0 ⊕ va 1) ⊗ (va 0 ⊖ va 1)) ((va 0 ⊗ va 0) ⊖ (va 1 ⊗ va 1)) refl
+
+value : (c : goal.After-floor_shift) → c.floor_shift.result ≡ floor_div ((c.args.c *ℤ c.args.c) -ℤ (c.args.s *ℤ c.args.s)) (2 ^ 62)
+value c =
     let ec : to_z w64 (of_z w64 c.args.c) ≡ c.args.c = to_z-of_z w64 c.args.c c.ranges.c in
     let es : to_z w64 (of_z w64 c.args.s) ≡ c.args.s = to_z-of_z w64 c.args.s c.ranges.s in
-    let d = difference_is c.product.result c.product-2.result (c.args.c *ℤ c.args.c) (c.args.s *ℤ c.args.s) c.product.ensures.size c.product-2.ensures.size
-    (c.product.ensures.value ∙ ap₂ (λ x y. x *ℤ y) ec ec) (c.product-2.ensures.value ∙ ap₂ (λ x y. x *ℤ y) es es) in
-    narrow_fits c.floor_shift.result (floor_div ((c.args.c *ℤ c.args.c) -ℤ (c.args.s *ℤ c.args.s)) (2 ^ 62)) (c.floor_shift.ensures.value ∙ ap (λ z. floor_div z (2 ^ 62)) d) c.requires.size
+    let a = sum_is _ _ c.args.c c.args.s ec es c.requires.sum_size in
+    let b = less_is _ _ c.args.c c.args.s ec es c.requires.difference_size in
+    let d = wide_is c.product.result ((c.args.c *ℤ c.args.c) -ℤ (c.args.s *ℤ c.args.s)) c.product.ensures.size
+    (c.product.ensures.value ∙ ap₂ (λ x y. x *ℤ y) a b ∙ squares c.args.c c.args.s) in
+    c.floor_shift.ensures.value ∙ ap (λ z. floor_div z (2 ^ 62)) d
+
+pub overflow_cast-result : goal.overflow_cast-result
+overflow_cast-result c = narrow_fits c.floor_shift.result (floor_div ((c.args.c *ℤ c.args.c) -ℤ (c.args.s *ℤ c.args.s)) (2 ^ 62)) (value c) c.requires.size
 
 pub returns : goal.returns
-returns c =
-    let ec : to_z w64 (of_z w64 c.args.c) ≡ c.args.c = to_z-of_z w64 c.args.c c.ranges.c in
-    let es : to_z w64 (of_z w64 c.args.s) ≡ c.args.s = to_z-of_z w64 c.args.s c.ranges.s in
-    let d = difference_is c.product.result c.product-2.result (c.args.c *ℤ c.args.c) (c.args.s *ℤ c.args.s) c.product.ensures.size c.product-2.ensures.size
-    (c.product.ensures.value ∙ ap₂ (λ x y. x *ℤ y) ec ec) (c.product-2.ensures.value ∙ ap₂ (λ x y. x *ℤ y) es es) in
-    narrow_is c.floor_shift.result (floor_div ((c.args.c *ℤ c.args.c) -ℤ (c.args.s *ℤ c.args.s)) (2 ^ 62)) (c.floor_shift.ensures.value ∙ ap (λ z. floor_div z (2 ^ 62)) d) c.requires.size
+returns c = narrow_is c.floor_shift.result (floor_div ((c.args.c *ℤ c.args.c) -ℤ (c.args.s *ℤ c.args.s)) (2 ^ 62)) (value c) c.requires.size

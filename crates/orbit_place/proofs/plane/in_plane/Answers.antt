@@ -17,9 +17,9 @@ returns c =
     let radius = c.radius_of-radius.result.held in
     let phi : ForSolutions b (λ q. HoldsBoth argument.cos argument.sin q.latitude_pair) = λ world eph sent q h s.
     pair_along argument.cos argument.sin (turned q.true_pair q.perigee_pair) q.latitude_pair s.argument_of_latitude
-    (c.latitude_of-argument.ensures.holds eph.peri q.true_pair q.perigee_pair
+    (c.latitude_of-argument.ensures.holds q.true_pair q.perigee_pair
     (c.on_ellipse-ellipse.ensures.true_anomaly eph.ecc q.root_rest q.eccentric_pair q.true_pair h.eccentricity h.anomaly s.root_of_rest
-    (s.true_anomaly_cos, s.true_anomaly_sin)) h.perigee s.perigee) in
+    (s.true_anomaly_cos, s.true_anomaly_sin)) (h.perigee q.perigee_pair s.perigee)) in
     let twice : ForSolutions b (λ q. HoldsBoth double_.cos double_.sin q.twice_pair) = λ world eph sent q h s.
     pair_along double_.cos double_.sin (double q.latitude_pair) q.twice_pair s.twice_the_argument (c.double-twice.ensures.holds q.latitude_pair (phi world eph sent q h s)) in
     record {

@@ -1,6 +1,10 @@
 -- Each number lies in its box; the clock's record is of this ephemeris.
 use Rattle.std.proofs.Common.{◌≡◌, ◌^◌, refl, sym, subst}
+use Rattle.iv_core.specs.declared.Iv.{Iv}
 use Rattle.iv_core.specs.Intervals.{Holds}
+use Rattle.trig_box.specs.AnglePairs.{Pair}
+use Rattle.orbit_model.specs.Solution.{IsPairOf5}
+use Rattle.orbit_place.specs.Rotations.{HoldsBoth}
 use Rattle.rational.specs.Rational.{Rational, ◌≈◌, mul_r, times}
 use Rattle.eph_store.specs.declared.ephemeris.Eph.{Eph}
 use Rattle.eph_store.specs.Decimals.{value_of}
@@ -10,21 +14,22 @@ use Rattle.sv_orbit.proofs.record.SvRecord.of.Goals as goal
 pub invariant_of-result : goal.invariant_of-result
 invariant_of-result c =
     let eph = c.args.eph.now in
-    let e : c.of.result.eph ≡ eph = c.of.ensures.eph in
+    let e : c.of-clock.result.eph ≡ eph = c.of-clock.ensures.eph in
     record {
+      eccentricity_in = subst (λ (b : Iv 60). Holds b (value_of c.of-clock.result.eph.ecc)) (sym c.of.ensures) c.of-clock.result.eccentricity_in;
       axis_in = subst (λ (f : Eph). (x : Rational) → x ≈ mul_r (value_of f.root_a) (value_of f.root_a) → Holds c.axis.result.held x) (sym e) c.axis.ensures.holds;
       axis_least = c.axis.ensures.least;
-      perigee_in = subst (λ (f : Eph). Holds c.decimal_box.result.held (value_of f.peri)) (sym e) (holds_own 56 c.decimal_box.result.held (value_of eph.peri) c.decimal_box.ensures);
-      inclination_in = subst (λ (f : Eph). Holds c.decimal_box-2.result.held (value_of f.incl)) (sym e) (holds_own 56 c.decimal_box-2.result.held (value_of eph.incl) c.decimal_box-2.ensures);
-      node_in = subst (λ (f : Eph). Holds c.decimal_box-3.result.held (value_of f.node)) (sym e) (holds_own 56 c.decimal_box-3.result.held (value_of eph.node) c.decimal_box-3.ensures);
-      inclination_rate_in = subst (λ (f : Eph). Holds c.decimal_box-4.result.held (times (10 ^ 4) (value_of f.incl_rate))) (sym e)
-          (c.decimal_box-4.ensures.holds (times (10 ^ 4) (value_of eph.incl_rate)) refl);
-      node_rate_in = subst (λ (f : Eph). Holds c.decimal_box-5.result.held (times (10 ^ 4) (value_of f.node_rate))) (sym e)
-          (c.decimal_box-5.ensures.holds (times (10 ^ 4) (value_of eph.node_rate)) refl);
-      cuc_in = subst (λ (f : Eph). Holds c.decimal_box-6.result.held (value_of f.cuc)) (sym e) (holds_own 60 c.decimal_box-6.result.held (value_of eph.cuc) c.decimal_box-6.ensures);
-      cus_in = subst (λ (f : Eph). Holds c.decimal_box-7.result.held (value_of f.cus)) (sym e) (holds_own 60 c.decimal_box-7.result.held (value_of eph.cus) c.decimal_box-7.ensures);
-      cic_in = subst (λ (f : Eph). Holds c.decimal_box-8.result.held (value_of f.cic)) (sym e) (holds_own 60 c.decimal_box-8.result.held (value_of eph.cic) c.decimal_box-8.ensures);
-      cis_in = subst (λ (f : Eph). Holds c.decimal_box-9.result.held (value_of f.cis)) (sym e) (holds_own 60 c.decimal_box-9.result.held (value_of eph.cis) c.decimal_box-9.ensures);
-      crc_in = subst (λ (f : Eph). Holds c.decimal_box-10.result.held (value_of f.crc)) (sym e) (holds_own 40 c.decimal_box-10.result.held (value_of eph.crc) c.decimal_box-10.ensures);
-      crs_in = subst (λ (f : Eph). Holds c.decimal_box-11.result.held (value_of f.crs)) (sym e) (holds_own 40 c.decimal_box-11.result.held (value_of eph.crs) c.decimal_box-11.ensures);
+      perigee_in = subst (λ (f : Eph). (p : Pair) → IsPairOf5 (value_of f.peri) p → HoldsBoth c.perigee.result.cos c.perigee.result.sin p) (sym e) c.perigee.ensures;
+      inclination_in = subst (λ (f : Eph). Holds c.decimal_box.result.held (value_of f.incl)) (sym e) (holds_own 56 c.decimal_box.result.held (value_of eph.incl) c.decimal_box.ensures);
+      node_in = subst (λ (f : Eph). Holds c.decimal_box-2.result.held (value_of f.node)) (sym e) (holds_own 56 c.decimal_box-2.result.held (value_of eph.node) c.decimal_box-2.ensures);
+      inclination_rate_in = subst (λ (f : Eph). Holds c.decimal_box-3.result.held (times (10 ^ 4) (value_of f.incl_rate))) (sym e)
+          (c.decimal_box-3.ensures.holds (times (10 ^ 4) (value_of eph.incl_rate)) refl);
+      node_rate_in = subst (λ (f : Eph). Holds c.decimal_box-4.result.held (times (10 ^ 4) (value_of f.node_rate))) (sym e)
+          (c.decimal_box-4.ensures.holds (times (10 ^ 4) (value_of eph.node_rate)) refl);
+      cuc_in = subst (λ (f : Eph). Holds c.decimal_box-5.result.held (value_of f.cuc)) (sym e) (holds_own 60 c.decimal_box-5.result.held (value_of eph.cuc) c.decimal_box-5.ensures);
+      cus_in = subst (λ (f : Eph). Holds c.decimal_box-6.result.held (value_of f.cus)) (sym e) (holds_own 60 c.decimal_box-6.result.held (value_of eph.cus) c.decimal_box-6.ensures);
+      cic_in = subst (λ (f : Eph). Holds c.decimal_box-7.result.held (value_of f.cic)) (sym e) (holds_own 60 c.decimal_box-7.result.held (value_of eph.cic) c.decimal_box-7.ensures);
+      cis_in = subst (λ (f : Eph). Holds c.decimal_box-8.result.held (value_of f.cis)) (sym e) (holds_own 60 c.decimal_box-8.result.held (value_of eph.cis) c.decimal_box-8.ensures);
+      crc_in = subst (λ (f : Eph). Holds c.decimal_box-9.result.held (value_of f.crc)) (sym e) (holds_own 40 c.decimal_box-9.result.held (value_of eph.crc) c.decimal_box-9.ensures);
+      crs_in = subst (λ (f : Eph). Holds c.decimal_box-10.result.held (value_of f.crs)) (sym e) (holds_own 40 c.decimal_box-10.result.held (value_of eph.crs) c.decimal_box-10.ensures);
     }

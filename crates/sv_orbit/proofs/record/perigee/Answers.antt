@@ -1,0 +1,8 @@
+use Rattle.eph_store.specs.Decimals.{value_of}
+use Rattle.orbit_clock.proofs.Values.{holds_own}
+use Rattle.sv_orbit.proofs.record.perigee.Goals as goal
+
+pub returns : goal.returns
+returns c = λ p k.
+    let x = value_of c.args.eph.now.peri in
+    c.rotation_of.ensures.holds x p (holds_own 56 c.decimal_box.result.held x c.decimal_box.ensures) k
