@@ -2,7 +2,9 @@
 ghost use Rattle.std.specs.Prelude.{◌*◌, ◌^◌, ◌≤◌, pos, ◌≤ℤ◌};
 
 use iv_core::Iv;
-use orbit_place::{ANGLE, AXIS, Orbit, Shape, eccentric_pair, place_of, rotation_of};
+use orbit_place::{
+    ANGLE, AXIS, Orbit, Shape, earth_turn, eccentric_pair, place_of, relative_rate, rotation_of,
+};
 use sized_box::SizedBox;
 use std::process::Abort;
 
@@ -281,14 +283,14 @@ fn orbit_of(rt: &impl Abort, case: &Case) -> Orbit {
         inclination: at(rt, case.inclination),
         node: at(rt, case.node),
         inclination_rate: at(rt, case.inclination_rate),
-        node_rate: at(rt, case.node_rate),
+        node_rate: relative_rate(&at(rt, case.node_rate)),
         cuc: at(rt, case.cuc),
         cus: at(rt, case.cus),
         cic: at(rt, case.cic),
         cis: at(rt, case.cis),
         crc: at(rt, case.crc),
         crs: at(rt, case.crs),
-        toe_second: case.toe_second,
+        earth_turn: earth_turn(case.toe_second),
     }
 }
 

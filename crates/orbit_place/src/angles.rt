@@ -24,17 +24,19 @@ const INCLINED_WIDTH: u64 = 11;
 
 pub const INCLINATION_WIDTH: u64 = 864;
 
-// The Earth's rate, and the node's less it, in 10^-4 rad/s; what the node turns by.
+// The Earth's rate, in 10^-4 rad/s
 const EARTH_RATE: u64 = 47 << 54;
 
-const RELATIVE_RATE: u64 = 3 << 58;
+/// The greatest rate of the node less the Earth's, at 2^-60 of 10^-4 rad/s.
+pub const RELATIVE_RATE: u64 = 3 << 58;
 
+// What the node turns by
 const DRIFT: u64 = 3 << 54;
 
 const DRIFTED: u64 = 9 << 56;
 
-// What the Earth turns by from the week's begin to the reference epoch.
-const EARTH_TURN: u64 = 45 << 56;
+/// The most that the Earth turns by from the week's begin to the reference epoch, at 2^-56.
+pub const EARTH_TURN: u64 = 45 << 56;
 
 const LONGITUDE: u64 = 54 << 56;
 
@@ -64,8 +66,15 @@ fn earth_rate() -> SizedBox<60, EARTH_RATE, 1>
     SizedBox::new(Iv::ratio(EARTH_ROTATION as i128, 100_000_000_000).unwrap())
 }
 
-// What the Earth turns by in that many seconds of a week, in radians
-fn earth_turn(second: u32) -> SizedBox<56, EARTH_TURN, 1>
+/// The rate of the node less the Earth's, in 10^-4 rad/s.
+pub fn relative_rate(rate: &SizedBox<60, SMALL, 1>) -> SizedBox<60, RELATIVE_RATE, 2>
+    ensures { (r : Rational) → Holds rate.now.held r → Holds result.held (sub_r r (times 10000 earth_rate)) }
+{
+    rate.sub(&earth_rate())
+}
+
+/// What the Earth turns by in that many seconds of a week, in radians.
+pub fn earth_turn(second: u32) -> SizedBox<56, EARTH_TURN, 1>
     requires { second < 604800 }
     ensures { Holds result.held (mul_r earth_rate (of_whole (pos second))) }
 {
@@ -76,18 +85,16 @@ fn earth_turn(second: u32) -> SizedBox<56, EARTH_TURN, 1>
 // Ω0 + (Ωdot - Ωe) tk - Ωe toe
 fn longitude_of(
     start: &SizedBox<56, ANGLE, 1>,
-    rate: &SizedBox<60, SMALL, 1>,
+    rate: &SizedBox<60, RELATIVE_RATE, 2>,
     time: &SizedBox<60, EPOCH_TIME, 3>,
-    second: u32,
+    earth_turn: &SizedBox<56, EARTH_TURN, 1>,
 ) -> SizedBox<56, LONGITUDE, LONGITUDE_WIDTH>
-    requires { second < 604800 }
-    ensures holds { (n r t : Rational) → Holds start.now.held n → Holds rate.now.held r → Holds time.now.held t →
-        Holds result.held (sub_r (add_r n (mul_r (sub_r r (times 10000 earth_rate)) t)) (mul_r earth_rate (of_whole (pos second)))) }
+    ensures holds { (n r t w : Rational) → Holds start.now.held n → Holds rate.now.held r → Holds time.now.held t →
+        Holds earth_turn.now.held w → Holds result.held (sub_r (add_r n (mul_r r t)) w) }
 {
-    let relative: SizedBox<60, RELATIVE_RATE, 2> = rate.sub(&earth_rate());
-    let drift: SizedBox<56, DRIFT, 2> = relative.mul(time);
+    let drift: SizedBox<56, DRIFT, 2> = rate.mul(time);
     let drifted: SizedBox<56, DRIFTED, 3> = start.add(&drift);
-    drifted.sub(&earth_turn(second))
+    drifted.sub(earth_turn)
 }
 
 /// The pair of the inclination.
@@ -116,7 +123,7 @@ pub fn node_of(orbit: &Orbit) -> Rotation<4, NODE_WIDTH>
         &orbit.node,
         &orbit.node_rate,
         &orbit.epoch_time,
-        orbit.toe_second,
+        &orbit.earth_turn,
     );
     wide_rotation_of(&angle)
 }

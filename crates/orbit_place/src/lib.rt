@@ -30,6 +30,7 @@ ghost use Rattle.iv_core.specs.Intervals.{width_of};
 ghost use Rattle.orbit_model.specs.Places.{IsBetweenDistances};
 ghost use Rattle.orbit_place.specs.Held.{ForSolutions, HoldsPlace};
 
+pub use angles::{EARTH_TURN, RELATIVE_RATE, earth_turn, relative_rate};
 use angles::{inclination_of, node_of};
 use directions::direction_of;
 pub use ellipse::{

@@ -1,6 +1,7 @@
 //! The numbers of an orbit, and how large they are.
-ghost use Rattle.std.specs.Prelude.{◌*◌, ◌^◌, ◌<◌, pos, ◌≤ℤ◌};
+ghost use Rattle.std.specs.Prelude.{◌*◌, ◌^◌, pos, ◌≤ℤ◌};
 
+use crate::angles::{EARTH_TURN, RELATIVE_RATE};
 use crate::ellipse::{ANOMALY_WIDTH, Shape};
 use crate::plane::PERIGEE_WIDTH;
 use crate::rotations::Rotation;
@@ -40,9 +41,9 @@ pub struct Orbit {
     /// i0 and Ω0, in radians
     pub inclination: SizedBox<56, ANGLE, 1>,
     pub node: SizedBox<56, ANGLE, 1>,
-    /// The rates of i and Ω, in 10^-4 rad/s
+    /// The rate of i, and that of Ω less the Earth's, in 10^-4 rad/s
     pub inclination_rate: SizedBox<60, TINY, 1>,
-    pub node_rate: SizedBox<60, SMALL, 1>,
+    pub node_rate: SizedBox<60, RELATIVE_RATE, 2>,
     /// The amplitudes of the corrections of u and i, in radians, and of r, in metres
     pub cuc: SizedBox<60, SMALL, 1>,
     pub cus: SizedBox<60, SMALL, 1>,
@@ -50,8 +51,7 @@ pub struct Orbit {
     pub cis: SizedBox<60, SMALL, 1>,
     pub crc: SizedBox<40, RADIUS_CHANGE, 1>,
     pub crs: SizedBox<40, RADIUS_CHANGE, 1>,
-    /// toe as a second of its week
-    pub toe_second: u32,
+    /// What the Earth turns by from the week's begin to the reference epoch, in radians
+    pub earth_turn: SizedBox<56, EARTH_TURN, 1>,
     pub ghost axis_least: { pos (20249999 * 2 ^ 36) ≤ℤ axis.held.lo },
-    pub ghost in_week: { toe_second < 604800 },
 }

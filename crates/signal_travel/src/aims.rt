@@ -100,8 +100,8 @@ fn nearer_root(square: i64, root: i64) -> i64
     limited((root + (square / root >> 9)) >> 1)
 }
 
-// About the root of a square in 2^-9 m², in 2^-34 m
-fn rough_root(square: i64) -> u64
+// About the root of a square in 2^-9 m², in 2^-26 m
+fn rough_root(square: i64) -> i64
     requires low { pos 0 ≤ℤ square }
     requires high { square ≤ℤ pos (2 ^ 62) }
 {
@@ -110,17 +110,8 @@ fn rough_root(square: i64) -> u64
     let root = nearer_root(square, second);
     // What is left over twice the root
     let left = square.wrapping_sub(root.wrapping_mul(root) << 9);
-    let more = (left << 20) / root << 4;
-    narrowed(product(root, 1 << 34).wrapping_add(more as i128)) as u64
-}
-
-// The root of a square in 2^-9 m², in 2^-26 m
-fn root_of(square: i64) -> i64
-    requires low { pos 0 ≤ℤ square }
-    requires high { square ≤ℤ pos (2 ^ 62) }
-{
-    let held: Iv<9> = Iv::from_ends(square, square);
-    held.root_by::<34>(rough_root(square)).lo >> 8
+    let more = (left << 20) / root >> 4;
+    root.wrapping_mul(1 << 26).wrapping_add(more)
 }
 
 // The range in 2^-26 m with the Earth's turn in it to the second order: with a = ω (y p − x q) / c and b = ω (x p + y q) / c it is
@@ -134,7 +125,7 @@ fn range_between(a: &Rough, b: &Rough) -> i128 {
     let whole = square
         .wrapping_add(across.wrapping_mul(across))
         .wrapping_add(growth);
-    (root_of(narrowed(whole >> 43)) as i128).wrapping_sub(across)
+    (rough_root(narrowed(whole >> 43)) as i128).wrapping_sub(across)
 }
 
 /// About the travel time in 2^-60 s. Nothing is claimed of it: the pass that begins there tests itself.

@@ -13,7 +13,7 @@ use crate::places::VectorBox;
 use crate::sent::SentBox;
 use iv_core::Iv;
 use orbit_model::EARTH_ROTATION;
-use trig_box::{PairBox, pair_box};
+use trig_box::{PairBox, PointPair};
 
 // The middle of the box, rounded down
 fn middle_of(travel: &Iv<60>) -> i64
@@ -68,7 +68,7 @@ fn pairs_of(angle: i64) -> PairBox
     ensures cos_size { IsWithin 1152939096792891904 result.cos }
     ensures sin_size { IsWithin 28024121222816 result.sin }
 {
-    pair_box(&Iv::from_ends(angle, angle), 5)
+    PointPair::of_small(angle).within(0)
 }
 
 // How far the pairs reach beyond those of the middle, for times within `radius` of it: a little over twice the angle

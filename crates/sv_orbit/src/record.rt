@@ -1,9 +1,9 @@
 //! The place and the clock of a record's satellite.
 ghost use Rattle.std.specs.Prelude.{◌≡◌, ◌*◌, ◌^◌, ◌<◌, ◌≤◌, pos, ◌≤ℤ◌};
 ghost use Rattle.std.specs.Int.{abs_diff};
-ghost use Rattle.rational.specs.Rational.{Rational, ◌≈◌, mul_r, times};
+ghost use Rattle.rational.specs.Rational.{Rational, ◌≈◌, sub_r, mul_r, times};
 ghost use Rattle.iv_core.specs.Intervals.{Holds};
-ghost use Rattle.orbit_model.specs.Elements.{Constants, sent_at};
+ghost use Rattle.orbit_model.specs.Elements.{Constants, earth_rate, sent_at};
 ghost use Rattle.trig_box.specs.AnglePairs.{Pair};
 ghost use Rattle.orbit_model.specs.Solution.{Quantities, IsNearSolution, with_share, IsPairOf5};
 ghost use Rattle.orbit_clock.specs.Records.{elements_of, constants_of};
@@ -18,8 +18,8 @@ use eph_store::Eph;
 use gps_time::Tick;
 use orbit_clock::{AXIS, ClockRecord, Timing, World, axis, timing_at};
 use orbit_place::{
-    ANGLE, Orbit, PERIGEE_WIDTH, RADIUS_CHANGE, Rotation, SMALL, Shape, TINY, eccentric_pair_near,
-    place_of, rotation_of,
+    ANGLE, EARTH_TURN, Orbit, PERIGEE_WIDTH, RADIUS_CHANGE, RELATIVE_RATE, Rotation, SMALL, Shape,
+    TINY, earth_turn, eccentric_pair_near, place_of, relative_rate, rotation_of,
 };
 use sized_box::SizedBox;
 
@@ -38,9 +38,11 @@ pub struct SvRecord {
     /// i0 and Ω0, in radians
     pub inclination: SizedBox<56, ANGLE, 1>,
     pub node: SizedBox<56, ANGLE, 1>,
-    /// The rates of i and Ω, in 10^-4 rad/s
+    /// The rate of i, and that of Ω less the Earth's, in 10^-4 rad/s
     pub inclination_rate: SizedBox<60, TINY, 1>,
-    pub node_rate: SizedBox<60, SMALL, 1>,
+    pub node_rate: SizedBox<60, RELATIVE_RATE, 2>,
+    /// What the Earth turns by from the week's begin to the reference epoch, in radians
+    pub earth_turn: SizedBox<56, EARTH_TURN, 1>,
     /// The amplitudes of the corrections of u and i, in radians, and of r, in metres
     pub cuc: SizedBox<60, SMALL, 1>,
     pub cus: SizedBox<60, SMALL, 1>,
@@ -55,7 +57,8 @@ pub struct SvRecord {
     pub ghost inclination_in: { Holds inclination.held (elements_of clock.eph).incl },
     pub ghost node_in: { Holds node.held (elements_of clock.eph).node },
     pub ghost inclination_rate_in: { Holds inclination_rate.held (times (10 ^ 4) (elements_of clock.eph).incl_rate) },
-    pub ghost node_rate_in: { Holds node_rate.held (times (10 ^ 4) (elements_of clock.eph).node_rate) },
+    pub ghost node_rate_in: { Holds node_rate.held (sub_r (times (10 ^ 4) (elements_of clock.eph).node_rate) (times (10 ^ 4) earth_rate)) },
+    pub ghost earth_turn_in: { Holds earth_turn.held (mul_r earth_rate (elements_of clock.eph).toe_second) },
     pub ghost cuc_in: { Holds cuc.held (elements_of clock.eph).cuc },
     pub ghost cus_in: { Holds cus.held (elements_of clock.eph).cus },
     pub ghost cic_in: { Holds cic.held (elements_of clock.eph).cic },
@@ -86,7 +89,8 @@ impl SvRecord {
             inclination: decimal_box::<56, 65, 1, 0, ANGLE>(eph.incl),
             node: decimal_box::<56, 65, 1, 0, ANGLE>(eph.node),
             inclination_rate: decimal_box::<60, 1, 8, 4, TINY>(eph.incl_rate),
-            node_rate: decimal_box::<60, 1, 7, 4, SMALL>(eph.node_rate),
+            node_rate: relative_rate(&decimal_box::<60, 1, 7, 4, SMALL>(eph.node_rate)),
+            earth_turn: earth_turn(eph.toe_second),
             cuc: decimal_box::<60, 1, 3, 0, SMALL>(eph.cuc),
             cus: decimal_box::<60, 1, 3, 0, SMALL>(eph.cus),
             cic: decimal_box::<60, 1, 3, 0, SMALL>(eph.cic),
@@ -119,7 +123,7 @@ fn orbit_of(made: &SvRecord, timing: &Timing) -> Orbit
         cis: made.cis,
         crc: made.crc,
         crs: made.crs,
-        toe_second: made.clock.eph.toe_second,
+        earth_turn: made.earth_turn,
     }
 }
 

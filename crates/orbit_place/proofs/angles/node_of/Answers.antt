@@ -1,5 +1,5 @@
-use Rattle.std.proofs.Common.{pos, lit<}
-use Rattle.rational.specs.Rational.{add_r, sub_r, mul_r, times, divided, of_whole}
+use Rattle.std.proofs.Common.{refl, lit<}
+use Rattle.rational.specs.Rational.{add_r, sub_r, mul_r, times, divided}
 use Rattle.orbit_model.specs.Elements.{earth_rate}
 use Rattle.orbit_place.proofs.Transports.{held_along, node_with}
 use Rattle.orbit_place.proofs.angles.node_of.Goals as goal
@@ -7,10 +7,11 @@ use Rattle.orbit_place.proofs.angles.node_of.Goals as goal
 pub returns : goal.returns
 returns c = record {
   holds = λ world eph sent q h s.
-      let n = of_whole (pos c.args.orbit.now.toe_second) in
       let t = divided q.tk 10000 (lit< tt) in
+      let rate = sub_r (times 10000 eph.node_rate) (times 10000 earth_rate) in
+      let turn = mul_r earth_rate eph.toe_second in
       c.wide_rotation_of.ensures.holds q.node q.node_pair
-      (held_along c.longitude_of-angle.result.held (sub_r (add_r eph.node (mul_r (sub_r (times 10000 eph.node_rate) (times 10000 earth_rate)) t)) (mul_r earth_rate n)) q.node
-      (node_with q.node eph.node eph.node_rate earth_rate q.tk eph.toe_second n s.corrected_node h.toe_second)
-      (c.longitude_of-angle.ensures.holds eph.node (times 10000 eph.node_rate) t h.node h.node_rate h.epoch_time)) s.node_of_angle;
+      (held_along c.longitude_of-angle.result.held (sub_r (add_r eph.node (mul_r rate t)) turn) q.node
+      (node_with q.node eph.node eph.node_rate earth_rate q.tk eph.toe_second eph.toe_second s.corrected_node refl)
+      (c.longitude_of-angle.ensures.holds eph.node rate t turn h.node h.node_rate h.epoch_time h.earth_turn)) s.node_of_angle;
 }

@@ -1,27 +1,29 @@
-use Rattle.std.proofs.Common.{◌≡◌, ℤ, pos, ◌+ℤ◌, ◌-ℤ◌, ◌*ℤ◌, ◌≤ℤ◌, arith, refl, ◌∙◌, to_z, of_z}
+use Rattle.std.proofs.Common.{◌≡◌, ℤ, pos, ◌+ℤ◌, ◌-ℤ◌, ◌*ℤ◌, ◌≤ℤ◌, arith, ◌∙◌}
 use Rattle.std.proofs.lemmas.Int.{ints, to_z-of_z}
 use Rattle.std.specs.Int.{w64}
 use Rattle.rational.specs.Rational.{of_scale}
 use Rattle.signal_travel.proofs.EarthTurn.{ArePairs, cos_ends, sin_ends, point_holds}
 use Rattle.signal_travel.proofs.turns.pairs_of.Goals as goal
 
+less : (x : ℤ) → x -ℤ pos 0 ≡ x
+less x = omega (arith, ints)
+
+more : (x : ℤ) → x +ℤ pos 0 ≡ x
+more x = omega (arith, ints)
+
 pub returns-clause-holds : goal.returns-clause-holds
 returns-clause-holds c = λ x y p.
-    let e = to_z-of_z w64 c.args.angle c.ranges.angle in
-    c.pair_box.ensures.holds (of_scale 56 c.args.angle) x y (point_holds c.args.angle c.from_ends.result.lo c.from_ends.result.hi (c.from_ends.ensures.lo ∙ e) (c.from_ends.ensures.hi ∙ e)) p
+    let a : ℤ = c.of_small.result.angle in
+    let e : a ≡ c.args.angle = c.of_small.ensures ∙ to_z-of_z w64 c.args.angle c.ranges.angle in
+    c.within.ensures.holds (of_scale 56 c.args.angle) x y (point_holds c.args.angle (a -ℤ pos 0) (a +ℤ pos 0) (less a ∙ e) (more a ∙ e)) p
 
-narrow : (w l h x : ℤ) → l ≡ x → h ≡ x → w ≤ℤ (pos 512 +ℤ (pos 32 *ℤ (h -ℤ l))) → w ≤ℤ pos 512
-narrow w l h x e f k = omega (arith, ints)
+narrow : (w : ℤ) → w ≤ℤ (pos 512 +ℤ (pos 64 *ℤ pos 0)) → w ≤ℤ pos 512
+narrow w h = omega (arith, ints)
 
 pub returns-clause-narrow : goal.returns-clause-narrow
-returns-clause-narrow c =
-    let w = c.pair_box.ensures.width_of_five refl in
-    let r = c.from_ends in (
-      narrow _ r.result.lo r.result.hi (to_z w64 (of_z w64 c.args.angle)) r.ensures.lo r.ensures.hi w.0,
-      narrow _ r.result.lo r.result.hi (to_z w64 (of_z w64 c.args.angle)) r.ensures.lo r.ensures.hi w.1,
-    )
+returns-clause-narrow c = (narrow _ c.within.ensures.width.0, narrow _ c.within.ensures.width.1)
 
-pairs : (c : goal.After-pair_box) → ArePairs c.args.angle c.pair_box.result.cos.lo c.pair_box.result.cos.hi c.pair_box.result.sin.lo c.pair_box.result.sin.hi
+pairs : (c : goal.After-within) → ArePairs c.args.angle c.within.result.cos.lo c.within.result.cos.hi c.within.result.sin.lo c.within.result.sin.hi
 pairs c =
     let w = returns-clause-narrow c in
     record { angle_low = c.requires.low; angle_high = c.requires.high; pairs = returns-clause-holds c; cos_narrow = w.0; sin_narrow = w.1 }

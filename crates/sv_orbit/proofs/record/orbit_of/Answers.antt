@@ -1,5 +1,5 @@
 -- Each number and each quantity lies in its box.
-use Rattle.std.proofs.Common.{refl, sym, subst, arith}
+use Rattle.std.proofs.Common.{sym, subst, arith}
 use Rattle.std.proofs.lemmas.Int.{ints}
 use Rattle.iv_core.specs.declared.Iv.{Iv}
 use Rattle.iv_core.specs.Intervals.{Holds}
@@ -33,5 +33,5 @@ returns c = λ sent world q n t.
       cis = r.cis_in;
       crc = r.crc_in;
       crs = r.crs_in;
-      toe_second = refl;
+      earth_turn = r.earth_turn_in;
     }

@@ -1,11 +1,12 @@
 -- Each number lies in its box; the clock's record is of this ephemeris.
-use Rattle.std.proofs.Common.{◌≡◌, ◌^◌, refl, sym, subst}
+use Rattle.std.proofs.Common.{◌≡◌, ◌^◌, pos, refl, sym, subst}
 use Rattle.iv_core.specs.declared.Iv.{Iv}
 use Rattle.iv_core.specs.Intervals.{Holds}
 use Rattle.trig_box.specs.AnglePairs.{Pair}
+use Rattle.orbit_model.specs.Elements.{earth_rate}
 use Rattle.orbit_model.specs.Solution.{IsPairOf5}
 use Rattle.orbit_place.specs.Rotations.{HoldsBoth}
-use Rattle.rational.specs.Rational.{Rational, ◌≈◌, mul_r, times}
+use Rattle.rational.specs.Rational.{Rational, ◌≈◌, of_whole, sub_r, mul_r, times}
 use Rattle.eph_store.specs.declared.ephemeris.Eph.{Eph}
 use Rattle.eph_store.specs.Decimals.{value_of}
 use Rattle.orbit_clock.proofs.Values.{holds_own}
@@ -24,8 +25,9 @@ invariant_of-result c =
       node_in = subst (λ (f : Eph). Holds c.decimal_box-2.result.held (value_of f.node)) (sym e) (holds_own 56 c.decimal_box-2.result.held (value_of eph.node) c.decimal_box-2.ensures);
       inclination_rate_in = subst (λ (f : Eph). Holds c.decimal_box-3.result.held (times (10 ^ 4) (value_of f.incl_rate))) (sym e)
           (c.decimal_box-3.ensures.holds (times (10 ^ 4) (value_of eph.incl_rate)) refl);
-      node_rate_in = subst (λ (f : Eph). Holds c.decimal_box-4.result.held (times (10 ^ 4) (value_of f.node_rate))) (sym e)
-          (c.decimal_box-4.ensures.holds (times (10 ^ 4) (value_of eph.node_rate)) refl);
+      node_rate_in = subst (λ (f : Eph). Holds c.relative_rate.result.held (sub_r (times (10 ^ 4) (value_of f.node_rate)) (times (10 ^ 4) earth_rate))) (sym e)
+          (c.relative_rate.ensures (times (10 ^ 4) (value_of eph.node_rate)) (c.decimal_box-4.ensures.holds (times (10 ^ 4) (value_of eph.node_rate)) refl));
+      earth_turn_in = subst (λ (f : Eph). Holds c.earth_turn.result.held (mul_r earth_rate (of_whole (pos f.toe_second)))) (sym e) c.earth_turn.ensures;
       cuc_in = subst (λ (f : Eph). Holds c.decimal_box-5.result.held (value_of f.cuc)) (sym e) (holds_own 60 c.decimal_box-5.result.held (value_of eph.cuc) c.decimal_box-5.ensures);
       cus_in = subst (λ (f : Eph). Holds c.decimal_box-6.result.held (value_of f.cus)) (sym e) (holds_own 60 c.decimal_box-6.result.held (value_of eph.cus) c.decimal_box-6.ensures);
       cic_in = subst (λ (f : Eph). Holds c.decimal_box-7.result.held (value_of f.cic)) (sym e) (holds_own 60 c.decimal_box-7.result.held (value_of eph.cic) c.decimal_box-7.ensures);
