@@ -4,7 +4,7 @@ use Rattle.std.specs.declared.option.Option.{Option}
 use Rattle.line_source.specs.Causes.{Rose}
 use Rattle.line_source.specs.Openings.{OpensFirst}
 use Rattle.job_answers.specs.declared.status.Status.{Status}
-use Rattle.job_answers.specs.declared.status.Status.TheVariants.{ReadFault, WriteFault, NoMemory}
+use Rattle.job_answers.specs.declared.status.Status.TheVariants.{ReadFault, WriteFault, Usage, NoMemory}
 use Rattle.job_answers.specs.Statuses.{number_of, IsVerdictStatus}
 use Rattle.job_answers.specs.Texts.{no_memory_line}
 use Rattle.job_answers.specs.Endings.{Ending, ending}
@@ -13,7 +13,7 @@ use Rattle.job_answers.specs.Works.{FileWork, HaveFault}
 use Rattle.session_files.specs.Refusals.{HaveRefused}
 use Rattle.command_words.specs.declared.jobs.Job.{Job}
 use Rattle.command_words.specs.Words.{file_words, IsJob}
-use Rattle.baseline_app.specs.Jobs.{JobEnds, IsAnswer}
+use Rattle.baseline_app.specs.Jobs.{JobEnds, IsAnswer, IsReadable, SaysOfJob}
 
 -- A run: the words end in a status with two texts, which are written.
 pub record IsRun (words : List (List ℕ)) (told : List ℕ → Option (List ℕ)) (result : Status) (out err : SinkChange) : Type 0 where
@@ -42,12 +42,20 @@ pub record UsesFiles (work : FileWork) (names : List (List ℕ)) (result : Statu
   pub named : HaveFault work.sure names result (GainsUnlessFault err)
   pub sure : All work.sure names → result ≢ ReadFault
 
--- A run whose status the process ends with, as a number.
-pub record IsStarted (words : List (List ℕ)) (work : FileWork) (result : ℕ) (out err : SinkChange) : Type 0 where
+-- A run whose status the process ends with, as a number: all that is promised of a run, of this one. `same` says that the files are the same.
+pub record IsStarted (words : List (List ℕ)) (work : FileWork) (same : Type 0) (result : ℕ) (out err : SinkChange) : Type 0 where
   pub status : Status
   pub number : result ≡ number_of status
   pub run : IsRun words work.told status out err
   pub files : (job : Job) → IsJob words job → UsesFiles work (file_words job) status err
+  pub untouched : ((job : Job) → IsJob words job → file_words job ≡ []) → same
+  pub read : status ≡ ReadFault → Rose work.faults work.faults_now
+  pub write : status ≡ WriteFault → Rose out.before out.now ⊎ Rose err.before err.now
+  pub steady : IsVerdictStatus status → (out.now ≡ out.before) × (err.now ≡ err.before)
+  pub usage : status ≡ Usage → (job : Job) → IsJob words job → ⊥
+  pub says : (job : Job) → IsJob words job → IsVerdictStatus status → SaysOfJob job work.told status out
+  pub complete : (job : Job) → IsJob words job → IsReadable job work.told → All work.sure (file_words job) ⊎ (Rose work.faults work.faults_now → ⊥)
+      → IsComplete job work.told status out err
 
 -- where the words couldn't be had, memory is out
 pub record HasNoWords (result : ℕ) (out err : SinkChange) : Type 0 where

@@ -142,7 +142,8 @@ pub fn start<F: Files, O: Sink, E: Sink>(
     out: &mut O,
     err: &mut E,
 ) -> u8
-    ensures started { IfOk words (λ ws. IsStarted (texts_of ws.items) (file_work F.Files files.old files.new) result (sink_change O.Sink out.old out.new) (sink_change E.Sink err.old err.new)) }
+    ensures started { IfOk words (λ ws. IsStarted (texts_of ws.items) (file_work F.Files files.old files.new) (files.new ≡ files.old) result (sink_change O.Sink out.old out.new) (sink_change E.Sink err.old err.new)) }
+    ensures no_files { IsErr words → files.new ≡ files.old }
     ensures no_words { IsErr words → HasNoWords result (sink_change O.Sink out.old out.new) (sink_change E.Sink err.old err.new) }
 {
     match words {
