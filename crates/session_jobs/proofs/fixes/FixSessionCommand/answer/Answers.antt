@@ -1,4 +1,6 @@
+use Rattle.session_jobs.proofs.Certified.{decided_once}
 use Rattle.session_jobs.proofs.FixSays.{fixed_for}
+use Rattle.session_jobs.proofs.Runs.{stands_for}
 use Rattle.session_jobs.proofs.fixes.FixSessionCommand.answer.Goals as goal
 
 pub returns-clause-answered : goal.returns-clause-answered
@@ -12,6 +14,8 @@ returns-clause-answered c =
         outcome = outcome;
         is = is.outcome;
         fixed = fixed_for c.args.base.now c.args.rover.now c.args.nav.now c.args.options.now outcome is.outcome is.strictly_best;
+        only = decided_once c.args.base.now c.args.rover.now c.args.nav.now c.args.options.now outcome is.outcome;
+        stands = λ cert full. stands_for c.args.base.now c.args.rover.now c.args.nav.now c.args.options.now outcome cert is.outcome full;
         whole = written.whole;
         end_is = written.ended;
       };
