@@ -1,6 +1,8 @@
 pub mod SameNumbers
 pub mod SameForms
+pub mod Apart
 pub mod OneVerdict
+pub mod OneDecision
 pub mod Visits
 pub mod Checked
 pub mod DecidedLaws

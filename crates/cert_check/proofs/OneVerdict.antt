@@ -1,19 +1,12 @@
 -- The rows of a session and the tail of a text have one verdict, but where a search gave up.
-use Rattle.std.proofs.Common.{◌≡◌, inl, inr, ℕ, ℤ, pos, List, refl, sym, ap, ◌∙◌, subst}
-use Rattle.obs_rows.specs.Signals.{fine_signals, counted}
+use Rattle.std.proofs.Common.{◌≡◌, inl, inr, ℕ, pos, refl, sym, ap, ◌∙◌, subst}
 use Rattle.obs_rows.specs.declared.sessions.Session.{Session}
-use Rattle.normal_sum.specs.Values.{form_of}
 use Rattle.integer_form.specs.declared.faults.LowerFault.{LowerFault}
 use Rattle.integer_form.specs.declared.faults.LowerFault.TheVariants as fault
 use Rattle.integer_form.specs.declared.faults.Place.{Place}
 use Rattle.integer_form.specs.declared.faults.Place.TheVariants.{Float, Sum}
 use Rattle.integer_form.specs.declared.form.Form.{Form}
-use Rattle.integer_form.specs.FloatPoint.{HasWide}
-use Rattle.integer_form.specs.Told.{told}
-use Rattle.int_search.specs.declared.answer.TwoBest.{TwoBest}
-use Rattle.int_search.specs.Answers.{IsTwoBest}
-use Rattle.fix_decide.specs.Widths.{AreWide}
-use Rattle.fix_decide.specs.Decisions.{IsFormOf, IsSeparated, first_of, move_of}
+use Rattle.fix_decide.specs.Decisions.{IsFormOf, IsSeparated}
 use Rattle.cert_data.specs.declared.tails.Tail.{Tail}
 use Rattle.cert_data.specs.declared.tails.Tail.TheVariants.{Fixed, Unseparated, Weak, Overwidth, Unsettled, Spent}
 use Rattle.cert_data.specs.declared.verdicts.Verdict.{Verdict}
@@ -23,10 +16,9 @@ use Rattle.cert_check.specs.SameTails.{Says}
 use Rattle.cert_check.specs.Settled.{IsRefused, IsBaselineWide, IsSumWide, IsDecision, tail_of}
 use Rattle.cert_check.specs.RowDecisions.{IsRowDecision}
 use Rattle.cert_check.specs.Verdicts.{IsSaidOf, IsVerdictOf, IsGivenUp, IsSameVerdict}
-use Rattle.lower_form.proofs.Exponents.{has_exponent}
-use Rattle.lower_form.proofs.OneForm.{one_elimination, one_exponent}
 use Rattle.cert_check.proofs.SameNumbers.{same_numbers_on}
-use Rattle.cert_check.proofs.SameForms.{Found, fix_of, same_form, same_best, same_move, one_found}
+use Rattle.cert_check.proofs.SameForms.{Found, fix_of, one_found}
+use Rattle.cert_check.proofs.Apart.{same_refusal, no_form, no_move, no_sum, not_wide, as_far}
 
 -- a refusal of the elimination as a verdict
 abbrev pub verdict_of : LowerFault → Verdict
@@ -77,51 +69,7 @@ pub rows_end : (s : Session) (ratio budget : ℕ) (d t : Tail) (v : Verdict) →
 rows_end s ratio budget d t v (inl by) said = refused by.fault by.refused (refusal_said by.fault t v (subst (λ (x : Tail). IsSaidOf x t v) by.tail_is said))
 rows_end s ratio budget d t v (inr by) said = form_ends s by.form ratio budget d t v by.of_rows by.decision said
 
--- ---- what can't be together
--- one refusal
-same_refusal : (s : Session) (why too : LowerFault) → IsRefused s why → IsRefused s too → why ≡ too
-same_refusal s why too a b =
-    let some = has_exponent (form_of a.normal) in
-    let serves = one_exponent s.arcs (counted s.signals s.scale) s.pairs a.normal b.normal some.0 a.of_rows b.of_rows some.1 in
-    let one = a.told some.0 some.1 in
-    let two = b.told some.0 serves in
-    let whole = one_elimination s.arcs (counted s.signals s.scale) s.pairs a.normal b.normal some.0 some.0 a.of_rows b.of_rows some.1 serves in
-    let same : one.0 ≡ two.0 = cc (one.1.0, two.1.0, whole) in
-    one.1.1 ∙ ap told same ∙ sym two.1.1
-
--- a form that is refused is none
-no_form : (s : Session) (why : LowerFault) (f : Form) → IsRefused s why → IsFormOf s f → ⊥
-no_form s why f a b =
-    let serves = one_exponent s.arcs (counted s.signals s.scale) s.pairs b.normal a.normal f.h b.of_rows a.of_rows b.lowered.exponent in
-    let is = a.told f.h serves in
-    let whole = one_elimination s.arcs (counted s.signals s.scale) s.pairs b.normal a.normal f.h f.h b.of_rows a.of_rows b.lowered.exponent serves in
-    absurd (cc (is.1.0, whole, b.lowered.taken))
-
--- a move that is too large isn't another time narrow
-no_move : (s : Session) (f g : Form) (budget : ℕ) (b : TwoBest) → IsFormOf s f → IsBaselineWide f budget → IsFormOf s g → IsTwoBest g b → (HasWide (move_of g (first_of b)) → ⊥) → ⊥
-no_move s f g budget b of_f a of_g two narrow =
-    let form = same_form s f g of_f of_g in
-    let best = same_best f g a.best b form a.best_is two in
-    narrow (subst HasWide (same_move f g (first_of a.best) (first_of b) form best.first_is) a.wide)
-
--- nor are the residuals
-no_sum : (s : Session) (f : Form) (budget : ℕ) (d : Found s budget) → IsFormOf s f → IsSumWide s f budget → ⊥
-no_sum s f budget d of_f a =
-    let form = same_form s f d.form of_f d.of_rows in
-    let best = same_best f d.form a.best d.best form a.best_is d.found.best_is in
-    let moved = same_move f d.form (first_of a.best) (first_of d.best) form best.first_is ∙ sym d.found.moved_is in
-    d.found.bounded (subst (λ (m : List ℤ). AreWide s.arcs (fine_signals s.signals) s.pairs (first_of d.best) m) moved
-    (subst (λ (z : List ℤ). AreWide s.arcs (fine_signals s.signals) s.pairs z (move_of f (first_of a.best))) best.first_is a.wide))
-
-not_wide : (s : Session) (budget : ℕ) (d : Found s budget) → HasWide (move_of d.form (first_of d.best)) → ⊥
-not_wide s budget d wide = d.found.narrow (subst HasWide (sym d.found.moved_is) wide)
-
--- the same numbers are as far apart
-as_far : (s : Session) (ratio budget : ℕ) (d e : Found s budget) → IsSeparated (pos ratio) d.top d.best.p2 → IsSeparated (pos ratio) e.top e.best.p2
-as_far s ratio budget d e far =
-    let same = one_found s budget d e in
-    subst (λ (x : ℤ). IsSeparated (pos ratio) e.top x) same.best_is.p2_is (subst (λ (x : ℤ). IsSeparated (pos ratio) x d.best.p2) same.top_is far)
-
+-- ---- one verdict
 -- so a tail that says the numbers of one says those of the other
 said_too : (s : Session) (budget : ℕ) (t : Tail) (d e : Found s budget) → Says t (fix_of s budget d) → Says t (fix_of s budget e)
 said_too s budget (Fixed h m best top) d e said = same_numbers_on h d.h e.h m d.moved e.moved best d.best e.best top d.top e.top said (one_found s budget d e)
@@ -131,7 +79,6 @@ said_too s budget (Overwidth place) d e said = absurd said
 said_too s budget (Unsettled entry) d e said = absurd said
 said_too s budget (Spent spent) d e said = absurd said
 
--- ---- one verdict
 same_final : (s : Session) (ratio budget : ℕ) (t : Tail) (d e : Found s budget) (v w : Verdict) → Final s ratio budget t d v → Final s ratio budget t e w → v ≡ w
 same_final s ratio budget t d e v w (certified far said is) (certified far_too too is_too) = is ∙ sym is_too
 same_final s ratio budget t d e v w (certified far said is) (unlike far_too other is_too) = absurd (other (said_too s budget t d e said))

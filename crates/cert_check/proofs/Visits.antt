@@ -2,13 +2,11 @@
 use Rattle.std.proofs.Common.{◌≡◌, ℕ, sym, subst}
 use Rattle.quadratic_form.specs.Elimination.{Refusal, weak, wide_factor, wide_entry}
 use Rattle.obs_rows.specs.declared.sessions.Session.{Session}
-use Rattle.normal_sum.specs.Values.{form_of}
 use Rattle.integer_form.specs.declared.faults.LowerFault.{LowerFault}
 use Rattle.integer_form.specs.declared.faults.LowerFault.TheVariants as fault
 use Rattle.integer_form.specs.declared.faults.Place.{Place}
 use Rattle.integer_form.specs.declared.faults.Place.TheVariants.{Factor, Entry, Float, Search, Sum}
 use Rattle.integer_form.specs.Told.{told}
-use Rattle.lower_form.proofs.Exponents.{has_exponent}
 use Rattle.cert_data.specs.declared.tails.Tail.{Tail}
 use Rattle.cert_data.specs.declared.verdicts.Verdict.{Verdict}
 use Rattle.cert_data.specs.declared.verdicts.Verdict.TheVariants.{Certified, Not}
@@ -40,7 +38,7 @@ other_place place wide_factor e f g = f cc
 other_place place wide_entry e f g = g cc
 
 refused_place : (s : Session) (place : Place) → IsRefused s (fault.Overwidth place) → (place ≡ Factor → ⊥) → (place ≡ Entry → ⊥) → ⊥
-refused_place s place a f g = let some = has_exponent (form_of a.normal) in let one = a.told some.0 some.1 in other_place place one.0 one.1.1 f g
+refused_place s place a f g = other_place place a.told.0 a.told.1.1 f g
 
 refusal_rests : (s : Session) (budget : ℕ) (why : LowerFault) → IsRefused s why → RestsWithin s budget (verdict_of why)
 refusal_rests s budget (fault.Weak column pivot) a = tt

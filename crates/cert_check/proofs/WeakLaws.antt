@@ -5,14 +5,11 @@ use Rattle.std.proofs.lemmas.Bool.Decides.{nat_tests}
 use Rattle.whole_math.specs.Vectors.{len}
 use Rattle.quadratic_form.specs.Forms.{Column}
 use Rattle.quadratic_form.specs.Elimination.{Factor, Refusal, weak, wide_factor, wide_entry, kept, factors, next, all_small, form_small, with_factor, steps}
-use Rattle.quadratic_form.specs.Lowering.{IsExponent}
 use Rattle.normal_sum.specs.declared.normal.Normal.{Normal}
-use Rattle.normal_sum.specs.Values.{form_of}
 use Rattle.integer_form.specs.declared.faults.LowerFault.TheVariants.{Weak}
 use Rattle.integer_form.specs.Told.{told, IsToldAs}
 use Rattle.lower_form.specs.FirstRounding.{first_form}
 use Rattle.lower_form.specs.Forms.{elimination_of}
-use Rattle.lower_form.proofs.Exponents.{has_exponent}
 use Rattle.obs_rows.specs.declared.sessions.Session.{Session}
 use Rattle.form_tables.specs.declared.sizes.TheConstants.{MOST_COLUMNS, MOST_FACTORS}
 use Rattle.cert_data.specs.Tails.{IsWeak}
@@ -93,9 +90,8 @@ told_weak column pivot wide_entry e = absurd cc
 pub weak_fits : (s : Session) (column : ℕ) (pivot : ℤ) → IsRefused s (Weak column pivot) → IsWeak column pivot
 weak_fits s column pivot h =
     let n : Normal = h.normal in
-    let x : (h : ℕ) × IsExponent h (form_of n) = has_exponent (form_of n) in
-    let t : IsToldAs (Weak column pivot) (elimination_of x.0 n) = h.told x.0 x.1 in
-    let p : IsPivot 0 (n.columns - 1) column pivot = weak_of (form_small (first_form x.0 n)) (n.columns - 1) (first_form x.0 n) column pivot refl (t.1.0 ∙ ap Err (told_weak column pivot t.0 t.1.1)) in
+    let t : IsToldAs (Weak column pivot) (elimination_of h.h n) = h.told in
+    let p : IsPivot 0 (n.columns - 1) column pivot = weak_of (form_small (first_form h.h n)) (n.columns - 1) (first_form h.h n) column pivot refl (t.1.0 ∙ ap Err (told_weak column pivot t.0 t.1.1)) in
     record { column_to = small n.columns column n.columns_to p.column; pivot_in = p.size }
   where
     small : (c i : ℕ) → c ≤ MOST_COLUMNS → i < 0 + (c - 1) → i < MOST_FACTORS

@@ -1,10 +1,13 @@
--- What the rows of a fine session are decided to say.
+-- What the rows of a fine session are decided to say, and that it is one thing.
 use Rattle.std.specs.Prelude.{◌≡◌, ◌⊎◌, ℕ}
 use Rattle.obs_rows.specs.declared.sessions.Session.{Session}
 use Rattle.integer_form.specs.declared.form.Form.{Form}
 use Rattle.integer_form.specs.declared.faults.LowerFault.{LowerFault}
+use Rattle.integer_form.specs.declared.faults.Place.TheVariants.{Search}
 use Rattle.fix_decide.specs.Decisions.{IsFormOf}
 use Rattle.cert_data.specs.declared.tails.Tail.{Tail}
+use Rattle.cert_data.specs.declared.tails.Tail.TheVariants.{Fixed, Unseparated, Weak, Overwidth, Unsettled, Spent}
+use Rattle.cert_check.specs.SameTails.{AreSameNumbers}
 use Rattle.cert_check.specs.Settled.{IsRefused, IsDecision, tail_of}
 
 -- the elimination is refused, and the tail says the refusal
@@ -21,3 +24,28 @@ pub record IsDecidedByForm (s : Session) (ratio budget : ℕ) (tail : Tail) : Ty
 
 abbrev pub IsRowDecision : Session → ℕ → ℕ → Tail → Type 0
 IsRowDecision s ratio budget tail = IsDecidedByFault s tail ⊎ IsDecidedByForm s ratio budget tail
+
+-- ---- one decision
+abbrev pub IsSameTail : Tail → Tail → Type 0
+IsSameTail (Fixed h moved best top) (Fixed k other other_best over) = AreSameNumbers h k moved other best other_best top over
+IsSameTail (Unseparated h moved best top) (Unseparated k other other_best over) = AreSameNumbers h k moved other best other_best top over
+IsSameTail (Weak column pivot) (Weak other below) = (column ≡ other) × (pivot ≡ below)
+IsSameTail (Overwidth place) (Overwidth other) = place ≡ other
+IsSameTail (Unsettled entry) (Unsettled other) = entry ≡ other
+IsSameTail (Spent budget) (Spent other) = budget ≡ other
+IsSameTail _ _ = ⊥
+
+-- the search gave up
+abbrev pub HasGivenUp : Tail → Type 0
+HasGivenUp (Spent budget) = Unit {0}
+HasGivenUp (Overwidth Search) = Unit {0}
+HasGivenUp _ = ⊥
+
+-- one decision, but where a search gave up
+abbrev pub IsSameDecision : Tail → Tail → Type 0
+IsSameDecision t u = IsSameTail t u ⊎ (HasGivenUp t ⊎ HasGivenUp u)
+
+-- The rows are decided to say this at a ratio and a budget, and each decision on them is the same.
+pub record IsOnlyDecision (s : Session) (ratio budget : ℕ) (tail : Tail) : Type 0 where
+  pub decision : IsRowDecision s ratio budget tail
+  pub only : (t : Tail) → IsRowDecision s ratio budget t → IsSameDecision t tail

@@ -19,14 +19,17 @@ use Rattle.int_search.specs.ReducedCounts.{HasReducedCount, KeepsBudget}
 use Rattle.fix_decide.specs.UpperSums.{top as top_of}
 use Rattle.fix_decide.specs.Widths.{AreWide}
 use Rattle.fix_decide.specs.Decisions.{IsSeparated, first_of, move_of}
+use Rattle.fix_decide.specs.Ratios.{IsBestByRatio}
 use Rattle.cert_data.specs.declared.tails.Tail.{Tail}
 use Rattle.cert_data.specs.declared.tails.Tail.TheVariants.{Fixed, Unseparated, Weak, Overwidth, Unsettled, Spent}
 
--- the elimination of the normal matrix of the rows is refused with this fault
+-- the elimination of the normal matrix of the rows, over the least power of 2 that serves, is refused with this fault
 pub record IsRefused (s : Session) (fault : LowerFault) : Type 0 where
   pub normal : Normal
   pub of_rows : IsNormalOf s.arcs (counted s.signals s.scale) s.pairs normal
-  pub told : (h : ℕ) → IsExponent h (form_of normal) → IsToldAs fault (elimination_of h normal)
+  pub h : ℕ
+  pub exponent : IsExponent h (form_of normal)
+  pub told : IsToldAs fault (elimination_of h normal)
 
 -- a refusal of the elimination as a tail
 abbrev pub tail_of : LowerFault → Tail
@@ -85,3 +88,12 @@ IsBestWhereFixed s (Weak column pivot) = Unit {0}
 IsBestWhereFixed s (Overwidth place) = Unit {0}
 IsBestWhereFixed s (Unsettled entry) = Unit {0}
 IsBestWhereFixed s (Spent budget) = Unit {0}
+
+-- and best by the ratio
+abbrev pub IsBestByRatioWhereFixed : ℕ → Session → Tail → Type 0
+IsBestByRatioWhereFixed ratio s (Fixed h moved best top) = IsBestByRatio ratio s (first_of best) moved
+IsBestByRatioWhereFixed ratio s (Unseparated h moved best top) = Unit {0}
+IsBestByRatioWhereFixed ratio s (Weak column pivot) = Unit {0}
+IsBestByRatioWhereFixed ratio s (Overwidth place) = Unit {0}
+IsBestByRatioWhereFixed ratio s (Unsettled entry) = Unit {0}
+IsBestByRatioWhereFixed ratio s (Spent budget) = Unit {0}

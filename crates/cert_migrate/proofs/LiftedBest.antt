@@ -1,5 +1,5 @@
 -- What is strictly best in a lifted session, or best by a ratio, is so in the old one.
-use Rattle.std.proofs.Common.{◌≡◌, inl, inr, ℕ, ◌*◌, ◌^◌, if◌then◌else◌, ◌==◌, List, [], ◌∷◌, ℤ, pos, ◌*ℤ◌, refl, sym, ap, ap₂, ◌∙◌, subst}
+use Rattle.std.proofs.Common.{◌≡◌, ℕ, ◌*◌, ◌^◌, if◌then◌else◌, ◌==◌, List, [], ◌∷◌, ℤ, pos, ◌*ℤ◌, refl, sym, ap, ap₂, ◌∙◌, subst}
 use Rattle.whole_math.proofs.Ring.{◌⊗◌}
 use Rattle.whole_math.proofs.Inequalities.{same_by, nat, pos_nn}
 use Rattle.rational.specs.Rational.{Rational, ◌≈◌, ◌<ʳ◌, mul_r, times}
@@ -11,20 +11,15 @@ use Rattle.obs_rows.specs.Integers.{integer_count}
 use Rattle.obs_rows.specs.Data.{AreData}
 use Rattle.obs_rows.specs.SumOfSquares.{sum_of_squares}
 use Rattle.obs_rows.specs.Best.{moved, IsStrictlyBest}
-use Rattle.integer_form.specs.declared.faults.LowerFault.{LowerFault}
-use Rattle.integer_form.specs.declared.faults.LowerFault.TheVariants as fault
-use Rattle.int_search.specs.declared.answer.TwoBest.{TwoBest}
 use Rattle.fix_decide.specs.Decisions.{first_of}
 use Rattle.fix_decide.specs.Ratios.{IsBestByRatio}
-use Rattle.fix_decide.proofs.DecisionLaws.{best_by_ratio}
 use Rattle.cert_data.specs.declared.tails.Tail.{Tail}
 use Rattle.cert_data.specs.declared.tails.Tail.TheVariants.{Fixed, Unseparated, Weak, Overwidth, Unsettled, Spent}
-use Rattle.cert_check.specs.Settled.{IsBestWhereFixed, tail_of}
+use Rattle.cert_check.specs.Settled.{IsBestWhereFixed, IsBestByRatioWhereFixed}
 use Rattle.cert_migrate.specs.declared.old_sessions.OldSession.{OldSession}
 use Rattle.cert_migrate.specs.OldTails.{old_integer_count}
 use Rattle.cert_migrate.specs.OldSums.{at, old_sum, IsOldBest, IsOldBestByRatio}
 use Rattle.cert_migrate.specs.Lifted.{IsLiftedSession, unit_ratio, scaled, scaled_baseline, in_old_unit, IsOldBestWhereFixed, IsOldBestByRatioWhereFixed}
-use Rattle.cert_check.specs.RowDecisions.{IsRowDecision}
 use Rattle.cert_migrate.proofs.Scaling.{AreScaledBaselines, less_back}
 use Rattle.cert_migrate.proofs.LiftedArcs.{count_same}
 use Rattle.cert_migrate.proofs.LiftedData.{signals_are, data_scaled}
@@ -95,17 +90,10 @@ ratio_lifted old s ratio z m i best = record {
       (times_scaled 1000 f (old_sum old.arcs old.pairs w b observed) theirs (sum_lifted old s w b (scaled_baseline b) observed i (baseline_scaled b))) new;
 }
 
-never_fixed : (why : LowerFault) (h : ℕ) (m : List ℤ) (best : TwoBest) (top : ℤ) → Fixed h m best top ≡ tail_of why → ⊥
-never_fixed (fault.Weak column pivot) h m best top e = cc
-never_fixed (fault.Overwidth place) h m best top e = cc
-
-pub ratio_where_fixed : (old : OldSession) (s : Session) (ratio budget : ℕ) (t : Tail) → IsLiftedSession old s → IsRowDecision s ratio budget t → IsOldBestByRatioWhereFixed ratio old t
-ratio_where_fixed old s ratio budget (Fixed h m best top) i (inl refused) = absurd (never_fixed refused.fault h m best top refused.tail_is)
-ratio_where_fixed old s ratio budget (Fixed h m best top) i (inr decided) =
-    let found = decided.decision.0 in
-    ratio_lifted old s ratio (first_of best) m i (best_by_ratio s decided.form best ratio top m i.scale decided.of_rows found.best_is found.top_is decided.decision.1)
-ratio_where_fixed old s ratio budget (Unseparated h m best top) i d = tt
-ratio_where_fixed old s ratio budget (Weak column pivot) i d = tt
-ratio_where_fixed old s ratio budget (Overwidth place) i d = tt
-ratio_where_fixed old s ratio budget (Unsettled entry) i d = tt
-ratio_where_fixed old s ratio budget (Spent spent) i d = tt
+pub ratio_where_fixed : (old : OldSession) (s : Session) (ratio : ℕ) (t : Tail) → IsLiftedSession old s → IsBestByRatioWhereFixed ratio s t → IsOldBestByRatioWhereFixed ratio old t
+ratio_where_fixed old s ratio (Fixed h m best top) i d = ratio_lifted old s ratio (first_of best) m i d
+ratio_where_fixed old s ratio (Unseparated h m best top) i d = tt
+ratio_where_fixed old s ratio (Weak column pivot) i d = tt
+ratio_where_fixed old s ratio (Overwidth place) i d = tt
+ratio_where_fixed old s ratio (Unsettled entry) i d = tt
+ratio_where_fixed old s ratio (Spent spent) i d = tt

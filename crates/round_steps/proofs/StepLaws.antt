@@ -2,6 +2,14 @@
 use Rattle.std.proofs.Common.{◌≡◌, ℕ, ◌^◌, ◌<◌, ◌≤◌, Bool, List, ℤ, unsigned_abs, to_z, of_z, arith, sym, subst, inl}
 use Rattle.std.specs.Int.{w64}
 use Rattle.obs_rows.specs.declared.sessions.Session.{Session}
+use Rattle.quadratic_form.specs.Lowering.{IsExponent}
+use Rattle.obs_rows.specs.Signals.{counted}
+use Rattle.normal_sum.specs.declared.normal.Normal.{Normal}
+use Rattle.normal_sum.specs.Normals.{IsNormalOf}
+use Rattle.normal_sum.specs.Values.{form_of}
+use Rattle.integer_form.specs.Told.{IsToldAs}
+use Rattle.lower_form.specs.Forms.{elimination_of}
+use Rattle.lower_form.proofs.Exponents.{has_exponent}
 use Rattle.integer_form.specs.declared.form.Form.{Form}
 use Rattle.integer_form.specs.declared.faults.LowerFault.{LowerFault}
 use Rattle.integer_form.specs.declared.faults.LowerFault.TheVariants as Fault
@@ -42,10 +50,20 @@ settled_form s x float settled = (
   },
 )
 
--- an elimination that is refused ends the round
-pub refused_elimination : (last : Bool) (s : Session) (f : LowerFault) (t : Tail) → t ≡ tail_of f → IsRefused s f → IsRoundDeclined last s t
-refused_elimination last s (Fault.Weak column pivot) t e h = subst (IsRoundDeclined last s) (sym e) h
-refused_elimination last s (Fault.Overwidth place) t e h = subst (IsRoundDeclined last s) (sym e) (inl h)
+-- an elimination that is refused over each power of 2 that serves
+pub record IsRefusedOver (s : Session) (fault : LowerFault) : Type 0 where
+  pub normal : Normal
+  pub of_rows : IsNormalOf s.arcs (counted s.signals s.scale) s.pairs normal
+  pub told : (h : ℕ) → IsExponent h (form_of normal) → IsToldAs fault (elimination_of h normal)
+
+-- is so over the one that there is
+over_one : (s : Session) (f : LowerFault) → IsRefusedOver s f → IsRefused s f
+over_one s f a = let some = has_exponent (form_of a.normal) in record { normal = a.normal; of_rows = a.of_rows; h = some.0; exponent = some.1; told = a.told some.0 some.1 }
+
+-- and ends the round
+pub refused_elimination : (last : Bool) (s : Session) (f : LowerFault) (t : Tail) → t ≡ tail_of f → IsRefusedOver s f → IsRoundDeclined last s t
+refused_elimination last s (Fault.Weak column pivot) t e h = subst (IsRoundDeclined last s) (sym e) (over_one s (Fault.Weak column pivot) h)
+refused_elimination last s (Fault.Overwidth place) t e h = subst (IsRoundDeclined last s) (sym e) (inl (over_one s (Fault.Overwidth place) h))
 
 -- ---- the ranges of tails
 pub declined_fits : (last : Bool) (s : Session) (t : Tail) → IsRoundDeclined last s t → (ss : List ℕ) (budget : ℕ) → IsTailOf ss s.arcs budget t

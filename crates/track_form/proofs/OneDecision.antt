@@ -5,7 +5,6 @@ use Rattle.std.proofs.lemmas.List.Elements.{All-map}
 use Rattle.quadratic_form.specs.Elimination.{Refusal, weak, wide_factor, wide_entry}
 use Rattle.obs_rows.specs.declared.arcs.Arc.{Arc}
 use Rattle.obs_rows.specs.declared.pair_rows.PairRows.{PairRows}
-use Rattle.normal_sum.specs.Values.{form_of}
 use Rattle.integer_form.specs.declared.front_form.FrontForm.{FrontForm}
 use Rattle.integer_form.specs.declared.form.Form.{Form}
 use Rattle.integer_form.specs.declared.faults.LowerFault.{LowerFault}
@@ -15,7 +14,6 @@ use Rattle.integer_form.specs.declared.faults.Place.TheVariants.{Y, Factor as Fa
 use Rattle.integer_form.specs.Factors.{stored}
 use Rattle.integer_form.specs.FloatPoint.{HasWide}
 use Rattle.integer_form.specs.Told.{told}
-use Rattle.lower_form.proofs.Exponents.{has_exponent}
 use Rattle.int_search.specs.declared.answer.TwoBest.{TwoBest}
 use Rattle.int_search.specs.Answers.{IsTwoBest}
 use Rattle.fix_decide.specs.Widths.{IsWide}
@@ -45,7 +43,7 @@ some_pair [] k l = absurd (omega (arith, l))
 some_pair (p ∷ ps) k l = p
 
 pair_told : (arcs : List Arc) (ss : List ℕ) (p : PairRows) (place : Place) → IsRefusedPair arcs ss p (fault.Overwidth place) → (place ≡ FactorPlace) ⊎ (place ≡ Entry)
-pair_told arcs ss p place a = let some = has_exponent (form_of a.normal) in let is = a.told some.0 some.1 in two_places place is.0 is.1.1
+pair_told arcs ss p place a = two_places place a.told.0 a.told.1.1
 
 refused_place : (arcs : List Arc) (ss : List ℕ) (pairs : List PairRows) (place : Place) → IsFormRefused arcs ss pairs (fault.Overwidth place) → (place ≡ FactorPlace) ⊎ (place ≡ Entry)
 refused_place arcs ss pairs place (inl a) = pair_told arcs ss _ place (a.refused (some_pair pairs a.place a.inside))

@@ -2,11 +2,9 @@
 use Rattle.std.proofs.Common.{◌≡◌, inl, inr, ℕ, ◌+◌, ◌-◌, ◌^◌, ◌<◌, ◌≤◌, true, List, ℤ, Err, unsigned_abs, arith, refl, ap, ◌∙◌}
 use Rattle.std.proofs.lemmas.Bool.Decides.{nat_tests}
 use Rattle.quadratic_form.specs.Elimination.{Refusal, form_small, steps}
-use Rattle.quadratic_form.specs.Lowering.{IsExponent}
 use Rattle.form_tables.specs.Tables.{entry}
 use Rattle.form_tables.specs.declared.sizes.TheConstants.{MOST_COLUMNS, MOST_FACTORS}
 use Rattle.normal_sum.specs.declared.normal.Normal.{Normal}
-use Rattle.normal_sum.specs.Values.{form_of}
 use Rattle.integer_form.specs.declared.front_form.FrontForm.{FrontForm}
 use Rattle.integer_form.specs.declared.faults.LowerFault.{LowerFault}
 use Rattle.integer_form.specs.declared.faults.LowerFault.TheVariants as fault
@@ -16,7 +14,6 @@ use Rattle.elimination.specs.StepEntries.{is_small}
 use Rattle.elimination.proofs.SmallEntries.{form_all_small}
 use Rattle.lower_form.specs.FirstRounding.{first_form}
 use Rattle.lower_form.specs.Fronts.{front_of}
-use Rattle.lower_form.proofs.Exponents.{has_exponent}
 use Rattle.obs_rows.specs.declared.arcs.Arc.{Arc}
 use Rattle.obs_rows.specs.declared.pair_rows.PairRows.{PairRows}
 use Rattle.cert_data.specs.Tails.{IsWeak}
@@ -30,9 +27,8 @@ use Rattle.track_form.proofs.OneDecision.{some_pair}
 pair_weak : (arcs : List Arc) (ss : List ℕ) (p : PairRows) (column : ℕ) (pivot : ℤ) → IsRefusedPair arcs ss p (fault.Weak column pivot) → IsWeak column pivot
 pair_weak arcs ss p column pivot a =
     let n : Normal = a.normal in
-    let x : (h : ℕ) × IsExponent h (form_of n) = has_exponent (form_of n) in
-    let t : IsToldAs (fault.Weak column pivot) (front_of x.0 n) = a.told x.0 x.1 in
-    let is : IsPivot 0 3 column pivot = weak_of (form_small (first_form x.0 n)) 3 (first_form x.0 n) column pivot refl (t.1.0 ∙ ap Err (told_weak column pivot t.0 t.1.1)) in
+    let t : IsToldAs (fault.Weak column pivot) (front_of a.h n) = a.told in
+    let is : IsPivot 0 3 column pivot = weak_of (form_small (first_form a.h n)) 3 (first_form a.h n) column pivot refl (t.1.0 ∙ ap Err (told_weak column pivot t.0 t.1.1)) in
     record { column_to = small column is.column; pivot_in = is.size }
   where
     small : (i : ℕ) → i < 0 + 3 → i < MOST_FACTORS

@@ -19,7 +19,7 @@ use Rattle.integer_form.specs.Kept.{form_of_table}
 use Rattle.integer_form.specs.Told.{IsToldAs, told}
 use Rattle.elimination.specs.Finish.{finish_of}
 use Rattle.lower_form.specs.Fronts.{front_of}
-use Rattle.lower_form.proofs.Exponents.{has_exponent}
+use Rattle.lower_form.proofs.Exponents.{exponent_unique}
 use Rattle.lower_form.proofs.OneForm.{same_normal, same_front, one_exponent}
 use Rattle.track_sum.specs.Fronts.{Front, part, track_entry, track_form, AreExponents}
 use Rattle.track_sum.specs.Parts.{part_at}
@@ -174,10 +174,9 @@ one_told a b r s e t u = t.1.1 ∙ ap told (same_refusal t.0 u.0 (sym t.1.0 ∙ 
 
 one_pair : (arcs : List Arc) (ss : List ℕ) (p : PairRows) (a b : LowerFault) → IsRefusedPair arcs ss p a → IsRefusedPair arcs ss p b → a ≡ b
 one_pair arcs ss p a b s t =
-    let h = has_exponent (form_of s.normal) in
     let same = same_normal arcs ss (p ∷ []) s.normal t.normal s.of_rows t.of_rows in
-    one_told a b (front_of h.0 s.normal) (front_of h.0 t.normal) (same_front h.0 s.normal t.normal same) (s.told h.0 h.1)
-    (t.told h.0 (one_exponent arcs ss (p ∷ []) s.normal t.normal h.0 s.of_rows t.of_rows h.1))
+    let h : s.h ≡ t.h = exponent_unique s.h t.h (form_of t.normal) (one_exponent arcs ss (p ∷ []) s.normal t.normal s.h s.of_rows t.of_rows s.exponent) t.exponent in
+    one_told a b (front_of s.h s.normal) (front_of t.h t.normal) (same_front s.h s.normal t.normal same ∙ ap (λ (e : ℕ). front_of e t.normal) h) s.told t.told
 
 pub one_first : (arcs : List Arc) (ss : List ℕ) (pairs : List PairRows) (a b : LowerFault) → IsFirstRefused arcs ss pairs a → IsFirstRefused arcs ss pairs b → a ≡ b
 one_first arcs ss [] a b s t = absurd (omega (arith, s.inside))

@@ -41,7 +41,6 @@ one_front arcs ss p f g a b =
 pub no_front : (arcs : List Arc) (ss : List ℕ) (p : PairRows) (why : LowerFault) (f : FrontForm) → IsRefusedPair arcs ss p why → IsFrontOfPair arcs ss p f → ⊥
 no_front arcs ss p why f a b =
     let same = same_normal arcs ss (p ∷ []) b.normal a.normal b.of_rows a.of_rows in
-    let serves = one_exponent arcs ss (p ∷ []) b.normal a.normal f.h b.of_rows a.of_rows b.front.exponent in
-    let is = a.told f.h serves in
-    let whole = same_front f.h b.normal a.normal same in
-    absurd (cc (is.1.0, whole, b.front.taken))
+    let h : f.h ≡ a.h = exponent_unique f.h a.h (form_of a.normal) (one_exponent arcs ss (p ∷ []) b.normal a.normal f.h b.of_rows a.of_rows b.front.exponent) a.exponent in
+    let whole = same_front f.h b.normal a.normal same ∙ ap (λ (e : ℕ). front_of e a.normal) h in
+    absurd (cc (a.told.1.0, whole, b.front.taken))

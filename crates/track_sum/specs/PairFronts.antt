@@ -22,11 +22,13 @@ pub record IsFrontOfPair (arcs : List Arc) (ss : List ℕ) (p : PairRows) (f : F
   pub of_rows : IsNormalOf arcs ss (p ∷ []) normal
   pub front : IsFrontOf normal f
 
--- that matrix has no front, for this reason
+-- that matrix, over the least power of 2 that serves, has no front, for this reason
 pub record IsRefusedPair (arcs : List Arc) (ss : List ℕ) (p : PairRows) (fault : LowerFault) : Type 0 where
   pub normal : Normal
   pub of_rows : IsNormalOf arcs ss (p ∷ []) normal
-  pub told : (h : ℕ) → IsExponent h (form_of normal) → IsToldAs fault (front_of h normal)
+  pub h : ℕ
+  pub exponent : IsExponent h (form_of normal)
+  pub told : IsToldAs fault (front_of h normal)
 
 abbrev pub HasFront : List Arc → List ℕ → PairRows → Type 0
 HasFront arcs ss p = (f : FrontForm) × IsFrontOfPair arcs ss p f

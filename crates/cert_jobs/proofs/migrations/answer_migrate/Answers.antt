@@ -12,6 +12,18 @@ returns-clause-answer c =
     record {
       cert = cert;
       whole = c.in_ok-write_cert.ensures.whole;
-      migrated = record { ratio = law.ratio; budget = law.budget; session = law.session; tail = law.tail; boxes = law.boxes; sums = law.sums; best = law.best; by_ratio = law.by_ratio };
+      migrated = record {
+        ratio = law.ratio;
+        budget = law.budget;
+        session = law.session;
+        tail = law.tail;
+        only = law.only;
+        new_best = law.new_best;
+        new_by_ratio = law.new_by_ratio;
+        boxes = law.boxes;
+        sums = law.sums;
+        best = law.best;
+        by_ratio = law.by_ratio;
+      };
       end_is = λ i. ending (c.status_of.ensures.value i) (out i) (c.new.ensures.items i);
     }

@@ -2,7 +2,7 @@ use Rattle.std.proofs.Common.{◌≡◌, ℕ, ◌+◌, ◌*◌, ◌^◌, ◌<◌
 use Rattle.std.proofs.lemmas.List.{drop_more}
 use Rattle.std.proofs.lemmas.Int.{ints}
 use Rattle.whole_math.proofs.Order.{lins}
-use Rattle.quadratic_form.specs.Rows.{SignalGroup, Radii, add_radii, radii}
+use Rattle.quadratic_form.specs.Rows.{SignalGroup, columns, Radii, add_radii, radii}
 use Rattle.quadratic_form.specs.MatrixEntries.{matrix_entry}
 use Rattle.quadratic_form.proofs.MatrixEntries.{matrix_append, matrix_past}
 use Rattle.obs_rows.specs.declared.arcs.Arc.{Arc}

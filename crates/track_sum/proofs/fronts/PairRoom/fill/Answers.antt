@@ -5,6 +5,7 @@ use Rattle.obs_rows.specs.Signals.{fine_signals}
 use Rattle.integer_form.specs.Told.{IsToldAs}
 use Rattle.lower_form.specs.Forms.{IsFrontOf}
 use Rattle.lower_form.specs.Fronts.{front_of}
+use Rattle.lower_form.proofs.Exponents.{has_exponent}
 use Rattle.lower_form.specs.Rooms.{IsClean}
 use Rattle.track_sum.specs.PairFronts.{IsFrontOfPair, IsRefusedPair}
 use Rattle.track_sum.proofs.Results.{on_ok, err_weaker}
@@ -24,9 +25,10 @@ returns-clause-front c = on_ok (IsFrontOf c.refill_pair.new.normal c.refill_fron
     c.refill_front.result (λ is. record { normal = c.refill_pair.new.normal; of_rows = c.refill_pair.ensures; front = is }) c.refill_front.ensures.front
 
 pub returns-clause-refused : goal.returns-clause-refused
-returns-clause-refused c = err_weaker (λ e. (h : ℕ) → IsExponent h (form_of c.refill_pair.new.normal) → IsToldAs e (front_of h c.refill_pair.new.normal))
-    (IsRefusedPair c.args.arcs.now (fine_signals c.args.signals) c.args.pair.now) c.refill_front.result
-    (λ e told. record { normal = c.refill_pair.new.normal; of_rows = c.refill_pair.ensures; told = told }) c.refill_front.ensures.refused
+returns-clause-refused c =
+    let some = has_exponent (form_of c.refill_pair.new.normal) in
+    err_weaker (λ e. (h : ℕ) → IsExponent h (form_of c.refill_pair.new.normal) → IsToldAs e (front_of h c.refill_pair.new.normal)) (IsRefusedPair c.args.arcs.now (fine_signals c.args.signals) c.args.pair.now) c.refill_front.result
+    (λ e told. record { normal = c.refill_pair.new.normal; of_rows = c.refill_pair.ensures; h = some.0; exponent = some.1; told = told some.0 some.1 }) c.refill_front.ensures.refused
 
 pub returns-clause-columns : goal.returns-clause-columns
 returns-clause-columns c = c.refill_front.ensures.columns ∙ c.refill_pair.ensures.columns ∙ sym c.requires.columns
