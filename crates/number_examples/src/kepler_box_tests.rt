@@ -203,26 +203,26 @@ fn box_fault(row: &Solution) -> Option<&'static str> {
     held_fault(&found, angle, cos, sin)
 }
 
-// What of a row isn't held from a start a little aside, and from one at the mean anomaly.
-fn near_fault(row: &Solution) -> Option<&'static str> {
+// What of a row isn't held where the search begins at the pair of that angle.
+fn near_fault(row: &Solution, start: i64) -> Option<&'static str> {
     let (m, e, angle, cos, sin) = *row;
     if m < -(12 << 56) || m > 12 << 56 || e < 0 || e > 1 << 55 {
         return Some("out of range");
     }
-    let (means, shapes) = (Iv::from_ends(m, m), Iv::from_ends(e, e));
-    for aside in [m, angle.clamp(-(12 << 56), 12 << 56) + (1 << 20)] {
-        let found = anomaly_near(&means, &shapes, &PointPair::of(aside));
-        if let Some(fault) = held_fault(&found, angle, cos, sin) {
-            return Some(fault);
-        }
+    if start < -(1 << 60) || start > 1 << 60 {
+        return Some("start out of range");
     }
-    None
+    let (mean, shape) = (Iv::from_ends(m, m), Iv::from_ends(e, e));
+    let found = anomaly_near(&mean, &shape, &PointPair::of(start));
+    held_fault(&found, angle, cos, sin)
 }
 
 #[test]
 fn solutions_nearby(rt: HostRuntime) {
     for row in SOLUTIONS.iter() {
-        assert_eq!(rt; near_fault(row), None, "at {} and {}", row.0, row.1);
+        let aside = row.2.wrapping_add(1 << 20);
+        assert_eq!(rt; near_fault(row, aside), None, "at {} and {}", row.0, row.1);
+        assert_eq!(rt; near_fault(row, row.0), None, "at {} and {}", row.0, row.1);
     }
 }
 

@@ -33,6 +33,18 @@ pub fn units_of(coordinate: i64) -> i64
     raised_units((coordinate + COORDINATE_OFFSET) as u64) as i64 - (1 << 59)
 }
 
+// 1 where the coordinate lies between two units, else 0: whole units are multiples of 625, since 2^32 has no factor 5
+fn rest_of(coordinate: i64) -> i64
+    requires { unsigned_abs coordinate ≤ MOST_COORDINATE }
+    ensures low { pos 0 ≤ℤ result }
+    ensures high { result ≤ℤ pos 1 }
+    ensures above { (u : ℤ) → (coordinate *ℤ pos (2 ^ 36)) <ℤ ((u *ℤ pos 10000) +ℤ pos 10000) →
+        (coordinate *ℤ pos (2 ^ 36)) ≤ℤ ((u +ℤ result) *ℤ pos 10000) }
+{
+    let raised = (coordinate + COORDINATE_OFFSET) as u64;
+    if raised % 625 == 0 { 0 } else { 1 }
+}
+
 // A coordinate in units of 0.1 mm
 fn coordinate_box(coordinate: i64) -> Iv<36>
     requires { unsigned_abs coordinate ≤ MOST_COORDINATE }
@@ -40,7 +52,8 @@ fn coordinate_box(coordinate: i64) -> Iv<36>
     ensures size { IsWithin (7000001 * 2 ^ 36) result }
     ensures width { width_of result ≤ℤ pos 1 }
 {
-    Iv::from_ends(units_of(coordinate), -units_of(-coordinate))
+    let low = units_of(coordinate);
+    Iv::from_ends(low, low + rest_of(coordinate))
 }
 
 // x less a coordinate in units of 0.1 mm

@@ -1,5 +1,4 @@
 use Rattle.std.proofs.Common.{◌≡◌, [], ◌∷◌, ℤ, sym, subst}
-use Rattle.rational.specs.Rational.{Rational}
 use Rattle.orbit_model.specs.SeenPlaces.{Place, point_of, IsSeenPlace, IsMeanDirection}
 use Rattle.signal_travel.proofs.Handed.{same_point, held}
 use Rattle.signal_travel.proofs.aim_from.Goals as goal

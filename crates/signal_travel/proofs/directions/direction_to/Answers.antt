@@ -1,5 +1,4 @@
-use Rattle.std.proofs.Common.{◌^◌, ℤ, pos, ◌+ℤ◌, ◌≤ℤ◌, neg_ℤ, arith}
-use Rattle.std.proofs.lemmas.Int.{ints}
+use Rattle.std.proofs.Common.{◌^◌, pos}
 use Rattle.orbit_model.specs.SeenPlaces.{Place, difference, square, point_of}
 use Rattle.orbit_model.proofs.Changes.{range_change}
 use Rattle.signal_travel.proofs.MeanDirections.{seen_square, seen_between, far_enough, near_enough, move_x, move_y, move_z, wider}

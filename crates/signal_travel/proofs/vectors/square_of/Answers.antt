@@ -1,4 +1,4 @@
-use Rattle.std.proofs.Common.{◌^◌, ℤ, pos, neg_ℤ, ◌≤ℤ◌, arith, lit≤, lit<}
+use Rattle.std.proofs.Common.{◌^◌, pos, neg_ℤ, ◌≤ℤ◌, arith, lit≤, lit<}
 use Rattle.iv_core.specs.Intervals.{low_square, high_square}
 use Rattle.sized_box.proofs.Bounds.{reached, square_within}
 use Rattle.signal_travel.proofs.vectors.square_of.Goals as goal
