@@ -1,8 +1,8 @@
 //! Numbers of at most 18 digits at the head of a text, which nearly all numbers of a certificate are. They are read in 64
 //! bits, straight into an array and with no column. Where a text begins otherwise nothing is said of it.
-ghost use Rattle.std.specs.Prelude.{◌≡◌, ◌+◌, ◌-◌, ◌*◌, ◌<◌, ◌≤◌, ◌∷◌, ◌++◌, ◌^◌, length, take, true, IfSome};
+ghost use Rattle.std.specs.Prelude.{◌≡◌, ◌<◌, ◌≤◌, ◌∷◌, ◌++◌, ◌^◌, length, take, IfSome};
 ghost use Rattle.std.specs.Fmt.{decimal, signed_decimal};
-ghost use Rattle.decimal_text.specs.Whole.{is_digit, size_of};
+ghost use Rattle.decimal_text.specs.Whole.{size_of};
 ghost use Rattle.cert_words.specs.Spelling.{behind_blanks};
 
 use decimal_text::is_digit_byte;
@@ -10,8 +10,8 @@ use decimal_text::is_digit_byte;
 // After a number up to this one there is room for one more digit in 63 bits.
 const LAST_SHORT: u64 = 900_000_000_000_000_000;
 
-// After one up to this there is room for four.
-const LAST_BEFORE_FOUR: u64 = 900_000_000_000_000;
+// So many bytes are read with no look at where the text ends.
+const AHEAD: usize = 7;
 
 /// The numbers at the head of a text, by their count and each after one blank, with 0 after them in the array; and the text
 /// after them.
@@ -85,6 +85,8 @@ fn leading_natural(text: &[u8]) -> Option<(u64, &[u8])>
 }
 
 // The number that begins with this digit and goes on at the head of a text, and the text after it.
+//
+// Others follow most numbers, so the next seven bytes are there: what is read of them fits its word, whatever they are.
 #[inline(always)]
 fn further_digits(first: u64, text: &[u8]) -> Option<(u64, &[u8])>
     requires from { 0 < first }
@@ -92,9 +94,30 @@ fn further_digits(first: u64, text: &[u8]) -> Option<(u64, &[u8])>
     ensures spelled { IfSome result (λ r. decimal first ++ text.now ≡ decimal r.0 ++ r.1.now) }
     ensures small { IfSome result (λ r. r.0 < 2 ^ 63) }
 {
-    let (begun, behind) = further_fours(first, text);
+    if text.len() < AHEAD {
+        return last_digits(first, text);
+    }
+    let mut number = first;
+    for k in 0..AHEAD {
+        let b = text[k];
+        if !is_digit_byte(b) {
+            return Some((number, &text[k..]));
+        }
+        number = 10 * number + (b - b'0') as u64;
+    }
+    last_digits(number, &text[AHEAD..])
+}
+
+// The number that begins with this one and goes on at the head of a text, however near its end, and the text after it.
+#[inline(always)]
+fn last_digits(begun: u64, text: &[u8]) -> Option<(u64, &[u8])>
+    requires from { 0 < begun }
+    requires to { begun < 2 ^ 63 }
+    ensures spelled { IfSome result (λ r. decimal begun ++ text.now ≡ decimal r.0 ++ r.1.now) }
+    ensures small { IfSome result (λ r. r.0 < 2 ^ 63) }
+{
     let mut number = begun;
-    let mut rest = behind;
+    let mut rest = text;
     while let [b, after @ ..] = rest {
         if !is_digit_byte(*b) {
             return Some((number, rest));
@@ -106,44 +129,4 @@ fn further_digits(first: u64, text: &[u8]) -> Option<(u64, &[u8])>
         rest = after;
     }
     Some((number, rest))
-}
-
-// A number and its text after all whole groups of four digits are read.
-#[inline(always)]
-fn further_fours(first: u64, text: &[u8]) -> (u64, &[u8])
-    requires from { 0 < first }
-    requires to { first < 10 }
-    ensures spelled { decimal first ++ text.now ≡ decimal result.0 ++ result.1.now }
-    ensures some { 0 < result.0 }
-    ensures small { result.0 < 2 ^ 63 }
-{
-    let mut number = first;
-    let mut rest = text;
-    while let [a, b, c, d, after @ ..] = rest {
-        let Some(four) = four_digits(*a, *b, *c, *d) else {
-            return (number, rest);
-        };
-        if number > LAST_BEFORE_FOUR {
-            return (number, rest);
-        }
-        number = 10_000 * number + four;
-        rest = after;
-    }
-    (number, rest)
-}
-
-// What four digits stand for; `None` where one is no digit.
-fn four_digits(a: u8, b: u8, c: u8, d: u8) -> Option<u64>
-    ensures a { IfSome result (λ n. is_digit a ≡ true) }
-    ensures b { IfSome result (λ n. is_digit b ≡ true) }
-    ensures c { IfSome result (λ n. is_digit c ≡ true) }
-    ensures d { IfSome result (λ n. is_digit d ≡ true) }
-    ensures value { IfSome result (λ n. n ≡ 1000 * (a - 48) + 100 * (b - 48) + 10 * (c - 48) + (d - 48)) }
-{
-    if !is_digit_byte(a) || !is_digit_byte(b) || !is_digit_byte(c) || !is_digit_byte(d) {
-        return None;
-    }
-    let front = 1000 * (a - b'0') as u64 + 100 * (b - b'0') as u64;
-    let end = 10 * (c - b'0') as u64 + (d - b'0') as u64;
-    Some(front + end)
 }
