@@ -1,5 +1,6 @@
 -- Numbers at the head of a text.
-use Rattle.std.proofs.Common.{◌≡◌, ◌+◌, ◌-◌, ◌*◌, ◌^◌, ◌<◌, ◌≤◌, ℕ, ℤ, zero, suc, pos, negsuc, neg_ℤ, to_z, of_z, true, List, [], ◌∷◌, ◌++◌, length, take, drop, set, get_or, refl, sym, ap, ◌∙◌, subst, arith, append_assoc}
+use Rattle.std.proofs.Common.{◌≡◌, ◌+◌, ◌-◌, ◌*◌, ◌^◌, ◌<◌, ◌≤◌, ℕ, ℤ, zero, suc, pos, negsuc, neg_ℤ, to_z, of_z, true, List, [], ◌∷◌, ◌++◌, length, take, drop, set, get_or, refl, sym, ap, ◌∙◌, subst, arith, append_assoc, pow-suc, lit<}
+use Rattle.std.proofs.Math.Nat.{pow-le-pow_right}
 use Rattle.std.proofs.lemmas.List.{append-nil, take_all, take_more_set}
 use Rattle.std.proofs.lemmas.Int.{ints}
 use Rattle.std.specs.Int.{w64}
@@ -62,30 +63,17 @@ pub short_word : (z : ℤ) → size_of z < 2 ^ 63 → to_z w64 (of_z w64 z) ≡ 
 short_word (pos n) small = omega (arith, ints)
 short_word (negsuc n) small = omega (arith, ints)
 
--- a text from its fifth byte on
-pub four_rest : (text : List ℕ) → 4 ≤ length text
-    → text ≡ get_or text 0 0 ∷ (get_or text 1 0 ∷ (get_or text 2 0 ∷ (get_or text 3 0 ∷ take (length text - 4) (drop 4 text))))
-four_rest [] some = absurd (omega arith)
-four_rest (a ∷ []) some = absurd (omega arith)
-four_rest (a ∷ b ∷ []) some = absurd (omega arith)
-four_rest (a ∷ b ∷ c ∷ []) some = absurd (omega arith)
-four_rest (a ∷ b ∷ c ∷ d ∷ rest) some =
-    let whole : take (length (a ∷ b ∷ c ∷ d ∷ rest) - 4) rest ≡ rest = take_all (length (a ∷ b ∷ c ∷ d ∷ rest) - 4) rest (omega arith) in
-    ap (λ (l : List ℕ). a ∷ b ∷ c ∷ d ∷ l) (sym whole)
+-- with a digit more a number has a digit more
+pub digit_more : (k n d : ℕ) → n < 10 ^ (k + 1) → d ≤ 9 → 10 * n + d < 10 ^ (k + 1 + 1)
+digit_more k n d small digit =
+    let same : k + 1 + 1 ≡ suc (k + 1) = omega arith in
+    let next : 10 ^ suc (k + 1) ≡ 10 ^ (k + 1) * 10 = pow-suc 10 (k + 1) in
+    let whole : 10 ^ (k + 1 + 1) ≡ 10 ^ (k + 1) * 10 = ap (λ (m : ℕ). 10 ^ m) same ∙ next in
+    rw whole (omega (arith, small, digit))
 
--- four digits after a number that isn't 0 are its next
-pub next_four : (n m a b c d : ℕ) (after : List ℕ) → 0 < n → n ≤ 900_000_000_000_000 → is_digit a ≡ true → is_digit b ≡ true → is_digit c ≡ true → is_digit d ≡ true
-    → m ≡ 1000 * (a - 48) + 100 * (b - 48) + 10 * (c - 48) + (d - 48) → decimal (10000 * n + m) ++ after ≡ decimal n ++ (a ∷ (b ∷ (c ∷ (d ∷ after))))
-next_four n m a b c d after some small ia ib ic id is =
-    let da = digit_from a ia in
-    let db = digit_from b ib in
-    let dc = digit_from c ic in
-    let n1 : ℕ = 10 * n + (a - 48) in
-    let n2 : ℕ = 10 * n1 + (b - 48) in
-    let n3 : ℕ = 10 * n2 + (c - 48) in
-    let whole : 10000 * n + m ≡ 10 * n3 + (d - 48) = omega (arith, is) in
-    ap (λ (k : ℕ). decimal k ++ after) whole
-    ∙ next_digit n3 d after (omega arith) (omega (arith, da.1, db.1, dc.1)) id
-    ∙ next_digit n2 c (d ∷ after) (omega arith) (omega (arith, da.1, db.1)) ic
-    ∙ next_digit n1 b (c ∷ (d ∷ after)) (omega arith) (omega (arith, da.1)) ib
-    ∙ next_digit n a (b ∷ (c ∷ (d ∷ after))) some (omega arith) ia
+-- a number of at most seven digits
+pub seven_room : (k n : ℕ) → k < 7 → n < 10 ^ (k + 1) → n < 10 ^ 7
+seven_room k n before small =
+    let last : k + 1 ≤ 7 = omega (arith, before) in
+    let most : 10 ^ (k + 1) ≤ 10 ^ 7 = pow-le-pow_right (lit< tt) last in
+    omega (arith, small, most)

@@ -1,13 +1,10 @@
-use Rattle.std.proofs.Common.{◌≡◌, ◌<◌, ◌^◌, ◌++◌, length}
+use Rattle.std.proofs.Common.{◌≡◌, ◌+◌, ◌<◌, ◌^◌, ◌++◌, drop}
 use Rattle.std.specs.Fmt.{decimal}
 use Rattle.cert_words.proofs.short.further_digits.Given as goal
 
-abbrev pub invariant-loop-rest : goal.invariant-loop-rest
-invariant-loop-rest l = record {
-  spelled : decimal l.first ++ l.text ≡ decimal l.number ++ l.rest;
+abbrev pub invariant-loop-k : goal.invariant-loop-k
+invariant-loop-k g l = record {
+  spelled : decimal l.first ++ l.text ≡ decimal l.number ++ drop l.k l.text;
   some : 0 < l.number;
-  small : l.number < 2 ^ 63;
+  small : l.number < 10 ^ (l.k + 1);
 }
-
-abbrev pub decreases-loop-rest : goal.decreases-loop-rest
-decreases-loop-rest l = length l.rest

@@ -5,12 +5,12 @@ use Rattle.cert_words.proofs.ShortLaws.{first_rest, first_digit, zero_digit}
 use Rattle.cert_words.proofs.short.leading_natural.Goals as goal
 
 pub returns-then-b-eq48-clause-spelled : goal.returns-then-b-eq48-clause-spelled
-returns-then-b-eq48-clause-spelled c =
+returns-then-b-eq48-clause-spelled g c =
     let text = c.args.text.now in
     zero_digit text (take (length text - 1) (drop 1 text)) (get_or text 0 0) (first_rest text c.in-len1-up.len_at_least) c.if-b-eq48.true
 
 pub returns-clause-spelled : goal.returns-clause-spelled
-returns-clause-spelled c =
+returns-clause-spelled g c =
     let text = c.args.text.now in
     let b = get_or text 0 0 in
     let behind = take (length text - 1) (drop 1 text) in
