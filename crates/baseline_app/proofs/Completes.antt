@@ -8,7 +8,9 @@ use Rattle.job_answers.specs.declared.status.Status.TheVariants.{Usage, ReadFaul
 use Rattle.job_answers.specs.Statuses.{IsVerdictStatus, IsJobStatus}
 use Rattle.job_answers.specs.Endings.{Ending, IsRefusedFile}
 use Rattle.job_answers.specs.Delivered.{SinkChange, GainsUnlessFault, IsDelivered}
+use Rattle.job_answers.specs.Works.{FileWork, EndsOver}
 use Rattle.job_answers.proofs.TextLaws.{text_status, text_verdict}
+use Rattle.session_files.specs.SessionJobs.{IsPairLine}
 use Rattle.session_files.proofs.SessionLaws.{session_status, session_verdict}
 use Rattle.file_jobs.specs.Zero.{zero_job}
 use Rattle.file_jobs.specs.Listing.{list_job}
@@ -23,7 +25,7 @@ use Rattle.command_words.specs.declared.jobs.Job.{Job}
 use Rattle.command_words.specs.declared.jobs.Job.TheVariants as job
 use Rattle.command_words.specs.declared.sims.Part.{Part}
 use Rattle.command_words.specs.declared.sims.Part.TheVariants as part
-use Rattle.command_words.specs.Words.{IsJob}
+use Rattle.command_words.specs.Words.{file_words, IsJob}
 use Rattle.command_words.proofs.OneJob.{one_job}
 use Rattle.sim_jobs.proofs.SimSays.{sim_status, sim_verdict}
 use Rattle.epoch_pair.specs.declared.faults.PairWhat.{PairWhat}
@@ -68,18 +70,25 @@ job_status (job.CheckTrack cert) told end = text_status check_track_job told cer
 job_status (job.Arcs base rover nav options) told end = session_status AnswersArcs told base rover nav options end
 job_status (job.Sim part seed epochs sats bands system) told end = part_status part seed epochs sats bands system end
 
-answer_ends : (job : Job) (words : List (List ℕ)) (told : List ℕ → Option (List ℕ)) (end : Ending) → IsJob words job → IsReadable job told → end.status ≢ ReadFault → IsAnswer words told end
-    → (end.status ≡ NoMemory) ⊎ (JobEnds job told end × IsVerdictStatus end.status)
-answer_ends job words told end asked readable no_fault (inl answer) =
-    let ends = subst (λ (j : Job). JobEnds j told end) (one_job words answer.job job answer.asked asked) answer.ends in
-    inr (ends, readable_ends job told end readable no_fault ends)
-answer_ends job words told end asked readable no_fault (inr (inl usage)) = absurd (usage.none job asked)
-answer_ends job words told end asked readable no_fault (inr (inr none)) = inl (ap (λ (e : Ending). e.status) none)
+-- the job that the words ask for ends so over its files, or memory is out
+pub asked_ends : (job : Job) (words : List (List ℕ)) (work : FileWork) (end : Ending) → IsJob words job → IsAnswer words work end
+    → EndsOver work (file_words job) IsPairLine (JobEnds job work.told) end ⊎ (end.status ≡ NoMemory)
+asked_ends job words work end asked (inl answer) =
+    inl (subst (λ (j : Job). EndsOver work (file_words j) IsPairLine (JobEnds j work.told) end) (one_job words answer.job job answer.asked asked) answer.ends)
+asked_ends job words work end asked (inr (inl usage)) = absurd (usage.none job asked)
+asked_ends job words work end asked (inr (inr none)) = inr (ap (λ (e : Ending). e.status) none)
 
-pub run_complete : (job : Job) (words : List (List ℕ)) (told : List ℕ → Option (List ℕ)) (result : Status) (out err : SinkChange)
-    → IsRun words told result out err → IsJob words job → IsReadable job told → result ≢ ReadFault → IsComplete job told result out err
-run_complete job words told result out err run asked readable no_fault = elim (run.written) [
-  | inl written ↦ elim (answer_ends job words told run.end asked readable (λ e. no_fault (written.same ∙ e)) run.answer) [
+answer_ends : (job : Job) (words : List (List ℕ)) (work : FileWork) (end : Ending) → IsJob words job → IsReadable job work.told → end.status ≢ ReadFault → IsAnswer words work end
+    → (end.status ≡ NoMemory) ⊎ (JobEnds job work.told end × IsVerdictStatus end.status)
+answer_ends job words work end asked readable no_fault answer = elim (asked_ends job words work end asked answer) [
+  | inl over ↦ inr (over.ends_so, readable_ends job work.told end readable no_fault over.ends_so)
+  | inr none ↦ inl none
+]
+
+pub run_complete : (job : Job) (words : List (List ℕ)) (work : FileWork) (result : Status) (out err : SinkChange)
+    → IsRun words work result out err → IsJob words job → IsReadable job work.told → result ≢ ReadFault → IsComplete job work.told result out err
+run_complete job words work result out err run asked readable no_fault = elim (run.written) [
+  | inl written ↦ elim (answer_ends job words work run.end asked readable (λ e. no_fault (written.same ∙ e)) run.answer) [
     | inl none ↦ inr (inl (written.same ∙ none))
     | inr well ↦ inl (record {
       end = run.end;
@@ -95,11 +104,11 @@ run_complete job words told result out err run asked readable no_fault = elim (r
 ]
 
 -- usage comes only where the words ask for no job
-pub run_usage : (words : List (List ℕ)) (told : List ℕ → Option (List ℕ)) (result : Status) (out err : SinkChange) → IsRun words told result out err
+pub run_usage : (words : List (List ℕ)) (work : FileWork) (result : Status) (out err : SinkChange) → IsRun words work result out err
     → result ≡ Usage → (job : Job) → IsJob words job → ⊥
-run_usage words told result out err run is job asked = elim (run.written) [
+run_usage words work result out err run is job asked = elim (run.written) [
   | inl written ↦ elim (run.answer) [
-    | inl answer ↦ subst IsJobStatus (sym written.same ∙ is) (job_status answer.job told run.end answer.ends)
+    | inl answer ↦ subst IsJobStatus (sym written.same ∙ is) (job_status answer.job work.told run.end answer.ends.ends_so)
     | inr (inl usage) ↦ usage.none job asked
     | inr (inr none) ↦ let s = ap (λ (e : Ending). e.status) none in absurd (cc (s, written.same, is))
   ]
@@ -108,11 +117,11 @@ run_usage words told result out err run is job asked = elim (run.written) [
 ]
 
 -- a write fault comes only where a sink's count rose
-pub run_write : (words : List (List ℕ)) (told : List ℕ → Option (List ℕ)) (result : Status) (out err : SinkChange) → IsRun words told result out err
+pub run_write : (words : List (List ℕ)) (work : FileWork) (result : Status) (out err : SinkChange) → IsRun words work result out err
     → result ≡ WriteFault → Rose out.before out.now ⊎ Rose err.before err.now
-run_write words told result out err run is = elim (run.written) [
+run_write words work result out err run is = elim (run.written) [
   | inl written ↦ elim (run.answer) [
-    | inl answer ↦ absurd (subst IsJobStatus (sym written.same ∙ is) (job_status answer.job told run.end answer.ends))
+    | inl answer ↦ absurd (subst IsJobStatus (sym written.same ∙ is) (job_status answer.job work.told run.end answer.ends.ends_so))
     | inr (inl usage) ↦ let s = ap (λ (e : Ending). e.status) usage.end_is in absurd (cc (s, written.same, is))
     | inr (inr none) ↦ let s = ap (λ (e : Ending). e.status) none in absurd (cc (s, written.same, is))
   ]
@@ -121,9 +130,9 @@ run_write words told result out err run is = elim (run.written) [
 ]
 
 -- a verdict comes only where neither sink had a fault
-pub run_steady : (words : List (List ℕ)) (told : List ℕ → Option (List ℕ)) (result : Status) (out err : SinkChange) → IsRun words told result out err
+pub run_steady : (words : List (List ℕ)) (work : FileWork) (result : Status) (out err : SinkChange) → IsRun words work result out err
     → IsVerdictStatus result → (out.now ≡ out.before) × (err.now ≡ err.before)
-run_steady words told result out err run verdict = elim (run.written) [
+run_steady words work result out err run verdict = elim (run.written) [
   | inl written ↦ (written.out_whole.steady, (written.err_whole (subst IsVerdictStatus written.same verdict)).steady)
   | inr (inl by_out) ↦ absurd (subst IsVerdictStatus by_out.fault verdict)
   | inr (inr by_err) ↦ absurd (subst IsVerdictStatus by_err.fault verdict)

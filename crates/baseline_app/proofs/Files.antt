@@ -7,7 +7,7 @@ use Rattle.job_answers.specs.declared.output.JobOutput.{JobOutput}
 use Rattle.job_answers.specs.declared.stop.JobStop.{JobStop}
 use Rattle.job_answers.specs.declared.status.Status.{Status}
 use Rattle.job_answers.specs.declared.stop.JobStop.TheVariants as stop
-use Rattle.job_answers.specs.declared.status.Status.TheVariants.{Refused, ReadFault, WriteFault, NoMemory}
+use Rattle.job_answers.specs.declared.status.Status.TheVariants.{ReadFault, WriteFault, NoMemory}
 use Rattle.job_answers.specs.Texts.{no_memory_line}
 use Rattle.job_answers.specs.Answers.{ending_of, IfEnded}
 use Rattle.job_answers.specs.Endings.{Ending, ending}
@@ -23,7 +23,7 @@ use Rattle.command_words.specs.declared.sims.Part.{Part}
 use Rattle.command_words.specs.Words.{file_words, IsJob}
 use Rattle.baseline_app.specs.Jobs.{PartEnds, JobEnds, AnswersJob, AnswersUsage, IsAnswer, end_of}
 use Rattle.baseline_app.specs.Runs.{IsRun, UsesFiles}
-use Rattle.baseline_app.proofs.Completes.{part_verdict, refused_told}
+use Rattle.baseline_app.proofs.Completes.{part_verdict}
 
 -- ---- jobs by their words
 -- a job with one file, whose name the words give
@@ -78,60 +78,51 @@ fault_told sure names end result out err (inr (inr by_err)) fault = λ is. absur
 
 -- ---- what a run does with files
 files_over : (work : FileWork) (job : Job) (end : Ending) (result : Status) (out err : SinkChange) → OpensFirst (file_words job) work.openings work.left.openings
-    → EndsOver work (file_words job) IsPairLine (JobEnds job work.told) end → IsDelivered end result out err → UsesFiles work (file_words job) result err
-files_over work job end result out err opens over written =
-    let named : HaveFault work.sure (file_words job) result (GainsUnlessFault err) = fault_told work.sure (file_words job) end result out err written over.named in
-    record {
-      opened = opens;
-      refused = refused_told work.told work.left (file_words job) end result out err written over.refused;
-      named = named;
-      sure = sure_by_named work.sure (file_words job) result (GainsUnlessFault err) named;
-    }
+    → EndsOver work (file_words job) IsPairLine (JobEnds job work.told) end → IsDelivered end result out err → UsesFiles work (file_words job) result
+files_over work job end result out err opens over written = record {
+  opened = opens;
+  sure = sure_by_named work.sure (file_words job) result (GainsUnlessFault err) (fault_told work.sure (file_words job) end result out err written over.named);
+}
 
 -- out of memory names no file
 no_memory_status : (result status : Status) (out err : SinkChange) → IsDelivered (ending NoMemory [] no_memory_line) result out err → result ≡ status → status ≢ WriteFault → NoMemory ≡ status
 no_memory_status result status out err = delivered_status (ending NoMemory [] no_memory_line) result status out err
 
 pub files_used : (work : FileWork) (job : Job) (r : Result JobOutput JobStop) (result : Status) (out err : SinkChange) → IsDoneOver work (file_words job) IsPairLine (JobEnds job work.told) r
-    → IsDelivered (end_of r) result out err → UsesFiles work (file_words job) result err
+    → IsDelivered (end_of r) result out err → UsesFiles work (file_words job) result
 files_used work job (Ok a) result out err done written = files_over work job (ending_of a) result out err done.opened done.ended written
 files_used work job (Err (stop.Ended a)) result out err done written = files_over work job (ending_of a) result out err done.opened done.ended written
 files_used work job (Err stop.NoMemory) result out err done written = record {
   opened = done.opened;
-  refused = λ is. let s = no_memory_status result Refused out err written is (λ e. absurd (cc (e))) in absurd (cc (s));
-  named = λ is. let s = no_memory_status result ReadFault out err written is (λ e. absurd (cc (e))) in absurd (cc (s));
   sure = λ all is. let s = no_memory_status result ReadFault out err written is (λ e. absurd (cc (e))) in absurd (cc (s));
 }
 
 -- ---- what a run ends with
-answered : (words : List (List ℕ)) (told : List ℕ → Option (List ℕ)) (end : Ending) → AnswersJob words told end ⊎ AnswersUsage words end → IsAnswer words told end
-answered words told end (inl job) = inl job
-answered words told end (inr usage) = inr (inl usage)
+answered : (words : List (List ℕ)) (work : FileWork) (end : Ending) → AnswersJob words work end ⊎ AnswersUsage words end → IsAnswer words work end
+answered words work end (inl job) = inl job
+answered words work end (inr usage) = inr (inl usage)
 
-is_answer : (words : List (List ℕ)) (told : List ℕ → Option (List ℕ)) (r : Result JobOutput JobStop) → IfEnded r (λ end. AnswersJob words told end ⊎ AnswersUsage words end) → IsAnswer words told (end_of r)
-is_answer words told (Ok a) ends = answered words told (ending_of a) ends
-is_answer words told (Err (stop.Ended a)) ends = answered words told (ending_of a) ends
-is_answer words told (Err stop.NoMemory) ends = inr (inr refl)
+is_answer : (words : List (List ℕ)) (work : FileWork) (r : Result JobOutput JobStop) → IfEnded r (λ end. AnswersJob words work end ⊎ AnswersUsage words end) → IsAnswer words work (end_of r)
+is_answer words work (Ok a) ends = answered words work (ending_of a) ends
+is_answer words work (Err (stop.Ended a)) ends = answered words work (ending_of a) ends
+is_answer words work (Err stop.NoMemory) ends = inr (inr refl)
 
-pub run_ends : (words : List (List ℕ)) (told : List ℕ → Option (List ℕ)) (r : Result JobOutput JobStop) (result : Status) (out err : SinkChange)
-    → IfEnded r (λ end. AnswersJob words told end ⊎ AnswersUsage words end) → IsDelivered (end_of r) result out err → IsRun words told result out err
-run_ends words told r result out err ends written = record { end = end_of r; answer = is_answer words told r ends; written = written }
+pub run_ends : (words : List (List ℕ)) (work : FileWork) (r : Result JobOutput JobStop) (result : Status) (out err : SinkChange)
+    → IfEnded r (λ end. AnswersJob words work end ⊎ AnswersUsage words end) → IsDelivered (end_of r) result out err → IsRun words work result out err
+run_ends words work r result out err ends written = record { end = end_of r; answer = is_answer words work r ends; written = written }
 
 -- ---- a read fault comes only where the count rose
-fault_rose : (words : List (List ℕ)) (work : FileWork) (end : Ending) (result : Status) (out err : SinkChange) → AnswersJob words work.told end ⊎ AnswersUsage words end
-    → ((job : Job) → IsJob words job → EndsOver work (file_words job) IsPairLine (JobEnds job work.told) end) → IsDelivered end result out err → result ≡ ReadFault
-    → Rose work.faults work.faults_now
-fault_rose words work end result out err (inl answer) over written is =
-    (over answer.job answer.asked).fault (delivered_status end result ReadFault out err written is (λ e. absurd (cc (e))))
-fault_rose words work end result out err (inr usage) over written is =
+fault_rose : (words : List (List ℕ)) (work : FileWork) (end : Ending) (result : Status) (out err : SinkChange) → AnswersJob words work end ⊎ AnswersUsage words end
+    → IsDelivered end result out err → result ≡ ReadFault → Rose work.faults work.faults_now
+fault_rose words work end result out err (inl answer) written is = answer.ends.fault (delivered_status end result ReadFault out err written is (λ e. absurd (cc (e))))
+fault_rose words work end result out err (inr usage) written is =
     let s = delivered_status end result ReadFault out err written is (λ e. absurd (cc (e))) in
     let t = ap (λ (e : Ending). e.status) usage.end_is in
     absurd (cc (s, t))
 
 pub run_read : (words : List (List ℕ)) (work : FileWork) (r : Result JobOutput JobStop) (result : Status) (out err : SinkChange)
-    → IfEnded r (λ end. AnswersJob words work.told end ⊎ AnswersUsage words end)
-    → ((job : Job) → IsJob words job → IsDoneOver work (file_words job) IsPairLine (JobEnds job work.told) r) → IsDelivered (end_of r) result out err → result ≡ ReadFault
+    → IfEnded r (λ end. AnswersJob words work end ⊎ AnswersUsage words end) → IsDelivered (end_of r) result out err → result ≡ ReadFault
     → Rose work.faults work.faults_now
-run_read words work (Ok a) result out err ends done written is = fault_rose words work (ending_of a) result out err ends (λ job asked. (done job asked).ended) written is
-run_read words work (Err (stop.Ended a)) result out err ends done written is = fault_rose words work (ending_of a) result out err ends (λ job asked. (done job asked).ended) written is
-run_read words work (Err stop.NoMemory) result out err ends done written is = let s = no_memory_status result ReadFault out err written is (λ e. absurd (cc (e))) in absurd (cc (s))
+run_read words work (Ok a) result out err ends written is = fault_rose words work (ending_of a) result out err ends written is
+run_read words work (Err (stop.Ended a)) result out err ends written is = fault_rose words work (ending_of a) result out err ends written is
+run_read words work (Err stop.NoMemory) result out err ends written is = let s = no_memory_status result ReadFault out err written is (λ e. absurd (cc (e))) in absurd (cc (s))

@@ -23,12 +23,15 @@ use Rattle.run_options.specs.declared.options.Options.{Options}
 use Rattle.session.specs.Answers.{IsBestAnswer}
 use Rattle.outcome_report.specs.OutcomeText.{is_fixed}
 use Rattle.job_answers.specs.declared.status.Status.{Status}
+use Rattle.job_answers.specs.declared.status.Status.TheVariants.{Refused, ReadFault}
 use Rattle.job_answers.specs.Endings.{Ending, EndsByFile, IsAdmitted}
-use Rattle.job_answers.specs.Delivered.{SinkChange}
+use Rattle.job_answers.specs.Delivered.{SinkChange, GainsUnlessFault}
+use Rattle.job_answers.specs.Works.{FileWork, HaveFault}
+use Rattle.job_answers.proofs.EndingLaws.{delivered_status}
 use Rattle.job_answers.specs.TextJobs.{TextJob, EndsOnText, IsTextAdmitted, form_job}
 use Rattle.session_files.specs.SessionFiles.{EndsBySession}
 use Rattle.session_files.specs.SessionJobs.{EndsOnFiles}
-use Rattle.session_files.specs.Refusals.{IsPairRefused}
+use Rattle.session_files.specs.Refusals.{IsPairRefused, HaveRefused}
 use Rattle.file_jobs.specs.Zero.{EndsByRows}
 use Rattle.file_jobs.specs.Listing.{EndsByObs}
 use Rattle.file_jobs.specs.Orbits.{EndsByRecords}
@@ -46,9 +49,12 @@ use Rattle.track_job.specs.TrackJobs.{AnswersTrack}
 use Rattle.track_job.specs.CheckJobs.{AnswersTrackCert, check_track_job}
 use Rattle.command_words.specs.declared.jobs.Job.{Job}
 use Rattle.command_words.specs.declared.jobs.Job.TheVariants as job
+use Rattle.command_words.specs.Words.{file_words, IsJob}
 use Rattle.baseline_app.specs.Jobs as present
 use Rattle.baseline_app.specs.Runs as runs
 use Rattle.baseline_app.specs.Former.{FormEnds, CertEnds, EndsWithOutcome, EndsWithTrack, JobEnds, IsCertAdmitted, IsFormerReadable, IsAnswer, IsRun, IsComplete}
+use Rattle.baseline_app.proofs.Completes.{asked_ends, refused_told}
+use Rattle.baseline_app.proofs.Files.{fault_told}
 
 -- ---- by the text of one file
 ends_at : (told : List ℕ → Option (List ℕ)) (name : List ℕ) (P Q : List ℕ → Ending → Type 0) (end : Ending) → ((text : List ℕ) → P text end → Q text end) → EndsByFile told name P end
@@ -157,12 +163,27 @@ still_readable (job.Arcs base rover nav options) told = λ readable. readable
 still_readable (job.Sim part seed epochs sats bands system) told = λ readable. readable
 
 -- ---- a run
-is_answer : (words : List (List ℕ)) (told : List ℕ → Option (List ℕ)) (end : Ending) → present.IsAnswer words told end → IsAnswer words told end
-is_answer words told end (inl answers) = inl (record { job = answers.job; asked = answers.asked; ends = job_ends answers.job told end answers.ends })
-is_answer words told end (inr other) = inr other
+is_answer : (words : List (List ℕ)) (work : FileWork) (end : Ending) → present.IsAnswer words work end → IsAnswer words work.told end
+is_answer words work end (inl answers) = inl (record { job = answers.job; asked = answers.asked; ends = job_ends answers.job work.told end answers.ends.ends_so })
+is_answer words work end (inr other) = inr other
 
-pub is_run : (words : List (List ℕ)) (told : List ℕ → Option (List ℕ)) (result : Status) (out err : SinkChange) → runs.IsRun words told result out err → IsRun words told result out err
-is_run words told result out err run = record { end = run.end; answer = is_answer words told run.end run.answer; written = run.written }
+pub is_run : (words : List (List ℕ)) (work : FileWork) (result : Status) (out err : SinkChange) → runs.IsRun words work result out err → IsRun words work.told result out err
+is_run words work result out err run = record { end = run.end; answer = is_answer words work run.end run.answer; written = run.written }
+
+-- what its text names, err has gained unless it has a fault
+pub have_refused : (words : List (List ℕ)) (work : FileWork) (result : Status) (out err : SinkChange) → runs.IsRun words work result out err → (j : Job) → IsJob words j
+    → HaveRefused work.told work.left (file_words j) result (GainsUnlessFault err)
+have_refused words work result out err run j asked = elim (asked_ends j words work run.end asked run.answer) [
+  | inl over ↦ refused_told work.told work.left (file_words j) run.end result out err run.written over.refused
+  | inr none ↦ λ is. let s = delivered_status run.end result Refused out err run.written is (λ e. absurd (cc (e))) in absurd (cc (s, none))
+]
+
+pub have_fault : (words : List (List ℕ)) (work : FileWork) (result : Status) (out err : SinkChange) → runs.IsRun words work result out err → (j : Job) → IsJob words j
+    → HaveFault work.sure (file_words j) result (GainsUnlessFault err)
+have_fault words work result out err run j asked = elim (asked_ends j words work run.end asked run.answer) [
+  | inl over ↦ fault_told work.sure (file_words j) run.end result out err run.written over.named
+  | inr none ↦ λ is. let s = delivered_status run.end result ReadFault out err run.written is (λ e. absurd (cc (e))) in absurd (cc (s, none))
+]
 
 pub is_complete : (j : Job) (told : List ℕ → Option (List ℕ)) (result : Status) (out err : SinkChange) → runs.IsComplete j told result out err → IsComplete j told result out err
 is_complete j told result out err (inl well) = inl (record {

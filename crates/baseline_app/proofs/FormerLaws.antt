@@ -11,7 +11,7 @@ use Rattle.command_words.specs.declared.sims.File.{File}
 use Rattle.command_words.specs.declared.jobs.Job.TheVariants as job
 use Rattle.command_words.specs.declared.sims.Part.TheVariants as part
 use Rattle.baseline_app.specs.Former.{SaysOfZero, SaysOfList, SaysOfOrbit, SaysOfCheck, SaysOfResiduals, SaysMigrated, SaysOfArcs, SaysOfFix, SaysOfTrack, SaysOfCheckTrack, SaysNow, SaidBefore}
-use Rattle.baseline_app.proofs.FormerEnds.{is_run, is_complete, still_readable}
+use Rattle.baseline_app.proofs.FormerEnds.{is_run, have_refused, have_fault, is_complete, still_readable}
 use Rattle.baseline_app.proofs.FormerSays.{said_each, zero_said, list_said, orbit_said, check_said, residuals_said, migrate_said, check_track_said, arcs_said, fix_said, track_said}
 
 -- a simulated session
@@ -37,11 +37,11 @@ sim_run_said seed epochs sats bands system NoMemory out says = tt
 
 pub said_before : (words : List (List ℕ)) (work : FileWork) (result : Status) (out err : SinkChange) → SaysNow words work result out err → SaidBefore words work result out err
 said_before words work result out err s = record {
-  run = is_run words work.told result out err s.run;
-  refused = λ j asked. (s.files j asked).refused;
+  run = is_run words work result out err s.run;
+  refused = λ j asked. have_refused words work result out err s.run j asked;
   opened = λ j asked. (s.files j asked).opened;
   sure = λ j asked. (s.files j asked).sure;
-  named = λ j asked. (s.files j asked).named;
+  named = λ j asked. have_fault words work result out err s.run j asked;
   zero = λ rows asked. said_each (λ (st : Status). SaysOfZero work.told rows st out) result (λ verdict. zero_said work.told rows result out (s.says (job.Zero rows) asked verdict));
   list = λ obs asked. said_each (λ (st : Status). SaysOfList work.told obs st out) result (λ verdict. list_said work.told obs result out (s.says (job.List obs) asked verdict));
   orbit = λ nav system sat tick asked. said_each (λ (st : Status). SaysOfOrbit work.told nav system sat tick.0 st out) result

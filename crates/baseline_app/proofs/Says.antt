@@ -5,6 +5,7 @@ use Rattle.job_answers.specs.declared.status.Status.{Status}
 use Rattle.job_answers.specs.Statuses.{IsVerdictStatus}
 use Rattle.job_answers.specs.Endings.{Ending}
 use Rattle.job_answers.specs.Delivered.{SinkChange}
+use Rattle.job_answers.specs.Works.{FileWork}
 use Rattle.job_answers.proofs.TextLaws.{text_says}
 use Rattle.session_files.proofs.SessionLaws.{session_says}
 use Rattle.command_words.specs.declared.jobs.Job.{Job}
@@ -43,13 +44,13 @@ job_says (job.Sim (part.File file) seed epochs sats bands system) told end out =
 job_says (job.Sim part.Run seed epochs sats bands system) told end out = λ ends verdict written. sim_run_says seed epochs sats bands system end out ends written
 
 -- a run with a verdict has an ending of the job, whose text for out was written
-pub run_says : (words : List (List ℕ)) (told : List ℕ → Option (List ℕ)) (job : Job) (result : Status) (out err : SinkChange)
-    → IsRun words told result out err → IsJob words job → IsVerdictStatus result → SaysOfJob job told result out
-run_says words told job result out err run asked verdict = elim (run.written) [
+pub run_says : (words : List (List ℕ)) (work : FileWork) (job : Job) (result : Status) (out err : SinkChange)
+    → IsRun words work result out err → IsJob words job → IsVerdictStatus result → SaysOfJob job work.told result out
+run_says words work job result out err run asked verdict = elim (run.written) [
   | inl written ↦ elim (run.answer) [
     | inl answer ↦
-        let ends = subst (λ (j : Job). JobEnds j told run.end) (one_job words answer.job job answer.asked asked) answer.ends in
-        subst (λ (s : Status). SaysOfJob job told s out) (sym written.same) (job_says job told run.end out ends (subst IsVerdictStatus written.same verdict) written.out_whole.whole)
+        let ends = subst (λ (j : Job). JobEnds j work.told run.end) (one_job words answer.job job answer.asked asked) answer.ends.ends_so in
+        subst (λ (s : Status). SaysOfJob job work.told s out) (sym written.same) (job_says job work.told run.end out ends (subst IsVerdictStatus written.same verdict) written.out_whole.whole)
     | inr (inl usage) ↦ absurd (usage.none job asked)
     | inr (inr none) ↦ absurd (subst IsVerdictStatus (written.same ∙ ap (λ (e : Ending). e.status) none) verdict)
   ]

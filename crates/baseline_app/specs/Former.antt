@@ -412,8 +412,8 @@ IsSure work names = All work.sure names ⊎ (Rose work.faults work.faults_now �
 -- ---- the clauses
 -- what `run` says now
 pub record SaysNow (words : List (List ℕ)) (work : FileWork) (result : Status) (out err : SinkChange) : Type 0 where
-  pub run : runs.IsRun words work.told result out err
-  pub files : (job : Job) → IsJob words job → runs.UsesFiles work (file_words job) result err
+  pub run : runs.IsRun words work result out err
+  pub files : (job : Job) → IsJob words job → runs.UsesFiles work (file_words job) result
   pub says : (job : Job) → IsJob words job → IsVerdictStatus result → SaysOfJob job work.told result out
   pub complete : (job : Job) → IsJob words job → IsReadable job work.told → IsSure work (file_words job) → runs.IsComplete job work.told result out err
 

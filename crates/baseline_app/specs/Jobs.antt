@@ -10,14 +10,15 @@ use Rattle.job_answers.specs.Answers.{ending_of}
 use Rattle.job_answers.specs.Texts.{usage_line, no_memory_line}
 use Rattle.job_answers.specs.Endings.{Ending, ending}
 use Rattle.job_answers.specs.Delivered.{SinkChange}
+use Rattle.job_answers.specs.Works.{FileWork, EndsOver}
 use Rattle.job_answers.specs.TextJobs.{TextEnds, IsTextAdmitted, SaysOfText}
 use Rattle.session_files.specs.Admitted.{AreAdmitted}
-use Rattle.session_files.specs.SessionJobs.{SessionEnds, SaysOfSession}
+use Rattle.session_files.specs.SessionJobs.{SessionEnds, SaysOfSession, IsPairLine}
 use Rattle.command_words.specs.declared.jobs.Job.{Job}
 use Rattle.command_words.specs.declared.jobs.Job.TheVariants as job
 use Rattle.command_words.specs.declared.sims.Part.{Part}
 use Rattle.command_words.specs.declared.sims.Part.TheVariants as part
-use Rattle.command_words.specs.Words.{IsJob}
+use Rattle.command_words.specs.Words.{file_words, IsJob}
 use Rattle.file_jobs.specs.Zero.{zero_job}
 use Rattle.file_jobs.specs.Listing.{list_job}
 use Rattle.file_jobs.specs.Orbits.{orbit_job}
@@ -80,11 +81,12 @@ SaysOfJob (job.Arcs base rover nav options) told status out = SaysOfSession Answ
 SaysOfJob (job.Sim (part.File file) seed epochs sats bands system) told status out = SaysOfSim file seed epochs sats bands system status out
 SaysOfJob (job.Sim part.Run seed epochs sats bands system) told status out = SaysOfSimRun seed epochs sats bands system status out
 
--- the words ask for a job, which ends so
-pub record AnswersJob (words : List (List ℕ)) (told : List ℕ → Option (List ℕ)) (end : Ending) : Type 0 where
+-- The words ask for a job, which ends so over its files. What a refusal or a read fault names stands in this end's text, whether or
+-- not standard error takes it.
+pub record AnswersJob (words : List (List ℕ)) (work : FileWork) (end : Ending) : Type 0 where
   pub job : Job
   pub asked : IsJob words job
-  pub ends : JobEnds job told end
+  pub ends : EndsOver work (file_words job) IsPairLine (JobEnds job work.told) end
 
 -- the words ask for none
 pub record AnswersUsage (words : List (List ℕ)) (end : Ending) : Type 0 where
@@ -101,5 +103,5 @@ end_of (Ok a) = ending_of a
 end_of (Err s) = stop_end s
 
 -- what the words end with; out of memory may come in the place of either
-abbrev pub IsAnswer : List (List ℕ) → (List ℕ → Option (List ℕ)) → Ending → Type 0
-IsAnswer words told end = AnswersJob words told end ⊎ (AnswersUsage words end ⊎ (end ≡ ending NoMemory [] no_memory_line))
+abbrev pub IsAnswer : List (List ℕ) → FileWork → Ending → Type 0
+IsAnswer words work end = AnswersJob words work end ⊎ (AnswersUsage words end ⊎ (end ≡ ending NoMemory [] no_memory_line))

@@ -8,17 +8,16 @@ use Rattle.job_answers.specs.declared.status.Status.TheVariants.{ReadFault, Writ
 use Rattle.job_answers.specs.Statuses.{number_of, IsVerdictStatus}
 use Rattle.job_answers.specs.Texts.{no_memory_line}
 use Rattle.job_answers.specs.Endings.{Ending, ending}
-use Rattle.job_answers.specs.Delivered.{SinkChange, GainsWhole, GainsUnlessFault, IsDelivered}
-use Rattle.job_answers.specs.Works.{FileWork, HaveFault}
-use Rattle.session_files.specs.Refusals.{HaveRefused}
+use Rattle.job_answers.specs.Delivered.{SinkChange, GainsWhole, IsDelivered}
+use Rattle.job_answers.specs.Works.{FileWork}
 use Rattle.command_words.specs.declared.jobs.Job.{Job}
 use Rattle.command_words.specs.Words.{file_words, IsJob}
 use Rattle.baseline_app.specs.Jobs.{JobEnds, IsAnswer, IsReadable, SaysOfJob}
 
 -- A run: the words end in a status with two texts, which are written.
-pub record IsRun (words : List (List ℕ)) (told : List ℕ → Option (List ℕ)) (result : Status) (out err : SinkChange) : Type 0 where
+pub record IsRun (words : List (List ℕ)) (work : FileWork) (result : Status) (out err : SinkChange) : Type 0 where
   pub end : Ending
-  pub answer : IsAnswer words told end
+  pub answer : IsAnswer words work end
   pub written : IsDelivered end result out err
 
 -- the job's two texts were written whole, with status 0 or 1
@@ -34,20 +33,18 @@ pub record EndsWell (job : Job) (told : List ℕ → Option (List ℕ)) (result 
 abbrev pub IsComplete : Job → (List ℕ → Option (List ℕ)) → Status → SinkChange → SinkChange → Type 0
 IsComplete job told result out err = EndsWell job told result out err ⊎ ((result ≡ NoMemory) ⊎ ((result ≡ WriteFault) × (Rose out.before out.now ⊎ Rose err.before err.now)))
 
--- What a run of a job does with its files. A first part of them is opened, each once and in this order. The file that a refusal names was read to its end, or
--- is too large, or it names two together; the file that a read fault names isn't sure, and there is none where all are.
-pub record UsesFiles (work : FileWork) (names : List (List ℕ)) (result : Status) (err : SinkChange) : Type 0 where
+-- What a run of a job does with its files: a first part of them is opened, each once and in this order, and there is no read fault
+-- where all are sure. What the text says of them, of a refusal and of a read fault, is a part of how the job ends.
+pub record UsesFiles (work : FileWork) (names : List (List ℕ)) (result : Status) : Type 0 where
   pub opened : OpensFirst names work.openings work.left.openings
-  pub refused : HaveRefused work.told work.left names result (GainsUnlessFault err)
-  pub named : HaveFault work.sure names result (GainsUnlessFault err)
   pub sure : All work.sure names → result ≢ ReadFault
 
 -- A run whose status the process ends with, as a number: all that is promised of a run, of this one. `same` says that the files are the same.
 pub record IsStarted (words : List (List ℕ)) (work : FileWork) (same : Type 0) (result : ℕ) (out err : SinkChange) : Type 0 where
   pub status : Status
   pub number : result ≡ number_of status
-  pub run : IsRun words work.told status out err
-  pub files : (job : Job) → IsJob words job → UsesFiles work (file_words job) status err
+  pub run : IsRun words work status out err
+  pub files : (job : Job) → IsJob words job → UsesFiles work (file_words job) status
   pub untouched : ((job : Job) → IsJob words job → file_words job ≡ []) → same
   pub read : status ≡ ReadFault → Rose work.faults work.faults_now
   pub write : status ≡ WriteFault → Rose out.before out.now ⊎ Rose err.before err.now

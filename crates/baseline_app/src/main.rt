@@ -10,11 +10,12 @@
 //!
 //! Status 2 is a usage error, and comes only where the words are no job (`usage`), 4 only where a file's count of faults
 //! rose (`read`), 5 only where a sink's count did (`write`); with status 0 or 1 neither sink's did (`steady`). What a job
-//! does with its files is one clause (`files`, of `UsesFiles`): a first part of them is opened, each once and in order; a
-//! refusal names one that was read to its end or is too large, or the two observation files together; a read fault names
-//! one whose name isn't sure, and with sure names there is none. Words without files leave all files as they are
-//! (`untouched`). Where all files of a job are there and of its form, and nothing fails, it ends with status 0 or 1 and its
-//! text is written, or it is out of memory (`complete`); `sim` and `sim run` need no file for that.
+//! does with its files is one clause (`files`, of `UsesFiles`): a first part of them is opened, each once and in order, and
+//! with sure names there is no read fault. What the end's text for err names is a part of how the job ends (`run`, of
+//! `AnswersJob`), whether or not err takes it: a refusal names a file that was read to its end or is too large, or the two
+//! observation files together; a read fault names one whose name isn't sure. Words without files leave all files as they
+//! are (`untouched`). Where all files of a job are there and of its form, and nothing fails, it ends with status 0 or 1 and
+//! its text is written, or it is out of memory (`complete`); `sim` and `sim run` need no file for that.
 //!
 //! # Jobs
 //!
@@ -25,13 +26,13 @@
 //! | `zero` | that every other whole number has a greater sum than the printed one | the rival with the least sum |
 //! | `list` | what the observation file holds, of RINEX 3 or of RINEX 2 | |
 //! | `orbit` | numbers that hold every solution of the satellite's equations, for the record chosen at the tick | that none is chosen |
-//! | `fix`, `track` | the certificate of a session that stands for the files, with integers that, with their move or moves, are strictly best and best by the ratio for all rational data in the printed boxes (`AnswersFix`, `AnswersTrack`) | the text of an outcome that is no fix, with its cause |
+//! | `fix`, `track` | the certificate of a session that stands for the files, with integers that, with their move or moves, are strictly best and best by the ratio for all rational data in the printed boxes (`AnswersFix`, `AnswersTrack`) | the text of an outcome that is no fix, with its cause; a certificate still stands for the files, and its rows are decided in no other way |
 //! | `check`, `check-track` | `certified`, where the integers of the text are best in that sense | `not certified` and why |
 //! | `residuals` | what is left of each row's observations | that the certificate has no vectors |
-//! | `migrate` | the spelling of the lifted certificate, whose tail is fixed, and best in the old boxes too (`migrate_job`) | the same where its tail isn't fixed |
+//! | `migrate` | the spelling of the lifted certificate, whose tail is fixed, and best in the printed boxes and in the old ones (`migrate_job`) | the same where its tail isn't fixed |
 //! | `arcs` | the kept arcs of the files | |
 //! | `sim` | a file of a session of the seed | |
-//! | `sim run` | the four lines about a session that is fixed; `match yes` exactly where its integers are the truth's | the four lines about one that isn't |
+//! | `sim run` | the four lines about a session that is fixed, of which holds what `fix` says of a fix; `match yes` exactly where its integers are the truth's | the four lines about one that isn't |
 //!
 //! What `run` said in clauses of earlier forms follows from these (`former_law` of `laws`), and what the commands of `sim`
 //! have in common (`one_session_law`).

@@ -122,7 +122,7 @@ fn do_job<F: Files>(alloc: Global, job: &Job, files: &mut F) -> Result<JobOutput
 
 // What the words ask for, as far as memory goes.
 fn answer_of<F: Files>(alloc: Global, words: &[String], files: &mut F) -> Result<JobOutput, JobStop>
-    ensures answer { IfEnded result (λ end. AnswersJob (texts_of words.now) (F.text_of files.old) end ⊎ AnswersUsage (texts_of words.now) end) }
+    ensures answer { IfEnded result (λ end. AnswersJob (texts_of words.now) (file_work F.Files files.old files.new) end ⊎ AnswersUsage (texts_of words.now) end) }
     ensures done { (job : Job) → IsJob (texts_of words.now) job → IsDoneOver (file_work F.Files files.old files.new) (file_words job) IsPairLine (JobEnds job (F.text_of files.old)) result }
     ensures untouched { ((job : Job) → IsJob (texts_of words.now) job → file_words job ≡ []) → files.new ≡ files.old }
 {
@@ -154,8 +154,8 @@ pub fn start<F: Files, O: Sink, E: Sink>(
 
 /// Does what the words after the program's name ask for, and writes its two texts, `out` first.
 /// Words that ask for no job, or for one without files, leave the files as they are. The files under a first part of a job's
-/// file words are opened, each word once and in this order. The file that a refusal names was read to its end, or is too large; the file that a read fault names is none
-/// that can't fail.
+/// file words are opened, each word once and in this order. The file that a refusal names, in the text that is made for `err`,
+/// was read to its end, or is too large; the file that a read fault names there is none that can't fail.
 pub fn run<F: Files, O: Sink, E: Sink>(
     alloc: Global,
     words: &[String],
@@ -163,8 +163,8 @@ pub fn run<F: Files, O: Sink, E: Sink>(
     out: &mut O,
     err: &mut E,
 ) -> Status
-    ensures run { IsRun (texts_of words.now) (F.text_of files.old) result (sink_change O.Sink out.old out.new) (sink_change E.Sink err.old err.new) }
-    ensures files { (job : Job) → IsJob (texts_of words.now) job → UsesFiles (file_work F.Files files.old files.new) (file_words job) result (sink_change E.Sink err.old err.new) }
+    ensures run { IsRun (texts_of words.now) (file_work F.Files files.old files.new) result (sink_change O.Sink out.old out.new) (sink_change E.Sink err.old err.new) }
+    ensures files { (job : Job) → IsJob (texts_of words.now) job → UsesFiles (file_work F.Files files.old files.new) (file_words job) result }
     ensures untouched { ((job : Job) → IsJob (texts_of words.now) job → file_words job ≡ []) → files.new ≡ files.old }
     ensures read { result ≡ Status.ReadFault → Rose (F.faults files.old) (F.faults files.new) }
     ensures write { result ≡ Status.WriteFault → Rose (O.faults out.old) (O.faults out.new) ⊎ Rose (E.faults err.old) (E.faults err.new) }
@@ -186,8 +186,8 @@ fn write_answer<F: Files, O: Sink, E: Sink>(
     out: &mut O,
     err: &mut E,
 ) -> Status
-    ensures run { IsRun (texts_of words.now) (F.text_of files.old) result (sink_change O.Sink out.old out.new) (sink_change E.Sink err.old err.new) }
-    ensures files { (job : Job) → IsJob (texts_of words.now) job → UsesFiles (file_work F.Files files.old files.new) (file_words job) result (sink_change E.Sink err.old err.new) }
+    ensures run { IsRun (texts_of words.now) (file_work F.Files files.old files.new) result (sink_change O.Sink out.old out.new) (sink_change E.Sink err.old err.new) }
+    ensures files { (job : Job) → IsJob (texts_of words.now) job → UsesFiles (file_work F.Files files.old files.new) (file_words job) result }
     ensures untouched { ((job : Job) → IsJob (texts_of words.now) job → file_words job ≡ []) → files.new ≡ files.old }
     ensures read { result ≡ Status.ReadFault → Rose (F.faults files.old) (F.faults files.new) }
 {

@@ -4,7 +4,6 @@ use Rattle.std.specs.declared.option.Option.{Option}
 use Rattle.std.specs.Io.KnownBytes.{Appends}
 use Rattle.cert_data.specs.declared.outcomes.Outcome.{Outcome}
 use Rattle.run_options.specs.declared.options.Options.{Options}
-use Rattle.session.specs.Answers.{IsBestAnswer}
 use Rattle.outcome_report.specs.OutcomeText.{is_fixed}
 use Rattle.job_answers.specs.declared.status.Status.{Status}
 use Rattle.job_answers.specs.declared.status.Status.TheVariants.{Done, Declined}
@@ -14,6 +13,7 @@ use Rattle.eph_store.specs.File.{Records}
 use Rattle.rinex_head.specs.Systems.{system_of}
 use Rattle.session.specs.Outcomes.{IsOutcome}
 use Rattle.session_files.specs.SessionFiles.{AreFilesOf}
+use Rattle.session_jobs.specs.FixJobs.{IsFixedFor}
 use Rattle.sim_jobs.specs.Matches.{IsMatched}
 use Rattle.sim_jobs.specs.SimRunJobs.{AreMadeFiles, AreOptionsOn, truth_in, run_text}
 
@@ -25,8 +25,8 @@ pub record HaveOutcome (told : List ℕ → Option (List ℕ)) (base rover nav :
   pub are_files : AreFilesOf (system_of o.system) told base rover nav base_file rover_file records
   pub is : IsOutcome base_file rover_file records o outcome
 
--- the made texts stand for a session, whose outcome is a fix or not; out has gained what it is, and `match yes` exactly where
--- it is a fix with the integers of the truth
+-- the made texts stand for a session, whose outcome is a fix or not, a fix with all that `fix` says of one; out has gained what it
+-- is, and `match yes` exactly where it is a fix with the integers of the truth
 pub record SaysMatch (seed epochs sats bands system : ℕ) (fixed : Bool) (out : SinkChange) : Type 0 where
   pub told : List ℕ → Option (List ℕ)
   pub made : AreMadeFiles seed epochs sats bands system told
@@ -34,7 +34,7 @@ pub record SaysMatch (seed epochs sats bands system : ℕ) (fixed : Bool) (out :
   pub options_are : AreOptionsOn bands system options
   pub outcome : Outcome
   pub have : HaveOutcome told (codes "base") (codes "rover") (codes "nav") options outcome
-  pub best : IsBestAnswer outcome.answer
+  pub fix : is_fixed outcome.answer ≡ true → IsFixedFor have.base_file have.rover_file have.records options outcome.answer
   pub fixed_is : is_fixed outcome.answer ≡ fixed
   pub matched : Bool
   pub matched_is : IsTrue matched ↔ IsMatched (truth_in seed sats bands) outcome.answer

@@ -10,7 +10,7 @@ use Rattle.baseline_app.proofs.top.answer_of.Goals as goal
 
 pub returns-in-Ok-clause-answer : goal.returns-in-Ok-clause-answer
 returns-in-Ok-clause-answer g c =
-    ended_weaker c.do_job.result _ _ (λ end over. inl (record { job = c.in-Ok.job; asked = c.in-Ok.ensures.job; ends = over.ends_so })) c.do_job.ensures.done.ended
+    ended_weaker c.do_job.result _ _ (λ end over. inl (record { job = c.in-Ok.job; asked = c.in-Ok.ensures.job; ends = over })) c.do_job.ensures.done.ended
 
 pub returns-in-Ok-clause-done : goal.returns-in-Ok-clause-done
 returns-in-Ok-clause-done g c = λ job asked.
