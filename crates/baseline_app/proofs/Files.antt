@@ -1,5 +1,5 @@
 -- What each job does with its files.
-use Rattle.std.proofs.Common.{◌≡◌, ◌≢◌, ◌⊎◌, inl, inr, ℕ, List, [], ◌∷◌, Option, Result, Ok, Err, Any, All, length, refl, sym, ap, ◌∙◌, subst}
+use Rattle.std.proofs.Common.{◌≡◌, ◌≢◌, ◌⊎◌, inl, inr, ℕ, List, [], ◌∷◌, Result, Ok, Err, Any, All, length, refl, sym, ap, ◌∙◌, subst}
 use Rattle.line_source.specs.Causes.{Rose}
 use Rattle.line_source.specs.Openings.{OpensFirst}
 use Rattle.line_source.proofs.OpeningLaws.{none_first}
@@ -20,7 +20,7 @@ use Rattle.session_files.specs.FaultNames.{IsFaultOf}
 use Rattle.session_files.specs.SessionJobs.{IsPairLine}
 use Rattle.command_words.specs.declared.jobs.Job.{Job}
 use Rattle.command_words.specs.declared.sims.Part.{Part}
-use Rattle.command_words.specs.Words.{file_words, IsJob}
+use Rattle.command_words.specs.Words.{file_words}
 use Rattle.baseline_app.specs.Jobs.{PartEnds, JobEnds, AnswersJob, AnswersUsage, IsAnswer, end_of}
 use Rattle.baseline_app.specs.Runs.{IsRun, UsesFiles}
 use Rattle.baseline_app.proofs.Completes.{part_verdict}
