@@ -1,8 +1,8 @@
 //! The eccentric anomaly: boxes of all solutions of Kepler's equation M = E − e·sin E (IS-GPS-200, table 20-IV).
 //!
 //! `anomaly_box` holds every solution of Kepler's equation for every mean anomaly and eccentricity of its boxes
-//! (`holds`), and says how near its boxes the solutions are whose mean anomaly lies outside (`near`). `anomaly_near` is
-//! the same by a shorter search, from a solution nearby. They take no memory and are never refused.
+//! (`holds`), and says how near its boxes the solutions are whose mean anomaly lies outside (`near`). It takes no
+//! memory and is never refused.
 #![tactic(auto)]
 
 ghost use Rattle.std.specs.Prelude.{◌≡◌, ◌+◌, ◌-◌, ◌*◌, ◌^◌, ◌<◌, ◌≤◌, pos, ◌+ℤ◌, ◌-ℤ◌, ◌*ℤ◌, ℤ, ◌≤ℤ◌, unsigned_abs, IfSome};
@@ -18,7 +18,7 @@ ghost use Rattle.kepler_box.specs.Steps.{IsMeanAnomaly, IsAngle, IsEccentricity,
 mod rough;
 
 use iv_core::Iv;
-use rough::{next_angle, rough_step};
+use rough::rough_step;
 use trig_box::{PairBox, PointPair, pair_box};
 
 // After fourteen a further step leads at most 3 units away, wherever the first began.
@@ -173,15 +173,8 @@ fn aimed(m: i64, means: i64, shapes: i64) -> i64
     requires mean { IsMeanAnomaly m }
     ensures { IsAngle result }
 {
-    in_reach(m, rough_step(means, shapes, rough_step(means, shapes, m)))
-}
-
-// The same, from an angle nearby with its pair
-fn aimed_from(m: i64, means: i64, shapes: i64, start: &PointPair) -> i64
-    requires mean { IsMeanAnomaly m }
-    ensures { IsAngle result }
-{
-    in_reach(m, next_angle(means, shapes, start))
+    let near = rough_step(means, shapes, rough_step(means, shapes, m));
+    in_reach(m, rough_step(means, shapes, near))
 }
 
 // The angle from which a further step leads at most 3 units away. Newton's rule leads near it.
@@ -264,8 +257,6 @@ pub struct Anomaly {
     pub angle: Iv<56>,
     pub cos: Iv<60>,
     pub sin: Iv<60>,
-    /// The pair of the angle's middle: where a search for a solution nearby may begin
-    pub middle: PointPair,
 }
 
 // The box that reaches `radius` beyond the angle, with the boxes of its pairs
@@ -286,7 +277,6 @@ fn pairs_around(point: &PointPair, radius: i64) -> Anomaly
         angle: reach,
         cos: pair.cos,
         sin: pair.sin,
-        middle: *point,
     }
 }
 
@@ -370,24 +360,6 @@ pub fn anomaly_box(m: &Iv<56>, e: &Iv<60>) -> Anomaly
     let means = m.lo().wrapping_add(m.hi());
     let shapes = e.lo().wrapping_add(e.hi());
     let guess = aimed(middle_of(m.lo(), m.hi()), means, shapes);
-    match found_at(m, e, guess) {
-        Some(found) => found,
-        None => anomaly_by_steps(m, e),
-    }
-}
-
-/// `anomaly_box` by a search that begins at the pair of an angle nearby. Nothing that is said of the boxes rests on it.
-pub fn anomaly_near(m: &Iv<56>, e: &Iv<60>, start: &PointPair) -> Anomaly
-    requires mean { IsWithin (12 * 2 ^ 56) m.now }
-    requires mean_narrow { width_of m.now ≤ℤ pos (2 ^ 4) }
-    requires eccentricity_low { pos 0 ≤ℤ e.now.lo }
-    requires eccentricity_high { e.now.hi ≤ℤ pos (2 ^ 55) }
-    requires eccentricity_narrow { width_of e.now ≤ℤ pos 2 }
-    ensures { IsAnomalyBox m.now e.now result }
-{
-    let means = m.lo().wrapping_add(m.hi());
-    let shapes = e.lo().wrapping_add(e.hi());
-    let guess = aimed_from(middle_of(m.lo(), m.hi()), means, shapes, start);
     match found_at(m, e, guess) {
         Some(found) => found,
         None => anomaly_by_steps(m, e),

@@ -1,7 +1,6 @@
 //! Eccentric anomalies as mpmath gives them.
 use iv_core::Iv;
-use kepler_box::{Anomaly, anomaly_box, anomaly_by_steps, anomaly_near};
-use trig_box::PointPair;
+use kepler_box::{Anomaly, anomaly_box, anomaly_by_steps};
 
 // A mean anomaly in units of 2^-56 and an eccentricity in units of 2^-60; then the solution as mpmath gives it, rounded
 // down: the angle in units of 2^-56, its cosine and its sine in units of 2^-60.
@@ -201,29 +200,6 @@ fn box_fault(row: &Solution) -> Option<&'static str> {
     }
     let found = anomaly_box(&Iv::from_ends(m, m), &Iv::from_ends(e, e));
     held_fault(&found, angle, cos, sin)
-}
-
-// What of a row isn't held where the search begins at the pair of that angle.
-fn near_fault(row: &Solution, start: i64) -> Option<&'static str> {
-    let (m, e, angle, cos, sin) = *row;
-    if m < -(12 << 56) || m > 12 << 56 || e < 0 || e > 1 << 55 {
-        return Some("out of range");
-    }
-    if start < -(1 << 60) || start > 1 << 60 {
-        return Some("start out of range");
-    }
-    let (mean, shape) = (Iv::from_ends(m, m), Iv::from_ends(e, e));
-    let found = anomaly_near(&mean, &shape, &PointPair::of(start));
-    held_fault(&found, angle, cos, sin)
-}
-
-#[test]
-fn solutions_nearby(rt: HostRuntime) {
-    for row in SOLUTIONS.iter() {
-        let aside = row.2.wrapping_add(1 << 20);
-        assert_eq!(rt; near_fault(row, aside), None, "at {} and {}", row.0, row.1);
-        assert_eq!(rt; near_fault(row, row.0), None, "at {} and {}", row.0, row.1);
-    }
 }
 
 #[test]

@@ -17,7 +17,6 @@ use gps_time::Tick;
 use iv_core::Iv;
 use kepler_box::anomaly_box;
 use sized_box::SizedBox;
-use trig_box::PointPair;
 
 /// The greatest time since the reference epoch, at 2^-60 of 10^4 s.
 pub const EPOCH_TIME: u64 = (1 << 60) / 10_000 * 7_203;
@@ -52,8 +51,6 @@ pub struct Timing {
     pub epoch_time: SizedBox<60, EPOCH_TIME, 3>,
     /// M, in radians
     pub mean: SizedBox<56, MEAN, 4>,
-    /// The pair of an angle near E, where a search for it may begin
-    pub start: PointPair,
 }
 
 // tk over 10^4, at a clock
@@ -77,18 +74,17 @@ fn mean_anomaly(made: &ClockRecord, time: &SizedBox<60, EPOCH_TIME, 3>) -> Sized
     made.start.add(&turned)
 }
 
-// The sines of the solutions whose mean anomaly is within 2^-35 of the box, and the pair of an angle among the solutions
+// The sines of the solutions whose mean anomaly is within 2^-35 of the box
 fn sine_near(
     mean: &SizedBox<56, MEAN, 4>,
     eccentricity: &SizedBox<60, ECCENTRICITY, 1>,
-) -> (SizedBox<60, SINE, SINE_WIDTH>, PointPair)
+) -> SizedBox<60, SINE, SINE_WIDTH>
     requires { pos 0 ≤ℤ eccentricity.now.held.lo }
     ensures { (m e x c s : Rational) → IsNearBox 56 mean.now.held.lo mean.now.held.hi (two_to_minus 35) m →
-        Holds eccentricity.now.held e → SolvesKepler m e x c s → Holds result.0.held s }
+        Holds eccentricity.now.held e → SolvesKepler m e x c s → Holds result.held s }
 {
-    let found = anomaly_box(&mean.held, &eccentricity.held);
-    let sine = SizedBox::new(Iv::from_ends(found.sin.lo() - PAD, found.sin.hi() + PAD));
-    (sine, found.middle)
+    let sine = anomaly_box(&mean.held, &eccentricity.held).sin;
+    SizedBox::new(Iv::from_ends(sine.lo() - PAD, sine.hi() + PAD))
 }
 
 fn half_of(width: i64) -> i64
@@ -135,20 +131,20 @@ fn any_effect() -> SizedBox<60, EFFECT, 220_000_000_000>
     SizedBox::new(Iv::from_ends(-110_000_000_000, 110_000_000_000))
 }
 
-// The relativistic term, from an approximate clock, and the pair of an angle near E
+// The relativistic term, from an approximate clock
 fn effect_of(
     made: &ClockRecord,
     sent: &SizedBox<60, SENT, 1>,
     first: &SizedBox<60, CLOCK, FIRST_WIDTH>,
-) -> (SizedBox<60, EFFECT, EFFECT_WIDTH>, PointPair)
+) -> SizedBox<60, EFFECT, EFFECT_WIDTH>
     ensures { (s : Rational) (q : Quantities) → IsNearSolution (constants_of made.now.world) (elements_of made.now.eph) s q →
         Holds sent.now.held (part (sub_r s (elements_of made.now.eph).toe)) → Holds first.now.held q.clock →
-        Holds result.0.held (mul_r (mul_r (mul_r (constants_of made.now.world).relativity (elements_of made.now.eph).ecc) (elements_of made.now.eph).root_a) q.eccentric_pair.sin) }
+        Holds result.held (mul_r (mul_r (mul_r (constants_of made.now.world).relativity (elements_of made.now.eph).ecc) (elements_of made.now.eph).root_a) q.eccentric_pair.sin) }
 {
     let time = time_at(sent, &clock_at(middle_of(first)));
     let mean = mean_anomaly(made, &time);
-    let (sine, start) = sine_near(&mean, &made.eccentricity);
-    (made.relativity.mul(&sine), start)
+    let sine = sine_near(&mean, &made.eccentricity);
+    made.relativity.mul(&sine)
 }
 
 /// When a satellite sent what was received at a tag with a code, in mm, and what Kepler's equation is asked with: boxes of
@@ -172,7 +168,7 @@ pub fn timing_at(made: &ClockRecord, tag: Tick, code: i64) -> Timing
         220_000_000_000,
         FIRST_WIDTH,
     >(&terms, &any_clock(), &any_effect());
-    let (effect, start) = effect_of(made, &sent, &first);
+    let effect = effect_of(made, &sent, &first);
     let second = pass::<
         FIRST_WIDTH,
         22_469_828,
@@ -193,6 +189,5 @@ pub fn timing_at(made: &ClockRecord, tag: Tick, code: i64) -> Timing
         clock,
         epoch_time,
         mean,
-        start,
     }
 }

@@ -12,8 +12,8 @@
 //!
 //! A `Rotation` is a box of a cosine and one of a sine that hold a pair near the circle of radius 1, and its type
 //! says how near and how wide. `rotation_of` and `wide_rotation_of` hold every pair of every angle in a box, `turn`
-//! that of every sum of two angles, `double` that of every double, `eccentric_pair` and `eccentric_pair_near` that of every
-//! solution of Kepler's equation, and `on_ellipse` every true anomaly and the radius 1 − e·cos E. With a pair within 32 / 2^16 of
+//! that of every sum of two angles, `double` that of every double, `eccentric_pair` that of every solution of
+//! Kepler's equation, and `on_ellipse` every true anomaly and the radius 1 − e·cos E. With a pair within 32 / 2^16 of
 //! the circle no end of such a box is further from 0 than 1 + 2^-10. The calls take no memory and are never refused.
 #![tactic(auto)]
 
@@ -40,9 +40,7 @@ use iv_core::Iv;
 pub use orbit::{ANGLE, AXIS, EPOCH_TIME, Orbit, RADIUS_CHANGE, SMALL, TINY};
 pub use plane::PERIGEE_WIDTH;
 use plane::in_plane;
-pub use rotations::{
-    Rotation, SIZE, eccentric_pair, eccentric_pair_near, rotation_of, wide_rotation_of,
-};
+pub use rotations::{Rotation, SIZE, eccentric_pair, rotation_of, wide_rotation_of};
 use sized_box::SizedBox;
 
 // A coordinate.

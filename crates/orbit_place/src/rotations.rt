@@ -8,9 +8,9 @@ ghost use Rattle.orbit_place.specs.Rotations.{HasPairNearCircle, HoldsBoth};
 
 use crate::ellipse::ANOMALY_WIDTH;
 use iv_core::Iv;
-use kepler_box::{anomaly_box, anomaly_near};
+use kepler_box::anomaly_box;
 use sized_box::SizedBox;
-use trig_box::{PointPair, pair_box};
+use trig_box::pair_box;
 
 /// 1 + 2^-10 at 2^-60: no end of a rotation's boxes is further from 0.
 pub const SIZE: u64 = 1025 << 50;
@@ -152,24 +152,5 @@ pub fn eccentric_pair(mean: &Iv<56>, eccentricity: &Iv<60>) -> Rotation<1, ANOMA
         HoldsBoth result.cos result.sin p }
 {
     let found = anomaly_box(mean, eccentricity);
-    Rotation::new(found.cos, found.sin)
-}
-
-/// `eccentric_pair` by a shorter search, which begins at the pair of an angle nearby.
-pub fn eccentric_pair_near(
-    mean: &Iv<56>,
-    eccentricity: &Iv<60>,
-    start: &PointPair,
-) -> Rotation<1, ANOMALY_WIDTH>
-    requires mean { IsWithin (12 * 2 ^ 56) mean.now }
-    requires mean_narrow { width_of mean.now ≤ℤ pos (2 ^ 4) }
-    requires eccentricity_low { pos 0 ≤ℤ eccentricity.now.lo }
-    requires eccentricity_high { eccentricity.now.hi ≤ℤ pos (2 ^ 55) }
-    requires eccentricity_narrow { width_of eccentricity.now ≤ℤ pos 2 }
-    ensures holds { (m e angle : Rational) (p : Pair) →
-        Holds mean.now m → Holds eccentricity.now e → SolvesKepler m e angle p.cos p.sin →
-        HoldsBoth result.cos result.sin p }
-{
-    let found = anomaly_near(mean, eccentricity, start);
     Rotation::new(found.cos, found.sin)
 }

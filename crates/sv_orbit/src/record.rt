@@ -19,7 +19,7 @@ use gps_time::Tick;
 use orbit_clock::{AXIS, ClockRecord, Timing, World, axis, timing_at};
 use orbit_place::{
     ANGLE, EARTH_TURN, Orbit, PERIGEE_WIDTH, RADIUS_CHANGE, RELATIVE_RATE, Rotation, SMALL, Shape,
-    TINY, earth_turn, eccentric_pair_near, place_of, relative_rate, rotation_of,
+    TINY, earth_turn, eccentric_pair, place_of, relative_rate, rotation_of,
 };
 use sized_box::SizedBox;
 
@@ -109,7 +109,7 @@ fn orbit_of(made: &SvRecord, timing: &Timing) -> Orbit
     let eccentricity = made.clock.eccentricity.held;
     Orbit {
         shape: made.shape,
-        anomaly: eccentric_pair_near(&timing.mean.held, &eccentricity, &timing.start),
+        anomaly: eccentric_pair(&timing.mean.held, &eccentricity),
         axis: made.axis,
         epoch_time: timing.epoch_time.loose(),
         perigee: made.perigee,

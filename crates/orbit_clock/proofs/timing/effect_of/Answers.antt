@@ -27,5 +27,5 @@ returns c = λ s q near_sol hs hf.
     sol.mean_anomaly sol.time_from_epoch sol.time_of_sending hf c.middle_of.ensures.above c.middle_of.ensures.below hm r.motion.within.0 r.motion.within.1 in
     let close : IsNearBox 56 c.mean_anomaly-mean.result.held.lo c.mean_anomaly-mean.result.held.hi (two_to_minus 35) q.mean =
     record { inside = mean_at m0 q.motion s toe (of_scale 60 p); held = mean; near = near } in
-    let sine = c.sine_near.ensures q.mean e q.eccentric q.eccentric_pair.cos q.eccentric_pair.sin close r.eccentricity_in sol.kepler in
+    let sine = c.sine_near-sine.ensures q.mean e q.eccentric q.eccentric_pair.cos q.eccentric_pair.sin close r.eccentricity_in sol.kepler in
     c.mul.ensures.holds (mul_r (mul_r (decimal r.world.rel 19) e) (value_of r.eph.root_a)) q.eccentric_pair.sin r.relativity_in sine

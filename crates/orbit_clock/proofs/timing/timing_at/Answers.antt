@@ -36,7 +36,7 @@ returns c = λ q n.
     (effect_size eph world q.eccentric q.eccentric_pair.cos q.eccentric_pair.sin s.kepler.is_pair) in
     let first = InBox-along 60 c.pass-first.result.held.lo c.pass-first.result.held.hi (correction d sent q.clock y) q.clock same
     (c.pass-first.ensures d sent q.clock y terms (c.any_clock.ensures q.clock small) (c.any_effect.ensures y little)) in
-    let effect = c.effect_of.ensures sent q n from_toe first in
+    let effect = c.effect_of-effect.ensures sent q n from_toe first in
     let second = InBox-along 60 c.pass-second.result.held.lo c.pass-second.result.held.hi (correction d sent q.clock y) q.clock same (c.pass-second.ensures d sent q.clock y terms first effect) in
     let third = InBox-along 60 c.pass-clock.result.held.lo c.pass-clock.result.held.hi (correction d sent q.clock y) q.clock same (c.pass-clock.ensures d sent q.clock y terms second effect) in
     let time = InBox-along 60 c.time_at-epoch_time.result.held.lo c.time_at-epoch_time.result.held.hi (sub_r (part (sub_r sent d.toe)) (part q.clock))

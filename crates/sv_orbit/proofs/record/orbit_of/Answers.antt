@@ -7,11 +7,11 @@ use Rattle.orbit_clock.specs.Terms.{part}
 use Rattle.eph_store.specs.Decimals.{value_of}
 use Rattle.sv_orbit.proofs.record.orbit_of.Goals as goal
 
-pub eccentric_pair_near-requires-clause-mean_narrow : goal.eccentric_pair_near-requires-clause-mean_narrow
-eccentric_pair_near-requires-clause-mean_narrow c = let n = c.args.timing.now.mean.narrow in omega (arith, ints, n)
+pub eccentric_pair-requires-clause-mean_narrow : goal.eccentric_pair-requires-clause-mean_narrow
+eccentric_pair-requires-clause-mean_narrow c = let n = c.args.timing.now.mean.narrow in omega (arith, ints, n)
 
-pub eccentric_pair_near-requires-clause-eccentricity_narrow : goal.eccentric_pair_near-requires-clause-eccentricity_narrow
-eccentric_pair_near-requires-clause-eccentricity_narrow c = let n = c.args.made.now.clock.eccentricity.narrow in omega (arith, ints, n)
+pub eccentric_pair-requires-clause-eccentricity_narrow : goal.eccentric_pair-requires-clause-eccentricity_narrow
+eccentric_pair-requires-clause-eccentricity_narrow c = let n = c.args.made.now.clock.eccentricity.narrow in omega (arith, ints, n)
 
 pub returns : goal.returns
 returns c = λ sent world q n t.
@@ -19,7 +19,7 @@ returns c = λ sent world q n t.
     let s = n.solves in
     record {
       eccentricity = r.eccentricity_in;
-      anomaly = c.eccentric_pair_near.ensures.holds q.mean (value_of r.clock.eph.ecc) q.eccentric q.eccentric_pair t.mean r.clock.eccentricity_in s.kepler;
+      anomaly = c.eccentric_pair.ensures.holds q.mean (value_of r.clock.eph.ecc) q.eccentric q.eccentric_pair t.mean r.clock.eccentricity_in s.kepler;
       axis = r.axis_in q.axis s.semi_major_axis;
       epoch_time = subst (λ (b : Iv 60). Holds b (part q.tk)) (sym c.loose.ensures) t.epoch_time;
       perigee = r.perigee_in;
