@@ -16,19 +16,12 @@ word x = to_z w128 (of_z w128 x)
 pub read : (x y : ℤ) → x ≡ y → unsigned_abs y ≤ 2 ^ 52 → word x ≡ y
 read x y e h = as_w128 x (omega (arith, subst (λ (z : ℤ). unsigned_abs z ≤ 2 ^ 52) (sym e) h)) ∙ e
 
--- the new entry f in row r and column k, after its own
-pub record OtherEntry (t : List (List ℤ)) (j r k : ℕ) (a f : ℤ) : Type 0 where
-  pub as_word : word f ≡ f
-  pub is : f ≡ other_entry t j (unsigned_abs (word a)) r k
-
-pub other_one : (t : List (List ℤ)) (j r k : ℕ) (a e p q f : ℤ) → e ≡ entry t r k → unsigned_abs (entry t r k) ≤ 2 ^ 52 → p ≡ entry t j r → unsigned_abs (entry t j r) ≤ 2 ^ 52 →
-    q ≡ entry t j k → unsigned_abs (entry t j k) ≤ 2 ^ 52 → unsigned_abs f ≤ 2 ^ 105 → f ≡ word e -ℤ nearest_div (word p *ℤ word q) (unsigned_abs (word a)) → OtherEntry t j r k a f
-other_one t j r k a e p q f is_e small_e is_p small_p is_q small_q size value = record {
-  as_word = as_w128 f (omega (arith, size));
-  is = value ∙ ap (λ z. z -ℤ nearest_div (word p *ℤ word q) n) (read e (entry t r k) is_e small_e)
-      ∙ ap (λ z. entry t r k -ℤ nearest_div (z *ℤ word q) n) (read p (entry t j r) is_p small_p)
-      ∙ ap (λ z. entry t r k -ℤ nearest_div (entry t j r *ℤ z) n) (read q (entry t j k) is_q small_q);
-}
+-- the new entry in row r and column k, after its own
+pub other_is : (t : List (List ℤ)) (j r k : ℕ) (a e p q : ℤ) → e ≡ entry t r k → unsigned_abs (entry t r k) ≤ 2 ^ 52 → p ≡ entry t j r → unsigned_abs (entry t j r) ≤ 2 ^ 52 →
+    q ≡ entry t j k → unsigned_abs (entry t j k) ≤ 2 ^ 52 → word e -ℤ nearest_div (word p *ℤ word q) (unsigned_abs (word a)) ≡ other_entry t j (unsigned_abs (word a)) r k
+other_is t j r k a e p q is_e small_e is_p small_p is_q small_q = ap (λ z. z -ℤ nearest_div (word p *ℤ word q) n) (read e (entry t r k) is_e small_e)
+    ∙ ap (λ z. entry t r k -ℤ nearest_div (z *ℤ word q) n) (read p (entry t j r) is_p small_p)
+    ∙ ap (λ z. entry t r k -ℤ nearest_div (entry t j r *ℤ z) n) (read q (entry t j k) is_q small_q)
   where
     n : ℕ
     n = unsigned_abs (word a)

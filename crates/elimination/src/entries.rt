@@ -1,14 +1,18 @@
 //! The new entries of one step of the elimination.
-ghost use Rattle.std.specs.Prelude.{◌≡◌, ◌+◌, ◌^◌, ◌<◌, ◌≤◌, IsTrue, pos, ◌-ℤ◌, ◌*ℤ◌, ◌<ℤ◌, ◌≤ℤ◌, unsigned_abs, nat_lt};
+ghost use Rattle.std.specs.Prelude.{◌≡◌, ◌+◌, ◌^◌, ◌<◌, ◌≤◌, IsTrue, true, false, IfSome, IsNone, pos, ◌-ℤ◌, ◌*ℤ◌, ◌<ℤ◌, ◌≤ℤ◌, unsigned_abs, nat_lt};
 ghost use Rattle.whole_math.specs.Rounding.{nearest_div, ceil_div};
 ghost use Rattle.form_tables.specs.declared.sizes.TheConstants.{MOST_COLUMNS};
 ghost use Rattle.elimination.specs.Shares.{IsNearShare};
+ghost use Rattle.elimination.specs.StepEntries.{is_small};
 
 use crate::shares::{PivotShare, Share};
 use whole_math::{ceil, ceil_shift, floor_shift, nearest};
 
 /// Every factor and every entry after a rounding is below this in size.
 const LIMIT: i128 = 1 << 52;
+
+/// The same, for a number of 64 bits.
+const SHORT_LIMIT: i64 = 1 << 52;
 
 /// The unit of the factors is 2^-30.
 const FACTOR_EXPONENT: u32 = 30;
@@ -47,16 +51,6 @@ fn product(p: i128, q: i128) -> i128
     ensures size { unsigned_abs result ≤ 2 ^ 104 }
 {
     short_product(narrow(p), narrow(q))
-}
-
-/// entry - loss
-fn less(entry: i128, loss: i128) -> i128
-    requires entry_size { unsigned_abs entry ≤ 2 ^ 52 }
-    requires loss_size { unsigned_abs loss ≤ 2 ^ 104 }
-    ensures value { result ≡ entry -ℤ loss }
-    ensures size { unsigned_abs result ≤ 2 ^ 105 }
-{
-    entry - loss
 }
 
 /// entry - square - count - loss
@@ -263,37 +257,85 @@ pub(crate) fn factor_of(p: i128, a: i128, pivot: &PivotShare) -> i128
     nearest_by(product(p, 1 << FACTOR_EXPONENT), a, factor_guess(pivot, p))
 }
 
-/// p · q / a to the nearest, with the share of p in a: the guess where it is that, and else by a division.
-fn nearest_of(p: i128, q: i128, a: i128, share: &Share) -> i128
+/// p · q / a to the nearest, with the share of p in a, where the guess is that.
+fn guessed(p: i128, q: i128, a: i128, share: &Share) -> Option<i64>
     requires p_size { unsigned_abs p ≤ 2 ^ 52 }
     requires q_size { unsigned_abs q ≤ 2 ^ 52 }
     requires a_size { unsigned_abs a ≤ 2 ^ 52 }
     requires positive { pos 0 <ℤ a }
     requires share { IsNearShare p a share.now }
-    ensures value { result ≡ nearest_div (p *ℤ q) (unsigned_abs a) }
-    ensures size { unsigned_abs result ≤ 2 ^ 104 }
+    ensures value { IfSome result (λ n. n ≡ nearest_div (p *ℤ q) (unsigned_abs a)) }
+    ensures size { IfSome result (λ n. unsigned_abs n ≤ 2 ^ 62 + 1) }
 {
     if share.is_near {
         let guess = guess_of(share, narrow(q));
         if is_nearest(narrow(p), narrow(q), narrow(a), guess) {
-            return guess as i128;
+            return Some(guess);
         }
     }
+    None
+}
+
+/// p · q / a to the nearest, by a division.
+fn divided(p: i128, q: i128, a: i128) -> i128
+    requires p_size { unsigned_abs p ≤ 2 ^ 52 }
+    requires q_size { unsigned_abs q ≤ 2 ^ 52 }
+    requires positive { pos 0 <ℤ a }
+    ensures value { result ≡ nearest_div (p *ℤ q) (unsigned_abs a) }
+    ensures size { unsigned_abs result ≤ 2 ^ 104 }
+{
     nearest(product(p, q), a)
 }
 
-/// An entry off the diagonal, less p · q / a to the nearest, with the share of p in a.
-pub(crate) fn other_after(entry: i128, p: i128, q: i128, a: i128, share: &Share) -> i128
+/// entry - loss in 64 bits, where it is below 2^52 in size.
+fn short_less(entry: i64, loss: i64) -> Option<i64>
+    requires entry_size { unsigned_abs entry ≤ 2 ^ 52 }
+    requires loss_size { unsigned_abs loss ≤ 2 ^ 62 + 1 }
+    ensures value { IfSome result (λ x. x ≡ entry -ℤ loss) }
+    ensures small { IfSome result (λ x. is_small x ≡ true) }
+    ensures refused { IsNone result → is_small (entry -ℤ loss) ≡ false }
+{
+    let rest = entry - loss;
+    if -SHORT_LIMIT < rest && rest < SHORT_LIMIT {
+        Some(rest)
+    } else {
+        None
+    }
+}
+
+/// entry - loss, where it is below 2^52 in size.
+fn long_less(entry: i128, loss: i128) -> Option<i64>
+    requires entry_size { unsigned_abs entry ≤ 2 ^ 52 }
+    requires loss_size { unsigned_abs loss ≤ 2 ^ 104 }
+    ensures value { IfSome result (λ x. x ≡ entry -ℤ loss) }
+    ensures small { IfSome result (λ x. is_small x ≡ true) }
+    ensures refused { IsNone result → is_small (entry -ℤ loss) ≡ false }
+{
+    let rest = entry - loss;
+    if is_small(rest) {
+        Some(rest as i64)
+    } else {
+        None
+    }
+}
+
+/// An entry off the diagonal, less p · q / a to the nearest, with the share of p in a, where that is below 2^52 in size: by a
+/// division only where the guess is wrong.
+pub(crate) fn small_other(entry: i128, p: i128, q: i128, a: i128, share: &Share) -> Option<i64>
     requires entry_size { unsigned_abs entry ≤ 2 ^ 52 }
     requires p_size { unsigned_abs p ≤ 2 ^ 52 }
     requires q_size { unsigned_abs q ≤ 2 ^ 52 }
     requires a_size { unsigned_abs a ≤ 2 ^ 52 }
     requires positive { pos 0 <ℤ a }
     requires share { IsNearShare p a share.now }
-    ensures value { result ≡ entry -ℤ nearest_div (p *ℤ q) (unsigned_abs a) }
-    ensures size { unsigned_abs result ≤ 2 ^ 105 }
+    ensures value { IfSome result (λ x. x ≡ entry -ℤ nearest_div (p *ℤ q) (unsigned_abs a)) }
+    ensures small { IfSome result (λ x. is_small x ≡ true) }
+    ensures refused { IsNone result → is_small (entry -ℤ nearest_div (p *ℤ q) (unsigned_abs a)) ≡ false }
 {
-    less(entry, nearest_of(p, q, a, share))
+    match guessed(p, q, a, share) {
+        Some(guess) => short_less(narrow(entry), guess),
+        None => long_less(entry, divided(p, q, a)),
+    }
 }
 
 /// n · a / 2^42 upward: what the rounding of the factors may take from an own entry.

@@ -8,7 +8,7 @@ ghost use Rattle.elimination.specs.StepEntries.{is_small, factor_entry, other_en
 ghost use Rattle.elimination.specs.Stops.{refusal_of, column_at, form_after};
 ghost use Rattle.integer_form.specs.Factors.{factor_at};
 
-use crate::entries::{factor_of, is_small, kept_of, other_after, own_after, pivot_share, share_by};
+use crate::entries::{factor_of, is_small, kept_of, own_after, pivot_share, share_by, small_other};
 use crate::shares::{PivotShare, Share};
 use form_tables::{FactorTable, MOST_COLUMNS, MOST_FACTORS, NormalTable};
 
@@ -81,11 +81,10 @@ fn update_others(
 {
     let above = table.at(j, r);
     for c in r + 1..columns {
-        let other = other_after(table.at(r, c), above, table.at(j, c), a, share);
-        if !is_small(other) {
-            return false;
+        match small_other(table.at(r, c), above, table.at(j, c), a, share) {
+            Some(other) => table.set(r, c, other as i128),
+            None => return false,
         }
-        table.set(r, c, other);
     }
     true
 }

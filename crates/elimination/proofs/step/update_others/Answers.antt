@@ -1,13 +1,19 @@
-use Rattle.std.proofs.Common.{◌≡◌, ◌≢◌, inl, inr, ℕ, ◌<◌, ◌≤◌, List, ℤ, true, false, unsigned_abs, arith, sym, ap, ◌∙◌, subst, below_more}
+use Rattle.std.proofs.Common.{◌≡◌, ◌≢◌, inl, inr, ℕ, ◌^◌, ◌<◌, ◌≤◌, List, ℤ, ◌-ℤ◌, ◌*ℤ◌, true, false, unsigned_abs, refl, arith, to_z, of_z, sym, ap, ◌∙◌, subst, below_more}
 use Rattle.std.proofs.lemmas.Int.{to_z-of_z}
-use Rattle.std.specs.Int.{w128}
+use Rattle.std.specs.Int.{w64, w128}
+use Rattle.whole_math.specs.Rounding.{nearest_div}
+use Rattle.whole_math.proofs.Words.{as_w64, as_w128}
 use Rattle.form_tables.specs.Tables.{entry}
 use Rattle.elimination.specs.StepEntries.{is_small, other_entry}
-use Rattle.elimination.proofs.NewRows.{word, read, OtherEntry, other_one}
+use Rattle.elimination.proofs.SmallEntries.{small_size}
+use Rattle.elimination.proofs.NewRows.{word, read, other_is}
 use Rattle.elimination.proofs.step.update_others.Goals as goal
 
-pub other_after-other-requires-clause-share : goal.other_after-other-requires-clause-share
-other_after-other-requires-clause-share c =
+wide : (x : ℤ) → unsigned_abs x ≤ 2 ^ 62 → word (to_z w64 (of_z w64 x)) ≡ x
+wide x h = ap (λ z. word z) (as_w64 x h) ∙ as_w128 x (omega (arith, h))
+
+pub small_other-requires-clause-share : goal.small_other-requires-clause-share
+small_other-requires-clause-share c =
     let ea : word c.args.a ≡ c.args.a = to_z-of_z w128 c.args.a c.ranges.a in
     let above : word c.at-above.result ≡ entry c.args.table.now c.args.j c.args.r =
     read c.at-above.result (entry c.args.table.now c.args.j c.args.r) c.at-above.ensures.value (c.requires.pivots c.args.r c.requires.row c.requires.row_in) in
@@ -19,50 +25,47 @@ loop-c-preserved c =
     let j : ℕ = c.args.j in
     let r : ℕ = c.args.r in
     let t : List (List ℤ) = c.args.table.now in
-    let f : ℤ = c.other_after-other.result in
+    let f : ℤ = c.in-Some.other in
     let n : ℕ = unsigned_abs (word c.args.a) in
     let apart : j ≢ r = omega (arith, c.requires.row) in
-    let w : OtherEntry t j r k c.args.a f = other_one t j r k c.args.a c.at.result c.at-above.result c.at-in-loop-c.result f
+    let w : word c.at.result -ℤ nearest_div (word c.at-above.result *ℤ word c.at-in-loop-c.result) n ≡ other_entry t j n r k = other_is t j r k c.args.a c.at.result c.at-above.result c.at-in-loop-c.result
     (c.at.ensures.value ∙ c.loop-c.invariant.rest k (omega arith)) (c.requires.entries k c.loop-c.invariant.from c.loop-c-test.true)
     c.at-above.ensures.value (c.requires.pivots r c.requires.row c.requires.row_in)
-    (c.at-in-loop-c.ensures.value ∙ c.loop-c.invariant.others j k apart) (c.requires.pivots k (omega (arith, c.requires.row, c.loop-c.invariant.from)) c.loop-c-test.true)
-    c.other_after-other.ensures.size c.other_after-other.ensures.value in
-    let s : is_small f ≡ true = ap (λ z. is_small z) (sym w.as_word) ∙ sym c.is_small.ensures ∙ c.if-not-is_small.false in
-    let there : entry c.set.new.self r k ≡ other_entry c.args.table.now j n r k = c.set.ensures.there ∙ w.as_word ∙ w.is in
+    (c.at-in-loop-c.ensures.value ∙ c.loop-c.invariant.others j k apart) (c.requires.pivots k (omega (arith, c.requires.row, c.loop-c.invariant.from)) c.loop-c-test.true) in
+    let is : f ≡ other_entry t j n r k = c.in-Some.ensures.value ∙ w in
+    let s : is_small f ≡ true = c.in-Some.ensures.small in
+    let there : entry c.set.new.self r k ≡ other_entry c.args.table.now j n r k = c.set.ensures.there ∙ wide f (small_size f s) ∙ is in
     record {
       from = omega (arith, c.loop-c.invariant.from);
       value = λ m h g. below_more (λ (m : ℕ). r < m → entry c.set.new.self r m ≡ other_entry c.args.table.now j n r m) k
           (λ m g h. c.set.ensures.others r m (inr (omega arith)) ∙ c.loop-c.invariant.value m h g) (λ h. there) m g h;
       small = λ m h g. below_more (λ (m : ℕ). r < m → is_small (other_entry c.args.table.now j n r m) ≡ true) k (λ m g h. c.loop-c.invariant.small m h g)
-          (λ h. subst (λ (z : ℤ). is_small z ≡ true) w.is s) m g h;
+          (λ h. subst (λ (z : ℤ). is_small z ≡ true) is s) m g h;
       rest = λ m h. c.set.ensures.others r m (inr (omega arith)) ∙ c.loop-c.invariant.rest m (omega arith);
       before = λ m h. c.set.ensures.others r m (inr (omega (arith, c.loop-c.invariant.from))) ∙ c.loop-c.invariant.before m h;
       others = λ i m d. c.set.ensures.others i m (inl d) ∙ c.loop-c.invariant.others i m d;
     }
 
-pub returns-then-not-is_small-clause-refused : goal.returns-then-not-is_small-clause-refused
-returns-then-not-is_small-clause-refused c =
+pub returns-in-None-clause-refused : goal.returns-in-None-clause-refused
+returns-in-None-clause-refused c =
     let k : ℕ = c.loop-c.c in
     let j : ℕ = c.args.j in
     let r : ℕ = c.args.r in
     let t : List (List ℤ) = c.args.table.now in
-    let f : ℤ = c.other_after-other.result in
     let n : ℕ = unsigned_abs (word c.args.a) in
     let apart : j ≢ r = omega (arith, c.requires.row) in
-    let w : OtherEntry t j r k c.args.a f = other_one t j r k c.args.a c.at.result c.at-above.result c.at-in-loop-c.result f
+    let w : word c.at.result -ℤ nearest_div (word c.at-above.result *ℤ word c.at-in-loop-c.result) n ≡ other_entry t j n r k = other_is t j r k c.args.a c.at.result c.at-above.result c.at-in-loop-c.result
     (c.at.ensures.value ∙ c.loop-c.invariant.rest k (omega arith)) (c.requires.entries k c.loop-c.invariant.from c.loop-c-test.true)
     c.at-above.ensures.value (c.requires.pivots r c.requires.row c.requires.row_in)
-    (c.at-in-loop-c.ensures.value ∙ c.loop-c.invariant.others j k apart) (c.requires.pivots k (omega (arith, c.requires.row, c.loop-c.invariant.from)) c.loop-c-test.true)
-    c.other_after-other.ensures.size c.other_after-other.ensures.value in
+    (c.at-in-loop-c.ensures.value ∙ c.loop-c.invariant.others j k apart) (c.requires.pivots k (omega (arith, c.requires.row, c.loop-c.invariant.from)) c.loop-c-test.true) in
     let ea : word c.args.a ≡ c.args.a = to_z-of_z w128 c.args.a c.ranges.a in
-    let s : is_small f ≡ false = ap (λ z. is_small z) (sym w.as_word) ∙ sym c.is_small.ensures ∙ c.if-not-is_small.true in
+    let s : is_small (other_entry t j n r k) ≡ false = subst (λ (z : ℤ). is_small z ≡ false) w (c.in-None.ensures.refused refl) in
     λ e. (
       k,
       (
         c.loop-c.invariant.from,
         c.loop-c-test.true,
-        subst (λ (m : ℕ). is_small (other_entry c.args.table.now j m r k) ≡ false) (ap (λ z. unsigned_abs z) ea)
-            (subst (λ (z : ℤ). is_small z ≡ false) w.is s),
+        subst (λ (m : ℕ). is_small (other_entry c.args.table.now j m r k) ≡ false) (ap (λ z. unsigned_abs z) ea) s,
       ),
     )
 

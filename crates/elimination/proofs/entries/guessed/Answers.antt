@@ -1,16 +1,13 @@
-use Rattle.std.proofs.Common.{◌≡◌, ◌+◌, ◌^◌, ◌≤◌, ℤ, pos, ◌-ℤ◌, ◌*ℤ◌, unsigned_abs, arith, to_z, of_z, ap, ◌∙◌}
+use Rattle.std.proofs.Common.{◌≡◌, ◌+◌, ◌^◌, ◌≤◌, ℤ, pos, ◌-ℤ◌, ◌*ℤ◌, unsigned_abs, arith, to_z, of_z, ◌∙◌}
 use Rattle.std.proofs.lemmas.Int.{ints, to_z-of_z}
 use Rattle.std.specs.Int.{w64, w128}
 use Rattle.whole_math.specs.Rounding.{nearest_div}
 use Rattle.whole_math.proofs.Words.{as_w64}
 use Rattle.elimination.proofs.Guesses.{rest_small}
-use Rattle.elimination.proofs.entries.nearest_of.Goals as goal
+use Rattle.elimination.proofs.entries.guessed.Goals as goal
 
 guess_word : (x : ℤ) → unsigned_abs x ≤ 2 ^ 62 + 1 → to_z w64 (of_z w64 x) ≡ x
 guess_word x h = omega (arith, ints)
-
-guess_wide : (x : ℤ) → unsigned_abs x ≤ 2 ^ 62 + 1 → to_z w128 (of_z w128 x) ≡ x
-guess_wide x h = omega (arith, ints)
 
 pub is_nearest-requires-clause-small : goal.is_nearest-requires-clause-small
 is_nearest-requires-clause-small c =
@@ -35,4 +32,4 @@ returns-then-is_nearest-clause-value c =
     as_w64 c.narrow-then-share-3.result (omega (arith, c.narrow-then-share-3.ensures.size)) ∙ c.narrow-then-share-3.ensures.value ∙ to_z-of_z w128 c.args.a c.ranges.a in
     let eg : to_z w64 (of_z w64 c.guess_of-guess.result) ≡ c.guess_of-guess.result = guess_word c.guess_of-guess.result c.guess_of-guess.ensures.size in
     let value : c.guess_of-guess.result ≡ nearest_div (c.args.p *ℤ c.args.q) (unsigned_abs c.args.a) = rw (eg, ep, eq, ea) at (c.is_nearest.ensures c.if-is_nearest.true) in
-    ap (λ z. to_z w128 (of_z w128 z)) eg ∙ guess_wide c.guess_of-guess.result c.guess_of-guess.ensures.size ∙ value
+    eg ∙ value
