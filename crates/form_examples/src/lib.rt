@@ -28,3 +28,5 @@ mod search_cases;
 mod search_reduced_case;
 #[cfg(test)]
 mod search_session_cases;
+#[cfg(test)]
+mod track_sum_tests;
