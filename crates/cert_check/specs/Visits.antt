@@ -1,4 +1,5 @@
--- That a verdict comes from no more visits than the budget. It follows from what the verdict is (`rests_within`).
+-- That the two least vectors on which a verdict rests keep the budget: at most as many suffixes as it are within the second value. It
+-- follows from what the verdict is (`rests_within`).
 use Rattle.std.specs.Prelude.{ℕ}
 use Rattle.obs_rows.specs.declared.sessions.Session.{Session}
 use Rattle.integer_form.specs.declared.form.Form.{Form}

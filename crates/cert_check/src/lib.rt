@@ -3,8 +3,8 @@
 //! `check` decides the rows of a certificate again and reads nothing of its tail before. Its verdict is what is said of
 //! that decision and the tail (`verdict`), and no other is one of the rows and the tail, but where a search gave up
 //! (`only`); it gives up only where the form of the rows has no reduced count within the budget. So `Certified` comes
-//! exactly where the rows are fixed and the tail says their numbers; and then the tail's first integers with its move are
-//! strictly best for the rows, and best by the ratio, whoever wrote the text (`strictly_best`, `by_ratio`).
+//! only where the rows are fixed and the tail says their numbers, and nothing else comes there but where a search gave up; and
+//! then the tail's first integers with its move are strictly best for the rows, and best by the ratio, whoever wrote the text (`strictly_best`, `by_ratio`).
 //! `are_same_best` compares two pairs of least vectors.
 //!
 //! The decision of a fine session's rows, as a tail: `form_of_rows` gives the form of a session's rows, or the refusal of

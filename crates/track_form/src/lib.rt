@@ -6,8 +6,9 @@
 //! and where it says fixed, the first integers with the moves are strictly best for all data in the boxes, against every
 //! other integer vector with any list of baselines, one for each pair (`strictly_best`).
 //!
-//! `check_track` decides the rows of a certificate again and reads nothing of its tail before. `Certified` comes exactly
-//! where the rows are fixed and the tail says the same numbers (`verdict`, `only`); and then the tail's first integers
+//! `check_track` decides the rows of a certificate again and reads nothing of its tail before. `Certified` comes only
+//! where the rows are fixed and the tail says the same numbers, and nothing else comes there but where a search gave up
+//! (`verdict`, `only`); and then the tail's first integers
 //! with its moves are strictly best for the rows, and best by the ratio, whoever wrote the text (`strictly_best`,
 //! `by_ratio`). Both are refused where memory runs out, and never else.
 //!
