@@ -1,5 +1,5 @@
 -- What `run` says of a command now says what it said before.
-use Rattle.std.proofs.Common.{◌≡◌, inl, inr, ℕ, List, Option, Bool, true, false, if◌then◌else◌, refl, sym, ap, ◌∙◌, subst}
+use Rattle.std.proofs.Common.{◌≡◌, inl, inr, ℕ, List, Option, Bool, true, false, refl, sym, ap, ◌∙◌, subst}
 use Rattle.std.specs.Io.KnownBytes.{Appends}
 use Rattle.cert_data.specs.declared.certs.Cert.{Cert}
 use Rattle.cert_data.specs.declared.outcomes.Answer.{Answer}
@@ -240,7 +240,7 @@ arcs_said told base rover nav o status out s =
 
 fix_outcome : (told : List ℕ → Option (List ℕ)) (base rover nav : List ℕ) (o : Options) (status : Status) (out : SinkChange)
     (s : SaysOfSession AnswersFix told base rover nav o status out) → Appends out.old out.new (answer_text s.answer.outcome.answer) → (fixed : Bool)
-    → is_fixed s.answer.outcome.answer ≡ fixed → SaysOfFix told base rover nav o (if fixed then Done else Declined) out
+    → is_fixed s.answer.outcome.answer ≡ fixed → SaysOfFix told base rover nav o (verdict_status fixed) out
 fix_outcome told base rover nav o status out s printed true fixed =
     let f : IsFixedFor s.base_file s.rover_file s.records o s.answer.outcome.answer = s.answer.fixed fixed in
     record {
@@ -272,7 +272,7 @@ fix_said told base rover nav o status out s =
 
 track_outcome : (told : List ℕ → Option (List ℕ)) (base rover nav : List ℕ) (o : Options) (status : Status) (out : SinkChange)
     (s : SaysOfSession AnswersTrack told base rover nav o status out) → Appends out.old out.new (track_answer_text s.answer.outcome.answer) → (fixed : Bool)
-    → is_track_fixed s.answer.outcome.answer ≡ fixed → SaysOfTrack told base rover nav o (if fixed then Done else Declined) out
+    → is_track_fixed s.answer.outcome.answer ≡ fixed → SaysOfTrack told base rover nav o (verdict_status fixed) out
 track_outcome told base rover nav o status out s printed true fixed =
     let f : IsTrackFixedFor s.base_file s.rover_file s.records o s.answer.outcome.answer = s.answer.fixed fixed in
     record {

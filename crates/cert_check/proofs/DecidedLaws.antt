@@ -1,12 +1,9 @@
 -- What a decision is as a tail, and the ranges of its numbers.
-use Rattle.std.proofs.Common.{◌≡◌, ℕ, ◌^◌, ◌≤◌, ◌⊎◌, inl, inr, ⊎_elim, true, false, Bool, cond, IsTrue, List, length, ℤ, pos, neg_ℤ, ◌≤ℤ◌, ◌<ℤ◌, to_z, of_z, arith, sym, ◌∙◌, subst, refl}
+use Rattle.std.proofs.Common.{◌≡◌, ℕ, ◌^◌, ◌≤◌, ◌⊎◌, inl, inr, true, false, Bool, cond, IsTrue, List, length, ℤ, pos, neg_ℤ, ◌≤ℤ◌, ◌<ℤ◌, to_z, of_z, arith, sym, ◌∙◌, subst, refl}
 use Rattle.std.proofs.lemmas.Int.{ints}
 use Rattle.std.proofs.lemmas.Bool.{false≢true}
 use Rattle.std.specs.Int.{w128}
-use Rattle.whole_math.proofs.Order.{lins}
-use Rattle.quadratic_form.specs.Forms.{Column}
-use Rattle.quadratic_form.specs.Rows.{value}
-use Rattle.quadratic_form.specs.TwoLeast.{Less}
+use Rattle.quadratic_form.proofs.Decision.{less_value}
 use Rattle.obs_rows.specs.declared.sessions.Session.{Session}
 use Rattle.obs_rows.specs.Ranges.{IsBelow}
 use Rattle.obs_rows.specs.Signals.{fine_signals}
@@ -59,21 +56,15 @@ pub record InRange (p1 p2 : ℤ) : Type 0 where
 pub in_range : (p1 p2 : ℤ) → neg_ℤ (pos (2 ^ 63)) ≤ℤ p1 → p1 ≤ℤ p2 → p2 <ℤ pos (2 ^ 54) → InRange p1 p2
 in_range p1 p2 h g k = record { first = omega (arith, ints); second = omega (arith, ints) }
 
-pub first_least : (p : List Column) (v w : List ℤ) → Less p v w → value p v ≤ℤ value p w
-first_least p v w h = ⊎_elim (λ (l : value p v <ℤ value p w). weaker (value p v) (value p w) l) (λ e. same (value p v) (value p w) e.0) h
-  where
-    weaker : (a b : ℤ) → a <ℤ b → a ≤ℤ b
-    weaker a b l = omega (arith, lins)
-
-    same : (a b : ℤ) → a ≡ b → a ≤ℤ b
-    same a b e = omega (arith, lins)
-
 values_in_range : (s : Session) (f : Form) (best : TwoBest) → IsFormOf s f → s.scale ≡ 0 → IsTwoBest f best
     → ((z : List ℤ) → length z ≡ integers_of f → neg_ℤ (pos (2 ^ 63)) ≤ℤ value_of f z) → InRange best.p1 best.p2
 values_in_range s f best h fine two from = in_range best.p1 best.p2
     (subst (λ (x : ℤ). neg_ℤ (pos (2 ^ 63)) ≤ℤ x) (sym two.p1) (from (first_of best) (first_length f best two ∙ two.size)))
-    (subst (λ (x : ℤ). x ≤ℤ best.p2) (sym two.p1) (subst (λ (x : ℤ). value_of f (first_of best) ≤ℤ x) (sym two.p2) (first_least (columns_of f) (first_of best) (second_of best) two.least.order)))
+    (subst (λ (x : ℤ). x ≤ℤ best.p2) (sym two.p1) (subst (λ (x : ℤ). value_of f (first_of best) ≤ℤ x) (sym two.p2) (less_value (columns_of f) (first_of best) (second_of best) two.least.order)))
     (second_small s f best h fine two)
+
+pub top_below : (t : ℤ) → pos 0 ≤ℤ t → t ≤ℤ pos (2 ^ 119) → IsBelow (2 ^ 126) t
+top_below t l g = omega (arith, ints)
 
 pub vectors_fit : (s : Session) (f : Form) (budget h : ℕ) (m : List ℤ) (best : TwoBest) (top : ℤ) → IsFormOf s f → s.scale ≡ 0 → AreFound s f budget h m best top →
     ((z : List ℤ) → length z ≡ integers_of f → neg_ℤ (pos (2 ^ 63)) ≤ℤ value_of f z) → pos 0 ≤ℤ top → top ≤ℤ pos (2 ^ 119) → AreVectors (fine_signals s.signals) s.arcs h m best top
@@ -88,9 +79,6 @@ vectors_fit s f budget h m best top o fine found from l g =
         second_in = found.best_is.second_small;
         p1_in = r.first;
         p2_in = r.second;
-        top_in = small top l g;
+        top_in = top_below top l g;
       };
     }
-  where
-    small : (t : ℤ) → pos 0 ≤ℤ t → t ≤ℤ pos (2 ^ 119) → IsBelow (2 ^ 126) t
-    small t l g = omega (arith, ints)

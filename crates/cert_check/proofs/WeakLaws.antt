@@ -1,10 +1,10 @@
 -- The ranges of a weak pivot.
-use Rattle.std.proofs.Common.{◌≡◌, ℕ, zero, suc, ◌+◌, ◌-◌, ◌^◌, ◌<◌, ◌≤◌, Bool, true, false, ◌&&◌, nat_lt, int_lt, List, [], ◌∷◌, ℤ, pos, Result, Ok, Err, unsigned_abs, arith, refl, sym, ap, ◌∙◌, subst}
+use Rattle.std.proofs.Common.{◌≡◌, ℕ, zero, suc, ◌+◌, ◌-◌, ◌^◌, ◌<◌, ◌≤◌, Bool, true, false, ◌&&◌, nat_lt, int_lt, List, [], ◌∷◌, ℤ, pos, Ok, Err, unsigned_abs, arith, refl, sym, ap, ◌∙◌, subst}
 use Rattle.std.proofs.lemmas.Bool.{and_parts}
 use Rattle.std.proofs.lemmas.Bool.Decides.{nat_tests}
 use Rattle.whole_math.specs.Vectors.{len}
 use Rattle.quadratic_form.specs.Forms.{Column}
-use Rattle.quadratic_form.specs.Elimination.{Factor, Refusal, weak, wide_factor, wide_entry, kept, factors, next, all_small, form_small, with_factor, steps}
+use Rattle.quadratic_form.specs.Elimination.{Factor, Refusal, weak, wide_factor, wide_entry, kept, factors, next, all_small, form_small, with_factor, steps, StepsAnswer, StepAnswer}
 use Rattle.normal_sum.specs.declared.normal.Normal.{Normal}
 use Rattle.integer_form.specs.declared.faults.LowerFault.TheVariants.{Weak}
 use Rattle.integer_form.specs.Told.{told, IsToldAs}
@@ -26,19 +26,13 @@ small_own c m e = less (unsigned_abs c.own) (and_parts (nat_lt (unsigned_abs c.o
     less : (n : ℕ) → nat_lt n (2 ^ 52) ≡ true → n < 2 ^ 52
     less n e = grind (arith, nat_tests)
 
-abbrev Answer : Type 0
-Answer = Result (Factor × List Column) Refusal
+abbrev tested : Bool → Bool → Bool → Refusal → Factor × List Column → StepAnswer
+tested a b d e p = elim a as (λ x. StepAnswer) [ true ↦ Err e | false ↦ elim b as (λ x. StepAnswer) [ false ↦ Err wide_factor | true ↦ elim d as (λ x. StepAnswer) [ false ↦ Err wide_entry | true ↦ Ok p ] ] ]
 
-abbrev Answers : Type 0
-Answers = Result (List Factor × List Column) Refusal
+abbrev after : ℕ → ℕ → StepAnswer → StepsAnswer
+after j k r = elim r as (λ x. StepsAnswer) [ Ok q ↦ with_factor q.0 (steps (suc j) k q.1) | Err i ↦ Err i ]
 
-abbrev tested : Bool → Bool → Bool → Refusal → Factor × List Column → Answer
-tested a b d e p = elim a as (λ x. Answer) [ true ↦ Err e | false ↦ elim b as (λ x. Answer) [ false ↦ Err wide_factor | true ↦ elim d as (λ x. Answer) [ false ↦ Err wide_entry | true ↦ Ok p ] ] ]
-
-abbrev after : ℕ → ℕ → Answer → Answers
-after j k r = elim r as (λ x. Answers) [ Ok q ↦ with_factor q.0 (steps (suc j) k q.1) | Err i ↦ Err i ]
-
-unfactored : (f : Factor) (r : Answers) (e : Refusal) → with_factor f r ≡ Err e → r ≡ Err e
+unfactored : (f : Factor) (r : StepsAnswer) (e : Refusal) → with_factor f r ≡ Err e → r ≡ Err e
 unfactored f (Ok q) e h = absurd cc
 unfactored f (Err n) e h = h
 
@@ -77,7 +71,7 @@ weak_of_steps j (suc k) (c ∷ m) i p s e =
     cases (int_lt c.own (pos (2 ^ 20))) (all_small l) (form_small rest) j k i c.own p (record { d = kept (unsigned_abs c.own); l = l }, rest) refl
     (small_own c m s) (λ n t h. weak_of_steps (suc j) k n i p t h) e
 
-pub weak_of : (b : Bool) (k : ℕ) (a : List Column) (i : ℕ) (p : ℤ) → b ≡ form_small a → elim b as (λ x. Answers) [ true ↦ steps 0 k a | false ↦ Err wide_entry ] ≡ Err (weak i p) → IsPivot 0 k i p
+pub weak_of : (b : Bool) (k : ℕ) (a : List Column) (i : ℕ) (p : ℤ) → b ≡ form_small a → elim b as (λ x. StepsAnswer) [ true ↦ steps 0 k a | false ↦ Err wide_entry ] ≡ Err (weak i p) → IsPivot 0 k i p
 weak_of true k a i p f e = weak_of_steps 0 k a i p (sym f) e
 weak_of false k a i p f e = absurd cc
 

@@ -2,6 +2,7 @@
 use mathlib.Core.HLevel.{is_prop→PathP}
 use Rattle.std.proofs.Common.{◌≡◌, ◌^◌, ◌<◌, ◌≤◌, ℕ, ℤ, Bool, ◌==◌, ◌||◌, ◌&&◌, not, List, length, All, IsTrue, unsigned_abs, AllPairs}
 use Rattle.std.proofs.Props.{props}
+use Rattle.std.proofs.Math.Bridge.{le_prop}
 use Rattle.obs_rows.specs.declared.arcs.Arc.{Arc}
 use Rattle.obs_rows.specs.declared.rows.Row.{Row}
 use Rattle.obs_rows.specs.declared.bands.Signals.{Signals}
@@ -22,12 +23,6 @@ radius_prop z = Prim.hlevel props
 
 pub radii_prop : (zs : List ℤ) → IsProp (All IsRadius zs)
 radii_prop zs = Prim.hlevel props
-
-pub le_prop : (m n : ℕ) → IsProp (m ≤ n)
-le_prop m n = Prim.hlevel props
-
-pub lt_prop : (m n : ℕ) → IsProp (m < n)
-lt_prop m n = Prim.hlevel props
 
 pub true_prop : (t : Bool) → IsProp (IsTrue t)
 true_prop t = Prim.hlevel props
@@ -86,10 +81,10 @@ pair_same p q number tag group rows = λ i. record {
   tag = record { 0 = tag i };
   group = group i;
   rows = rows i;
-  number_in = is_prop→PathP (λ j. number j < MOST_PAIRS) (λ j. lt_prop (number j) MOST_PAIRS) p.number_in q.number_in i;
-  tag_in = is_prop→PathP (λ j. tag j < 2 ^ 63) (λ j. lt_prop (tag j) (2 ^ 63)) p.tag_in q.tag_in i;
-  group_in = is_prop→PathP (λ j. unsigned_abs (group j) < 2 ^ 55) (λ j. lt_prop (unsigned_abs (group j)) (2 ^ 55)) p.group_in q.group_in i;
-  some_rows = is_prop→PathP (λ j. 1 ≤ length (rows j)) (λ j. le_prop 1 (length (rows j))) p.some_rows q.some_rows i;
-  few_rows = is_prop→PathP (λ j. length (rows j) ≤ MOST_SATELLITES) (λ j. le_prop (length (rows j)) MOST_SATELLITES) p.few_rows q.few_rows i;
+  number_in = is_prop→PathP (λ j. number j < MOST_PAIRS) (λ j. le_prop) p.number_in q.number_in i;
+  tag_in = is_prop→PathP (λ j. tag j < 2 ^ 63) (λ j. le_prop) p.tag_in q.tag_in i;
+  group_in = is_prop→PathP (λ j. unsigned_abs (group j) < 2 ^ 55) (λ j. le_prop) p.group_in q.group_in i;
+  some_rows = is_prop→PathP (λ j. 1 ≤ length (rows j)) (λ j. le_prop) p.some_rows q.some_rows i;
+  few_rows = is_prop→PathP (λ j. length (rows j) ≤ MOST_SATELLITES) (λ j. le_prop) p.few_rows q.few_rows i;
   arcs_rise = is_prop→PathP (λ j. AllPairs (λ r s. r.arc < s.arc) (rows j)) (λ j. rise_prop (rows j)) p.arcs_rise q.arcs_rise i;
 }

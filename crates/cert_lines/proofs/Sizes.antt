@@ -3,6 +3,7 @@ use Rattle.std.proofs.Common.{◌^◌, ◌<◌, ◌≤◌, ℕ, zero, suc, ℤ, 
 use Rattle.std.proofs.lemmas.Int.{ints}
 use Rattle.std.proofs.lemmas.List.Elements.{All-head, All-tail}
 use Rattle.decimal_text.specs.Whole.{size_of}
+use Rattle.decimal_text.proofs.Numbers.{size_is}
 use Rattle.obs_rows.specs.declared.arcs.Arc.{Arc}
 use Rattle.obs_rows.specs.declared.rows.Row.{Row}
 use Rattle.obs_rows.specs.declared.pair_rows.PairRows.{PairRows}
@@ -11,7 +12,7 @@ use Rattle.obs_rows.specs.Arcs.{IsArcInRange, IsOfPair}
 use Rattle.obs_rows.specs.declared.limits.TheConstants.{MOST_COORDINATE}
 use Rattle.cert_words.proofs.NumberLaws.{AreSmall}
 use Rattle.cert_lines.specs.Lines.{row_numbers}
-use Rattle.cert_lines.proofs.Values.{size_is, small_append}
+use Rattle.cert_lines.proofs.Values.{small_append}
 use Rattle.cert_lines.specs.Places.{select}
 use Rattle.cert_words.specs.declared.ranges.Range.{Range}
 use Rattle.cert_words.specs.Numbers.{IsIn}

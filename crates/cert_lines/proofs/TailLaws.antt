@@ -5,13 +5,14 @@ use Rattle.std.specs.Str.{bytes_eq}
 use Rattle.std.proofs.lemmas.Int.{ints}
 use Rattle.std.proofs.lemmas.Slice.Eq.{bytes_eq-Decides}
 use Rattle.decimal_text.specs.Whole.{size_of}
+use Rattle.decimal_text.proofs.Numbers.{size_is}
 use Rattle.obs_rows.specs.Ranges.{IsBelow}
 use Rattle.cert_words.specs.declared.numbers.Number.{Number}
 use Rattle.cert_words.specs.Spelling.{behind_blanks}
 use Rattle.cert_words.specs.Numbers.{numbers_behind, number_at}
 use Rattle.cert_words.proofs.NumberLaws.{AreSmall, values, line_read}
 use Rattle.cert_lines.specs.Lines.{values_line, weak_line, named_line}
-use Rattle.cert_lines.proofs.Values.{size_is, two_values, four_values}
+use Rattle.cert_lines.proofs.Values.{two_values, four_values}
 
 value_at : (s : List Number) (k : ℕ) (x : Number) (z : ℤ) → x ≡ number_at s k → x.value ≡ z → (number_at s k).value ≡ z
 value_at s k x z at is = ap (λ (y : Number). y.value) (sym at) ∙ is

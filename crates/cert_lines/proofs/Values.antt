@@ -1,5 +1,5 @@
 -- The values of the numbers of a line.
-use Rattle.std.proofs.Common.{◌≡◌, ◌+◌, ◌^◌, ◌<◌, ◌≤◌, ℕ, ℤ, pos, negsuc, unsigned_abs, List, [], ◌∷◌, ◌++◌, length, take, drop, All, Result, Ok, Err, IfOk, MatchResult, refl, sym, ap, ◌∙◌, subst, arith}
+use Rattle.std.proofs.Common.{◌≡◌, ◌+◌, ◌^◌, ◌<◌, ◌≤◌, ℕ, ℤ, pos, List, [], ◌∷◌, ◌++◌, length, take, drop, All, Result, Ok, Err, IfOk, MatchResult, refl, sym, ap, ◌∙◌, subst, arith}
 use Rattle.std.proofs.lemmas.List.{drop_more, take-append-drop, drop-drop, take_all, length-drop}
 use Rattle.std.proofs.lemmas.List.Elements.{All-head, All-tail}
 use Rattle.decimal_text.specs.Whole.{size_of}
@@ -8,13 +8,9 @@ use Rattle.cert_words.specs.declared.numbers.Number.{Number}
 use Rattle.cert_words.specs.declared.ranges.Range.{Range}
 use Rattle.cert_words.specs.Spelling.{behind_blanks}
 use Rattle.cert_words.specs.Numbers.{numbers_behind, number_at, all_within}
-use Rattle.cert_words.proofs.NumberLaws.{AreSmall, values, line_read}
+use Rattle.cert_words.proofs.NumberLaws.{AreSmall, values, line_read, values_append}
 use Rattle.cert_words.proofs.RangeLaws.{all_passed}
 use Rattle.cert_lines.specs.Lines.{count_line, vector_line}
-
-pub size_is : (z : ℤ) → size_of z ≡ unsigned_abs z
-size_is (pos n) = refl
-size_is (negsuc n) = refl
 
 pub all_small : (zs : List ℤ) → All (λ z. size_of z < 2 ^ 64) zs → AreSmall zs
 all_small [] h = tt
@@ -99,10 +95,6 @@ row_values ns n e =
     first ∙ ap (λ (zs : List ℤ). (number_at ns 0).value ∷ zs) (y ∙ ap (λ (zs : List ℤ). values (take n (drop 1 ns)) ++ zs)
     (middle ∙ ap (λ (zs : List ℤ). (number_at ns (1 + n)).value ∷ zs) (u ∙ ap (λ (l : List Number). values (take 3 (drop (1 + n + 1) ns)) ++ values l) ru)))
   where
-    values_append : (ms ns : List Number) → values (ms ++ ns) ≡ values ms ++ values ns
-    values_append [] ns = refl
-    values_append (m ∷ ms) ns = ap (λ (zs : List ℤ). m.value ∷ zs) (values_append ms ns)
-
     split : (k n : ℕ) (ns : List Number) → values (drop n ns) ≡ values (take k (drop n ns)) ++ values (drop (n + k) ns)
     split k n ns =
         ap values (sym (take-append-drop k (drop n ns))) ∙ values_append (take k (drop n ns)) (drop k (drop n ns))

@@ -1,9 +1,9 @@
 -- Each certificate of version 1 as one of the present types, with the same numbers.
-use Rattle.std.proofs.Common.{◌≡◌, ℕ, zero, suc, ◌+◌, ◌*◌, ◌<◌, ◌≤◌, ◌^◌, ◌==◌, ◌||◌, ◌&&◌, not, Bool, true, false, IsTrue, List, [], ◌∷◌, ◌++◌, length, map, take, get_or, All, ℤ, pos, unsigned_abs, arith, rules, refl, sym, ap, ◌∙◌, subst}
+use Rattle.std.proofs.Common.{◌≡◌, ℕ, zero, suc, ◌+◌, ◌*◌, ◌<◌, ◌≤◌, ◌^◌, ◌==◌, ◌||◌, ◌&&◌, not, IsTrue, List, [], ◌∷◌, ◌++◌, length, map, take, get_or, All, ℤ, pos, unsigned_abs, arith, rules, refl, sym, ap, ◌∙◌, subst}
 use Rattle.std.specs.List.{AllPairs}
 use Rattle.std.specs.Prelude.{replicate}
 use Rattle.std.proofs.lemmas.List.{length-map, length-append}
-use Rattle.std.proofs.lemmas.Bool.{false≢true}
+use Rattle.std.proofs.lemmas.Bool.{false≢true, or_right}
 use Rattle.std.proofs.lemmas.List.Elements.{All-from_recursion, All-head, All-tail}
 use Rattle.std.proofs.Math.Seq.{take-append_seam}
 use Rattle.obs_rows.specs.declared.bands.Signals.{Signals}
@@ -112,11 +112,7 @@ second_letter zero h = absurd (false≢true h)
 second_letter (suc n) h = search rules
 
 pub letter_or_none : (l2 : ℕ) → IsTrue (is_old_l2 l2) → IsTrue ((l2 == 0) || is_letter L2_LETTERS l2)
-letter_or_none l2 h = by_case (l2 == 0) (is_letter L2_LETTERS l2) h
-  where
-    by_case : (a b : Bool) → b ≡ true → (a || b) ≡ true
-    by_case true b e = refl
-    by_case false b e = e
+letter_or_none l2 h = or_right (l2 == 0) (is_letter L2_LETTERS l2) h
 
 abbrev pub carried_signals : OldSignals → Signals
 carried_signals s = record { l1 = s.l1; l2 = s.l2; l5 = 0; on_l1 = s.on_l1; on_l2 = letter_or_none s.l2 s.on_l2; on_l5 = refl; two_bands = second_letter s.l2 s.on_l2 }

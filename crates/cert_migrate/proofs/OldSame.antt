@@ -3,6 +3,7 @@ use Rattle.std.proofs.Common.{◌≡◌, ◌^◌, ◌<◌, ◌≤◌, ℤ, List,
 use mathlib.Core.HLevel.{is_prop→PathP}
 use Rattle.std.proofs.Props.{props}
 use Rattle.std.specs.List.{AllPairs}
+use Rattle.std.proofs.Math.Bridge.{le_prop}
 use Rattle.obs_rows.specs.declared.rows.Row.{Row}
 use Rattle.obs_rows.specs.declared.pair_rows.PairRows.{PairRows}
 use Rattle.obs_rows.specs.declared.sessions.Session.{Session}
@@ -12,7 +13,7 @@ use Rattle.int_search.specs.Vectors.{IsZeroFrom}
 use Rattle.cert_data.specs.declared.tails.Tail.{Tail}
 use Rattle.cert_data.specs.declared.tails.Tail.TheVariants as now
 use Rattle.cert_data.specs.declared.certs.Cert.{Cert}
-use Rattle.cert_lines.proofs.SameStructs.{within_prop, le_prop, lt_prop, true_prop}
+use Rattle.cert_lines.proofs.SameStructs.{within_prop, true_prop}
 use Rattle.cert_spelling.proofs.SameVectors.{zero_prop}
 use Rattle.cert_text.proofs.SameStructs.{fine_prop}
 use Rattle.cert_migrate.specs.declared.old_arcs.OldArc.{OldArc}
@@ -68,11 +69,11 @@ pair_same p q number tag group rows = λ i. record {
   tag = tag i;
   group = group i;
   rows = rows i;
-  number_in = is_prop→PathP (λ j. number j < 3600) (λ j. lt_prop (number j) 3600) p.number_in q.number_in i;
-  tag_in = is_prop→PathP (λ j. (tag j).0 < 2 ^ 63) (λ j. lt_prop (tag j).0 (2 ^ 63)) p.tag_in q.tag_in i;
-  group_in = is_prop→PathP (λ j. unsigned_abs (group j) < 2 ^ 50) (λ j. lt_prop (unsigned_abs (group j)) (2 ^ 50)) p.group_in q.group_in i;
-  some_rows = is_prop→PathP (λ j. 1 ≤ length (rows j)) (λ j. le_prop 1 (length (rows j))) p.some_rows q.some_rows i;
-  few_rows = is_prop→PathP (λ j. length (rows j) ≤ 15) (λ j. le_prop (length (rows j)) 15) p.few_rows q.few_rows i;
+  number_in = is_prop→PathP (λ j. number j < 3600) (λ j. le_prop) p.number_in q.number_in i;
+  tag_in = is_prop→PathP (λ j. (tag j).0 < 2 ^ 63) (λ j. le_prop) p.tag_in q.tag_in i;
+  group_in = is_prop→PathP (λ j. unsigned_abs (group j) < 2 ^ 50) (λ j. le_prop) p.group_in q.group_in i;
+  some_rows = is_prop→PathP (λ j. 1 ≤ length (rows j)) (λ j. le_prop) p.some_rows q.some_rows i;
+  few_rows = is_prop→PathP (λ j. length (rows j) ≤ 15) (λ j. le_prop) p.few_rows q.few_rows i;
   arcs_rise = is_prop→PathP (λ j. AllPairs (λ r s. r.arc < s.arc) (rows j)) (λ j. rise_prop (rows j)) p.arcs_rise q.arcs_rise i;
 }
 
@@ -96,7 +97,7 @@ session_same s t scale base point signals arcs pairs = λ i. record {
   base_in = is_prop→PathP (λ j. IsOldPoint (base j)) (λ j. point_prop (base j)) s.base_in t.base_in i;
   point_in = is_prop→PathP (λ j. IsOldPoint (point j)) (λ j. point_prop (point j)) s.point_in t.point_in i;
   arcs_in = is_prop→PathP (λ j. AreOldArcs (arcs j)) (λ j. arcs_prop (arcs j)) s.arcs_in t.arcs_in i;
-  some_pairs = is_prop→PathP (λ j. 1 ≤ length (pairs j)) (λ j. le_prop 1 (length (pairs j))) s.some_pairs t.some_pairs i;
+  some_pairs = is_prop→PathP (λ j. 1 ≤ length (pairs j)) (λ j. le_prop) s.some_pairs t.some_pairs i;
   pairs_in = is_prop→PathP (λ j. AreOldPairs (arcs j) (pairs j)) (λ j. pairs_prop (arcs j) (pairs j)) s.pairs_in t.pairs_in i;
 }
 
@@ -107,7 +108,7 @@ best_same a b first second p1 p2 size = λ i. record {
   p1 = p1 i;
   p2 = p2 i;
   size = size i;
-  size_to = is_prop→PathP (λ j. size j ≤ 40) (λ j. le_prop (size j) 40) a.size_to b.size_to i;
+  size_to = is_prop→PathP (λ j. size j ≤ 40) (λ j. le_prop) a.size_to b.size_to i;
   first_rest = is_prop→PathP (λ j. IsZeroFrom (size j) (first j)) (λ j. zero_prop (size j) (first j)) a.first_rest b.first_rest i;
   second_rest = is_prop→PathP (λ j. IsZeroFrom (size j) (second j)) (λ j. zero_prop (size j) (second j)) a.second_rest b.second_rest i;
 }
@@ -118,10 +119,10 @@ certs_same c d ratio budget session tail = λ i. record {
   budget = budget i;
   session = session i;
   tail = tail i;
-  ratio_from = is_prop→PathP (λ j. 1000 ≤ ratio j) (λ j. le_prop 1000 (ratio j)) c.ratio_from d.ratio_from i;
-  ratio_to = is_prop→PathP (λ j. ratio j ≤ 100_000) (λ j. le_prop (ratio j) 100_000) c.ratio_to d.ratio_to i;
-  budget_from = is_prop→PathP (λ j. 1 ≤ budget j) (λ j. le_prop 1 (budget j)) c.budget_from d.budget_from i;
-  budget_to = is_prop→PathP (λ j. budget j ≤ 100_000_000) (λ j. le_prop (budget j) 100_000_000) c.budget_to d.budget_to i;
+  ratio_from = is_prop→PathP (λ j. 1000 ≤ ratio j) (λ j. le_prop) c.ratio_from d.ratio_from i;
+  ratio_to = is_prop→PathP (λ j. ratio j ≤ 100_000) (λ j. le_prop) c.ratio_to d.ratio_to i;
+  budget_from = is_prop→PathP (λ j. 1 ≤ budget j) (λ j. le_prop) c.budget_from d.budget_from i;
+  budget_to = is_prop→PathP (λ j. budget j ≤ 100_000_000) (λ j. le_prop) c.budget_to d.budget_to i;
   tail_fits =
       is_prop→PathP (λ j. IsOldTailOf (session j).arcs (budget j) (tail j)) (λ j. IsOldTailOf-prop (session j).arcs (budget j) (tail j)) c.tail_fits d.tail_fits i;
 }

@@ -1,15 +1,16 @@
 -- Two vectors with their values are the same where their lines are.
-use Rattle.std.proofs.Common.{◌≡◌, ◌<◌, ◌≤◌, ℕ, ℤ, pos, List, [], ◌∷◌, length, take, get_or, codes, refl, ap, subst, arith, sym, ◌∙◌, ◌⊎◌, inl, inr}
+use Rattle.std.proofs.Common.{◌≡◌, ◌≤◌, ℕ, ℤ, pos, List, [], ◌∷◌, length, take, get_or, codes, refl, ap, subst, arith, sym, ◌∙◌, inl, inr}
 use mathlib.Core.HLevel.{is_prop→PathP}
 use Rattle.std.proofs.lemmas.List.{length-take-le, get_or-take, ext_get_or}
 use Rattle.std.proofs.Props.{props}
+use Rattle.std.proofs.lemmas.Bool.{cases_lt}
+use Rattle.std.proofs.Math.Bridge.{le_prop}
 use Rattle.obs_rows.specs.declared.arcs.Arc.{Arc}
 use Rattle.int_search.specs.declared.answer.TwoBest.{TwoBest}
 use Rattle.cert_lines.specs.Lines.{vector_line, values_line}
 use Rattle.cert_lines.proofs.Sizes.{entries_small, values_small}
 use Rattle.form_tables.specs.declared.sizes.TheConstants.{MOST_INTEGERS}
 use Rattle.int_search.specs.Vectors.{IsZeroFrom}
-use Rattle.cert_lines.proofs.SameStructs.{le_prop}
 use Rattle.cert_lines.proofs.SameLines.{cons_same, numbers_same}
 use Rattle.cert_data.specs.Tails.{AreValues}
 
@@ -23,21 +24,18 @@ best_same a b first second p1 p2 size = λ i. record {
   p1 = p1 i;
   p2 = p2 i;
   size = size i;
-  size_to = is_prop→PathP (λ j. size j ≤ MOST_INTEGERS) (λ j. le_prop (size j) MOST_INTEGERS) a.size_to b.size_to i;
+  size_to = is_prop→PathP (λ j. size j ≤ MOST_INTEGERS) (λ j. le_prop) a.size_to b.size_to i;
   first_rest = is_prop→PathP (λ j. IsZeroFrom (size j) (first j)) (λ j. zero_prop (size j) (first j)) a.first_rest b.first_rest i;
   second_rest = is_prop→PathP (λ j. IsZeroFrom (size j) (second j)) (λ j. zero_prop (size j) (second j)) a.second_rest b.second_rest i;
 }
 
 array_same : (n : ℕ) (a b : List ℤ) → length a ≡ length b → take n a ≡ take n b → IsZeroFrom n a → IsZeroFrom n b → a ≡ b
 array_same n a b l e za zb =
-    ext_get_or (pos 0) a b l (λ i inside. elim (before_or_not i) [
+    ext_get_or (pos 0) a b l (λ i inside. elim (cases_lt i n) [
       | inl p ↦ sym (get_or-take n a i (pos 0) p) ∙ ap (λ (x : List ℤ). get_or x i (pos 0)) e
           ∙ get_or-take n b i (pos 0) p
       | inr p ↦ za i p ∙ sym (zb i p)
     ])
-  where
-    before_or_not : (i : ℕ) → (i < n) ⊎ (n ≤ i)
-    before_or_not i = grind arith
 
 -- two vectors with their values and the upper sum, by their lines
 pub bests_same : (ss : List ℕ) (arcs : List Arc) (h h' : ℕ) (best best' : TwoBest) (top top' : ℤ) → AreValues ss arcs h best top → AreValues ss arcs h' best' top'

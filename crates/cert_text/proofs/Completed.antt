@@ -1,9 +1,10 @@
 -- A certificate for each head and each beginning of a list of arcs: one pair with one row, all of 0, and a tail of one line.
-use Rattle.std.proofs.Common.{◌≡◌, ◌+◌, ◌-◌, ◌^◌, ◌<◌, ◌≤◌, ◌⊎◌, inl, inr, ℕ, ℤ, zero, suc, pos, nat_lt, ◌||◌, Bool, true, false, List, [], ◌∷◌, ◌++◌, length, replicate, All, refl, sym, ap, subst, arith, lit≤, length-append, append_assoc, unsigned_abs}
+use Rattle.std.proofs.Common.{◌≡◌, ◌+◌, ◌-◌, ◌^◌, ◌<◌, ◌≤◌, ◌⊎◌, inl, inr, ℕ, ℤ, zero, suc, pos, nat_lt, Bool, true, false, List, [], ◌∷◌, ◌++◌, length, replicate, All, refl, sym, ap, subst, arith, lit≤, length-append, append_assoc, unsigned_abs}
 use Rattle.std.proofs.lemmas.Int.{ints}
 use Rattle.std.proofs.lemmas.Bool.Decides.{nat_tests}
 use Rattle.std.proofs.lemmas.List.{append-nil}
 use Rattle.std.proofs.lemmas.List.Elements.{All-nil, All-cons, All-head, All-push, All-replicate}
+use Rattle.std.proofs.lemmas.Bool.{or_right}
 use Rattle.form_tables.proofs.TableLaws.{zero_item}
 use Rattle.integer_form.specs.declared.faults.Place.TheVariants.{Y}
 use Rattle.obs_rows.specs.declared.arcs.Arc.{Arc}
@@ -134,12 +135,8 @@ plain_is version ss datum = record {
 plain_stands : (free left : ℕ) → may_stand free left (nat_lt 0 free) ≡ true
 plain_stands free left = by_test (nat_lt 0 free) refl
   where
-    either : (t u : Bool) → t ≡ true → (u || t) ≡ true
-    either t true is = refl
-    either t false is = is
-
     by_test : (t : Bool) → nat_lt 0 free ≡ t → may_stand free left t ≡ true
-    by_test true is = either (nat_lt 0 free) (nat_lt 1 left) is
+    by_test true is = or_right (nat_lt 1 left) (nat_lt 0 free) is
     by_test false is = let none : free < MOST_FREE_ARCS = grind (arith, nat_tests) in grind (arith, nat_tests, none)
 
 pub record Filled (version : Version) (ss : List ℕ) (left : ℕ) (arcs : List Arc) : Type 0 where

@@ -2,6 +2,7 @@
 use Rattle.std.proofs.Common.{◌≡◌, ◌≤◌, ℕ, length, All}
 use mathlib.Core.HLevel.{is_prop→PathP}
 use Rattle.std.proofs.Props.{props}
+use Rattle.std.proofs.Math.Bridge.{le_prop}
 use Rattle.obs_rows.specs.declared.sessions.Session.{Session}
 use Rattle.obs_rows.specs.Ranges.{IsSystem, IsPoint, IsScale}
 use Rattle.obs_rows.specs.Signals.{fine_signals}
@@ -11,7 +12,7 @@ use Rattle.obs_rows.specs.Unused.{HasUsedShifts, HasUsedRows}
 use Rattle.obs_rows.specs.Arcs.{AreArcs}
 use Rattle.obs_rows.specs.Pairs.{ArePairs}
 use Rattle.obs_rows.specs.declared.limits.TheConstants.{MOST_RATIO, MOST_BUDGET}
-use Rattle.cert_lines.proofs.SameStructs.{le_prop, system_prop, rows_prop, shifts_prop, scale_prop, point_prop, arcs_prop, pairs_prop}
+use Rattle.cert_lines.proofs.SameStructs.{system_prop, rows_prop, shifts_prop, scale_prop, point_prop, arcs_prop, pairs_prop}
 
 pub fine_prop : (n : ℕ) → IsProp (n ≡ 0)
 fine_prop n = Prim.hlevel props
@@ -30,7 +31,7 @@ session_same s t scale system base point signals arcs pairs = λ i. record {
   base_in = is_prop→PathP (λ j. IsPoint (base j)) (λ j. point_prop (base j)) s.base_in t.base_in i;
   point_in = is_prop→PathP (λ j. IsPoint (point j)) (λ j. point_prop (point j)) s.point_in t.point_in i;
   arcs_in = is_prop→PathP (λ j. AreArcs (arcs j)) (λ j. arcs_prop (arcs j)) s.arcs_in t.arcs_in i;
-  some_pairs = is_prop→PathP (λ j. 1 ≤ length (pairs j)) (λ j. le_prop 1 (length (pairs j))) s.some_pairs t.some_pairs i;
+  some_pairs = is_prop→PathP (λ j. 1 ≤ length (pairs j)) (λ j. le_prop) s.some_pairs t.some_pairs i;
   pairs_in = is_prop→PathP (λ j. ArePairs (arcs j) (pairs j)) (λ j. pairs_prop (arcs j) (pairs j)) s.pairs_in t.pairs_in i;
   rows_used = is_prop→PathP (λ j. All (HasUsedRows (fine_signals (signals j))) (pairs j)) (λ j. rows_prop (fine_signals (signals j)) (pairs j)) s.rows_used t.rows_used i;
   shifts_used = is_prop→PathP (λ j. All (HasUsedShifts (fine_signals (signals j))) (arcs j)) (λ j. shifts_prop (fine_signals (signals j)) (arcs j)) s.shifts_used t.shifts_used i;
@@ -42,10 +43,10 @@ certs_same c d ratio budget session tail = λ i. record {
   budget = budget i;
   session = session i;
   tail = tail i;
-  ratio_from = is_prop→PathP (λ j. 1000 ≤ ratio j) (λ j. le_prop 1000 (ratio j)) c.ratio_from d.ratio_from i;
-  ratio_to = is_prop→PathP (λ j. ratio j ≤ MOST_RATIO) (λ j. le_prop (ratio j) MOST_RATIO) c.ratio_to d.ratio_to i;
-  budget_from = is_prop→PathP (λ j. 1 ≤ budget j) (λ j. le_prop 1 (budget j)) c.budget_from d.budget_from i;
-  budget_to = is_prop→PathP (λ j. budget j ≤ MOST_BUDGET) (λ j. le_prop (budget j) MOST_BUDGET) c.budget_to d.budget_to i;
+  ratio_from = is_prop→PathP (λ j. 1000 ≤ ratio j) (λ j. le_prop) c.ratio_from d.ratio_from i;
+  ratio_to = is_prop→PathP (λ j. ratio j ≤ MOST_RATIO) (λ j. le_prop) c.ratio_to d.ratio_to i;
+  budget_from = is_prop→PathP (λ j. 1 ≤ budget j) (λ j. le_prop) c.budget_from d.budget_from i;
+  budget_to = is_prop→PathP (λ j. budget j ≤ MOST_BUDGET) (λ j. le_prop) c.budget_to d.budget_to i;
   fine = is_prop→PathP (λ j. (session j).scale ≡ 0) (λ j. fine_prop (session j).scale) c.fine d.fine i;
   tail_fits =
       is_prop→PathP (λ j. IsTailOf (fine_signals (session j).signals) (session j).arcs (budget j) (tail j))

@@ -1,12 +1,8 @@
 -- How large the number of digits is.
 use Rattle.std.proofs.Common.{◌≡◌, ℕ, ◌+◌, ◌-◌, ◌*◌, ◌^◌, ◌<◌, ◌≤◌, true, List, [], ◌∷◌, length, get_or, arith, pow-suc, lit<}
 use Rattle.std.proofs.Math.Nat.{mul-le-mul_right, pow-le-pow_right}
-use Rattle.std.proofs.lemmas.Bool.Decides.{nat_tests}
 use Rattle.decimal_text.specs.Whole.{are_digits, digit_sum, number_from}
-use Rattle.decimal_text.proofs.Numbers.{number_from-ge, digits_are}
-
-first_digit : (b : ℕ) (bs : List ℕ) → are_digits (b ∷ bs) ≡ true → (b - 48 ≤ 9) × (are_digits bs ≡ true)
-first_digit b bs h = grind (arith, nat_tests)
+use Rattle.decimal_text.proofs.Numbers.{number_from-ge, digits_are, first_digit}
 
 bound : (d p s : ℕ) → d ≤ 9 → s < p → d * p + s < 10 * p
 bound d p s small less = let most : d * p ≤ 9 * p = mul-le-mul_right p small in omega arith

@@ -1,7 +1,6 @@
 -- What is built of the program, and what clap's account says of it.
 use Rattle.std.proofs.Common.{◌≡◌, inl, inr, ℕ, zero, suc, ◌+◌, ◌&&◌, ◌<◌, not, Bool, true, false, List, [], ◌∷◌, ◌++◌, map, take, length, get_or, Option, Some, None, option_map, refl, sym, ap, ap₂, ◌∙◌, subst, arith, true≢false}
-use Rattle.std.proofs.Math.Seq.{take-suc}
-use Rattle.std.proofs.lemmas.List.{map_push}
+use Rattle.std.proofs.lemmas.List.{map_push, map_more}
 use Rattle.std.proofs.lemmas.Option.{same_Some}
 use Rattle.std.specs.Prelude.{find, unwrap_or}
 use Rattle.std.specs.Borrow.{Bor}
@@ -70,17 +69,12 @@ commands_free = refl
 
 -- ---- lists of texts, as far as a loop has come
 
-pub map_take : {A B : Type 0} (f : A → B) (xs : List A) (i : ℕ) (d : A) → i < length xs → map f (take (i + 1) xs) ≡ map f (take i xs) ++ f (get_or xs i d) ∷ []
-map_take f xs i d lt =
-    let next : suc i ≡ i + 1 = omega arith in
-    subst (λ (n : ℕ). map f (take n xs) ≡ map f (take i xs) ++ f (get_or xs i d) ∷ []) next (ap (λ ys. map f ys) (take-suc xs i d lt) ∙ map_push f (take i xs) (get_or xs i d))
-
 pub option_added : (name : Text) (settings : List Setting) (i : ℕ) (d : Setting) (old new : App) → i < length settings
     → old ≡ started name (map name_of (take i settings)) → new ≡ with_rule old (option_rule (name_of (get_or settings i d)))
     → new ≡ started name (map name_of (take (i + 1) settings))
 option_added name settings i d old new lt old_is new_is =
     new_is ∙ ap (λ (a : App). with_rule a (option_rule (name_of (get_or settings i d)))) old_is ∙ one_more name (map name_of (take i settings)) (name_of (get_or settings i d))
-    ∙ ap (λ (os : List Text). started name os) (sym (map_take name_of settings i d lt))
+    ∙ ap (λ (os : List Text). started name os) (sym (map_more name_of settings i d lt))
 
 pub number_at : (s : Setting) (texts : List (Bor Text)) (i : ℕ) (d : Bor Text) → AreAll s (map (λ t. t.now) texts) → i < length texts → (n : ℕ) × IsValue s (get_or texts i d).now n
 number_at s [] i d all lt = absurd (omega arith)
@@ -93,7 +87,7 @@ pub text_taken : (s : Setting) (texts : List (Bor Text)) (old given new : List G
 text_taken s texts old given new i d bytes n takes lt bytes_are number new_are =
     let so_far = map (λ (t : Bor Text). t.now) (take i texts) in
     let number_is : IsValue s (get_or texts i d).now n = subst (λ (t : Text). IsValue s t n) bytes_are number in
-    subst (λ (ts : List Text). TakesNumbers s ts old new) (sym (map_take (λ (t : Bor Text). t.now) texts i d lt))
+    subst (λ (ts : List Text). TakesNumbers s ts old new) (sym (map_more (λ (t : Bor Text). t.now) texts i d lt))
     (subst (λ (gs : List Given). TakesNumbers s (so_far ++ (get_or texts i d).now ∷ []) old gs) (sym new_are) (one_taken s so_far old given (get_or texts i d).now n takes number_is))
 
 -- ---- what a parse gives

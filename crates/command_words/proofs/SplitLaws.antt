@@ -1,5 +1,5 @@
 -- Words that are parted are those whose walk by clap fails nowhere, and the walk gives the same words and numbers.
-use Rattle.std.proofs.Common.{◌≡◌, ◌≢◌, ◌⊎◌, inl, inr, drop, zero, suc, ℕ, ◌==◌, ◌||◌, not, Bool, true, false, IsTrue, List, [], ◌∷◌, ◌++◌, get_or, append_assoc, append-nil, Option, Some, None, if◌then◌else◌, refl, sym, ap, ap₂, ◌∙◌, subst, arith, true≢false}
+use Rattle.std.proofs.Common.{◌≡◌, ◌≢◌, ◌⊎◌, inl, inr, drop, zero, suc, ℕ, ◌==◌, not, Bool, true, false, IsTrue, List, [], ◌∷◌, ◌++◌, get_or, append_assoc, append-nil, Option, Some, None, if◌then◌else◌, refl, sym, ap, ap₂, ◌∙◌, subst, arith, true≢false}
 use Rattle.std.specs.Str.{bytes_eq}
 use Rattle.std.proofs.lemmas.Slice.Eq.{bytes_eq-Decides}
 use Rattle.std.proofs.lemmas.Bool.Decides.{nat_tests}
@@ -9,6 +9,7 @@ use Rattle.clap.proofs.LexerLemmas.{name_and_value-at, name_and_value-without}
 use Rattle.clap.specs.Walk.{Row, Text, Waiting, option, positional, Walk}
 use Rattle.clap.specs.Simple.{Shape}
 use Rattle.clap.specs.Faults.{walk_fault}
+use Rattle.std.proofs.lemmas.Bool.{or_parts}
 use Rattle.command_words.specs.Commands.{word_id, is_among, free, IsCommand, put, values_in, at, IsSettled, Ends, is_short, has_short}
 use Rattle.command_words.proofs.Steps.{nothing_pending, word_pending, option_pending, ends_before, ends_after, fails_at, IsPlainWord, word_steps, further_steps, separator_steps, name_steps, joined_steps, value_steps, unknown_fails, waiting_ends, flag_for_value, separator_for_value}
 use Rattle.command_words.proofs.Values.{put_same, put_other}
@@ -442,11 +443,7 @@ sorted (b ∷ c ∷ bs) = go (b == 45) (c == 45) refl refl
 
 -- neither this word nor a word after it is short
 pub neither : (word : Text) (words : List Text) → bytes_eq word (45 ∷ 45 ∷ []) ≡ false → has_short (word ∷ words) ≡ false → (is_short word ≡ false) × (has_short words ≡ false)
-neither word words apart h = both (is_short word) (has_short words) (rw apart at h)
-  where
-    both : (b c : Bool) → (b || c) ≡ false → (b ≡ false) × (c ≡ false)
-    both true c e = absurd (true≢false e)
-    both false c e = (refl, e)
+neither word words apart h = or_parts (is_short word) (has_short words) (rw apart at h)
 
 short_is_no_separator : (word : Text) → is_short word ≡ true → bytes_eq word (45 ∷ 45 ∷ []) ≡ false
 short_is_no_separator word h = go (bytes_eq word (45 ∷ 45 ∷ [])) refl

@@ -8,6 +8,7 @@ use Rattle.clap.specs.Simple.{App, Shape, built, built_leaf, entered, inherited,
 use Rattle.clap.specs.Kinds.{Kinds, or_else}
 use Rattle.clap.specs.Faults.{built_fault, entered_fault, fault_of, level_fault, settle_fault, turn_fault, walk_fault, defaults_fault}
 use Rattle.clap.proofs.FaultLemmas.{stopped_fault}
+use Rattle.std.proofs.lemmas.Bool.{or_parts}
 use Rattle.command_words.specs.Commands.{built_rules, IsCommand, at, Ends, built_shape, command_shape, built_top, built_app, app_with, start, is_short, has_short, command_named}
 use Rattle.command_words.proofs.Leaf.{rules_built, is_it}
 use Rattle.command_words.proofs.Steps.{never}
@@ -221,16 +222,12 @@ no_command : (table : List (Text × List Text)) (word : Text) (rest : List Text)
     → built_fault (built_app table) nothing_held (word ∷ rest) ≡ [] → ⊥
 no_command table word rest none no_short h = go (bytes_eq word (45 ∷ 45 ∷ [])) refl
   where
-    left : (b c : Bool) → (b || c) ≡ false → b ≡ false
-    left true c e = e
-    left false c e = refl
-
     go : (b : Bool) → bytes_eq word (45 ∷ 45 ∷ []) ≡ b → ⊥
     go true same = separator_first table rest (subst (λ (w : Text). find (answers_to w) (names_of (built_app table)) ≡ None) (is_it word (45 ∷ 45 ∷ []) same) (unnamed table word none))
         (subst (λ (w : Text). built_fault (built_app table) nothing_held (w ∷ rest) ≡ []) (is_it word (45 ∷ 45 ∷ []) same) h)
     go false other =
         let single : (is_short word || has_short rest) ≡ false = rw other at no_short in
-        stray (names_of (built_app table)) word (unnamed table word none) other (not_short word (left (is_short word) (has_short rest) single))
+        stray (names_of (built_app table)) word (unnamed table word none) other (not_short word (or_parts (is_short word) (has_short rest) single).0)
         (walk_first built_top (names_of (built_app table)) word rest _ _ h)
 
 pub runs : (table : List (Text × List Text)) (words : List Text) → has_short words ≡ false → fault_of (app_with table) words ≡ [] → Runs table words

@@ -1,22 +1,21 @@
 -- What the steps of the integer columns keep, from tables that hold what the front left.
-use Rattle.std.proofs.Common.{◌≡◌, ◌⊎◌, inl, inr, ⊎_elim, ℕ, zero, suc, ◌+◌, ◌-◌, ◌^◌, ◌<◌, ◌≤◌, List, ℤ, pos, Result, Ok, unsigned_abs, slice_index_or, arith, sym, ap, ◌∙◌, refl, subst}
+use Rattle.std.proofs.Common.{◌≡◌, ◌⊎◌, inl, inr, ⊎_elim, ℕ, zero, suc, ◌+◌, ◌-◌, ◌^◌, ◌<◌, ◌≤◌, List, ℤ, pos, Ok, unsigned_abs, slice_index_or, arith, sym, ap, ◌∙◌, refl, subst}
 use Rattle.std.proofs.lemmas.Int.{ints}
+use Rattle.std.proofs.lemmas.Bool.{cases_lt}
 use Rattle.quadratic_form.specs.Forms.{Column}
-use Rattle.quadratic_form.specs.Elimination.{Factor, Refusal, steps}
+use Rattle.quadratic_form.specs.Elimination.{steps, StepsAnswer}
 use Rattle.quadratic_form.specs.LowerSums.{Small, SmallList, SmallForm}
 use Rattle.quadratic_form.specs.Places.{list_from, form_from}
 use Rattle.quadratic_form.proofs.Ranges.{AllInRange, steps_range}
 use Rattle.form_tables.specs.declared.sizes.TheConstants.{BASELINE_COLUMNS, MOST_COLUMNS}
 use Rattle.form_tables.specs.Tables.{entry, IsZeroOutside}
 use Rattle.form_tables.specs.Matrices.{EntriesBelow}
+use Rattle.form_tables.proofs.TableLaws.{zero_small}
 use Rattle.integer_form.specs.Factors.{stored}
 use Rattle.integer_form.specs.Kept.{form_of_table, constant_form, IsEliminated, AreKept, IsZeroFrom, IsBelowDiagonal}
 use Rattle.integer_form.proofs.StoredPlaces.{stored_same}
 use Rattle.elimination.proofs.TableLaws.{small_of_form}
-use Rattle.elimination.proofs.KeptLaws.{none, are_kept, factors_below}
-
-abbrev Answer : Type 0
-Answer = Result (List Factor × List Column) Refusal
+use Rattle.elimination.proofs.KeptLaws.{are_kept, factors_below}
 
 -- ---- small entries as a small form
 small : (x : ℤ) → unsigned_abs x < 2 ^ 52 → Small x
@@ -67,17 +66,14 @@ finished columns fd fl p d d' l l' t t' s u q e h = record {
   kept_outside = λ i a. u.kept i (inr a) ∙ s.kept_zero i (behind columns i s.from a);
   factors_in = λ r c. ⊎_elim (λ (a : c < 3). subst (λ (z : ℤ). unsigned_abs z < 2 ^ 52) (sym (front_factor r c a)) (s.front_in r c))
       (λ (a : 3 ≤ c). ⊎_elim (λ (b : c < 3 + (columns - 4)). factors_below d' l' columns 3 (columns - 4) below range.0 r c a b)
-      (λ (b : 3 + (columns - 4) ≤ c). subst (λ (z : ℤ). unsigned_abs z < 2 ^ 52) (sym (u.factors r c (inl (inr (omega arith))) ∙ s.factors_zero r c (inr a))) none)
-      (either c (3 + (columns - 4)))) (either c 3);
+      (λ (b : 3 + (columns - 4) ≤ c). subst (λ (z : ℤ). unsigned_abs z < 2 ^ 52) (sym (u.factors r c (inl (inr (omega arith))) ∙ s.factors_zero r c (inr a))) zero_small)
+      (cases_lt c (3 + (columns - 4)))) (cases_lt c 3);
   factors_outside = below;
   baseline = stored_same d' fd l' fl columns 0 3 (λ i a b. u.kept i (inl b) ∙ s.kept_same i b) (λ r i a b. front_factor r i b);
 }
   where
     behind : (n i : ℕ) → 4 ≤ n → n - 1 ≤ i → 3 ≤ i
     behind n i a b = omega arith
-
-    either : (c n : ℕ) → (c < n) ⊎ (n ≤ c)
-    either c n = grind arith
 
     count : columns - 1 - 3 ≡ columns - 4
     count = omega arith
@@ -91,14 +87,14 @@ finished columns fd fl p d d' l l' t t' s u q e h = record {
     taken : steps 3 (columns - 4) (form_of_table p (columns - 3)) ≡ Ok (stored d' l' columns 3 (columns - 4), constant_form (entry t' (columns - 1) (columns - 1)))
     taken = ap (λ (a : List Column). steps 3 (columns - 4) a) (sym e)
         ∙ subst (λ (k : ℕ). steps 3 k (form_from (entry t) 3 (columns - 3)) ≡ Ok (stored d' l' columns 3 k, form_from (entry t') (columns - 1) (columns - (columns - 1)))) count h
-        ∙ ap (λ (k : ℕ). let x : Answer = Ok (stored d' l' columns 3 (columns - 4), form_from (entry t') (columns - 1) k) in x) one
+        ∙ ap (λ (k : ℕ). let x : StepsAnswer = Ok (stored d' l' columns 3 (columns - 4), form_from (entry t') (columns - 1) k) in x) one
 
     range : AllInRange (stored d' l' columns 3 (columns - 4)) × SmallForm (constant_form (entry t' (columns - 1) (columns - 1)))
     range = steps_range 3 (columns - 4) (form_of_table p (columns - 3)) (stored d' l' columns 3 (columns - 4), constant_form (entry t' (columns - 1) (columns - 1))) taken
         (small_form (entry p) 0 (columns - 3) q)
 
     high : (r : ℕ) → (r < MOST_COLUMNS) ⊎ (MOST_COLUMNS ≤ r)
-    high r = either r MOST_COLUMNS
+    high r = cases_lt r MOST_COLUMNS
 
     front_factor : (r c : ℕ) → c < 3 → entry l' r c ≡ entry fl r c
     front_factor r c a = u.factors r c (inl (inl a)) ∙ ⊎_elim (λ (b : r < MOST_COLUMNS). s.factors_same r c b a)
@@ -108,4 +104,4 @@ finished columns fd fl p d d' l l' t t' s u q e h = record {
         past n r a b = omega arith
 
     below : IsBelowDiagonal columns l'
-    below r c a = ⊎_elim (λ (b : c < 3). front_factor r c b ∙ s.front_outside r c a) (λ (b : 3 ≤ c). u.factors r c (inr a) ∙ s.factors_zero r c (inr b)) (either c 3)
+    below r c a = ⊎_elim (λ (b : c < 3). front_factor r c b ∙ s.front_outside r c a) (λ (b : 3 ≤ c). u.factors r c (inr a) ∙ s.factors_zero r c (inr b)) (cases_lt c 3)

@@ -1,5 +1,5 @@
 -- What a guess of a quotient leaves, and where it is the quotient.
-use Rattle.std.proofs.Common.{◌≡◌, refl, [], ◌∷◌, ◌+◌, ◌*◌, ◌^◌, ◌<◌, ◌≤◌, ◌%◌, ◌-◌, ℤ, pos, ◌+ℤ◌, ◌-ℤ◌, ◌*ℤ◌, neg_ℤ, ◌<ℤ◌, ◌≤ℤ◌, unsigned_abs, FitsSigned, arith, to_z, of_z, sym, ap, ap₂, ◌∙◌, subst}
+use Rattle.std.proofs.Common.{◌≡◌, refl, [], ◌∷◌, ◌+◌, ◌*◌, ◌^◌, ◌≤◌, ◌%◌, ◌-◌, ℤ, pos, ◌+ℤ◌, ◌-ℤ◌, ◌*ℤ◌, neg_ℤ, ◌<ℤ◌, ◌≤ℤ◌, unsigned_abs, FitsSigned, arith, to_z, of_z, sym, ap, ap₂, ◌∙◌, subst}
 use Rattle.std.proofs.lemmas.Int.{ints, wrapping_sub-bits, wrapping_mul_is, int_wrap-add_left, int_wrap-sub_right, int_wrap_fits}
 use Rattle.std.specs.Int.{w64, int_wrap}
 use Rattle.whole_math.specs.Rounding.{floor_div, nearest_div}
@@ -7,10 +7,8 @@ use Rattle.whole_math.proofs.Order.{lins, polys, abs_mul_le}
 use Rattle.whole_math.proofs.Inequalities.{same_by, nat}
 use Rattle.whole_math.proofs.Ring.{◌⊖◌, ◌⊗◌}
 use Rattle.whole_math.proofs.Rounding.{nearest_unique, floor_close, floor_near}
+use Rattle.whole_math.proofs.Absolute.{abs_pos}
 use Rattle.elimination.proofs.NewEntries.{positive_is}
-
-pub some_of : (a : ℤ) → pos 0 <ℤ a → 0 < unsigned_abs a
-some_of a h = omega (arith, ints)
 
 -- x / a is the nearest where what is left is at most half of a on either side
 half_left : (n x a t : ℤ) → t ≡ pos 2 *ℤ (n -ℤ x) → neg_ℤ a ≤ℤ t → t <ℤ a →
@@ -18,7 +16,7 @@ half_left : (n x a t : ℤ) → t ≡ pos 2 *ℤ (n -ℤ x) → neg_ℤ a ≤ℤ
 half_left n x a t h l u = (omega (arith, polys), omega (arith, polys))
 
 pub guessed_nearest : (n a q t : ℤ) → pos 0 <ℤ a → t ≡ pos 2 *ℤ (n -ℤ (q *ℤ a)) → neg_ℤ a ≤ℤ t → t <ℤ a → q ≡ nearest_div n (unsigned_abs a)
-guessed_nearest n a q t p h l u = nearest_unique n q (unsigned_abs a) (some_of a p) (subst (λ (m : ℤ). ((pos 2 *ℤ (q *ℤ m)) ≤ℤ ((pos 2 *ℤ n) +ℤ m)) ×
+guessed_nearest n a q t p h l u = nearest_unique n q (unsigned_abs a) (abs_pos a p) (subst (λ (m : ℤ). ((pos 2 *ℤ (q *ℤ m)) ≤ℤ ((pos 2 *ℤ n) +ℤ m)) ×
     (((pos 2 *ℤ n) +ℤ m) <ℤ ((pos 2 *ℤ (q *ℤ m)) +ℤ (pos 2 *ℤ m)))) (positive_is a p) (half_left n (q *ℤ a) a t h l u))
 
 -- ---- a guess by a share in units of 2^-52

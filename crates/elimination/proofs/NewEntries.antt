@@ -1,27 +1,22 @@
 -- An entry on the diagonal and one after it.
-use Rattle.std.proofs.Common.{◌≡◌, ◌⊎◌, ℕ, ◌^◌, ◌<◌, ◌≤◌, Bool, true, false, nat_eq, cond, List, ℤ, pos, ◌-ℤ◌, ◌*ℤ◌, ◌<ℤ◌, unsigned_abs, to_z, arith, ap, ◌∙◌}
+use Rattle.std.proofs.Common.{◌≡◌, ℕ, ◌^◌, ◌<◌, ◌≤◌, Bool, false, nat_eq, cond, List, ℤ, pos, ◌-ℤ◌, ◌*ℤ◌, ◌<ℤ◌, unsigned_abs, to_z, arith, ap, ◌∙◌, refl}
 use Rattle.std.proofs.lemmas.Bool.Decides.{nat_tests}
 use Rattle.std.proofs.lemmas.Int.{ints}
 use Rattle.std.specs.Int.{w128}
+use Rattle.std.proofs.lemmas.Bool.{eq-eqb}
 use Rattle.whole_math.specs.Rounding.{nearest_div, ceil_div}
 use Rattle.form_tables.specs.declared.sizes.TheConstants.{MOST_COLUMNS}
 use Rattle.form_tables.specs.Tables.{entry}
 use Rattle.elimination.specs.StepEntries.{own_entry, other_entry, new_entry}
 
-same : (r : ℕ) → nat_eq r r ≡ true
-same r = grind (arith, nat_tests)
-
-apart : (r c : ℕ) → r < c → nat_eq r c ≡ false
+pub apart : (r c : ℕ) → r < c → nat_eq r c ≡ false
 apart r c h = grind (arith, nat_tests)
 
 pub new_own : (t : List (List ℤ)) (j a : ℕ) (n : ℤ) (r : ℕ) → new_entry t j a n r r ≡ own_entry t j a n r
-new_own t j a n r = ap (λ (b : Bool). cond b (own_entry t j a n r) (other_entry t j a r r)) (same r)
+new_own t j a n r = ap (λ (b : Bool). cond b (own_entry t j a n r) (other_entry t j a r r)) (eq-eqb r r refl)
 
 pub new_other : (t : List (List ℤ)) (j a : ℕ) (n : ℤ) (r c : ℕ) → r < c → new_entry t j a n r c ≡ other_entry t j a r c
 new_other t j a n r c h = ap (λ (b : Bool). cond b (own_entry t j a n r) (other_entry t j a r c)) (apart r c h)
-
-pub from_own : (r c : ℕ) → r ≤ c → (r ≡ c) ⊎ (r < c)
-from_own r c h = grind arith
 
 pub other_same : (t u : List (List ℤ)) (j a r c : ℕ) → entry u r c ≡ entry t r c → entry u j r ≡ entry t j r → entry u j c ≡ entry t j c → other_entry u j a r c ≡ other_entry t j a r c
 other_same t u j a r c x p q = ap (λ z. z -ℤ nearest_div (entry u j r *ℤ entry u j c) a) x ∙ ap (λ z. entry t r c -ℤ nearest_div (z *ℤ entry u j c) a) p

@@ -1,43 +1,31 @@
 -- Whether all entries of a list and of a form are small, by their places.
-use Rattle.std.proofs.Common.{◌≡◌, ◌⊎◌, ⊎_elim, ℕ, zero, suc, ◌+◌, ◌^◌, ◌<◌, ◌≤◌, Bool, true, false, ◌&&◌, unsigned_abs, ℤ, arith, refl, ap, ap₂, sym, subst}
+use Rattle.std.proofs.Common.{◌≡◌, ⊎_elim, ℕ, zero, suc, ◌+◌, ◌^◌, ◌<◌, ◌≤◌, Bool, true, false, ◌&&◌, unsigned_abs, ℤ, arith, refl, sym, subst, eq-or-lt_of_le}
 use borrow.Author.Tests.{ltb-true}
+use Rattle.std.proofs.lemmas.Bool.{and_left, and_right, and_from}
 use Rattle.quadratic_form.specs.Elimination.{all_small, form_small}
 use Rattle.quadratic_form.specs.Places.{list_from, form_from}
 use Rattle.elimination.specs.StepEntries.{is_small}
 
-both : (a b : Bool) → a ≡ true → b ≡ true → (a && b) ≡ true
-both a b e f = ap₂ (λ x y. x && y) e f
-
-left_false : (a b : Bool) → a ≡ false → (a && b) ≡ false
-left_false a b e = ap (λ x. x && b) e
-
-right_false : (a b : Bool) → b ≡ false → (a && b) ≡ false
-right_false true b e = e
-right_false false b e = refl
-
 pub list_small : (f : ℕ → ℤ) (j k : ℕ) → ((c : ℕ) → j ≤ c → c < j + k → is_small (f c) ≡ true) → all_small (list_from f j k) ≡ true
 list_small f j zero h = refl
-list_small f j (suc k) h = both (is_small (f j)) (all_small (list_from f (suc j) k)) (h j (omega arith) (omega arith)) (list_small f (suc j) k (λ c a b. h c (omega arith) (omega arith)))
+list_small f j (suc k) h = and_from (is_small (f j)) (all_small (list_from f (suc j) k)) (h j (omega arith) (omega arith)) (list_small f (suc j) k (λ c a b. h c (omega arith) (omega arith)))
 
 pub list_wide : (f : ℕ → ℤ) (j k c : ℕ) → j ≤ c → c < j + k → is_small (f c) ≡ false → all_small (list_from f j k) ≡ false
 list_wide f j zero c a b e = absurd (omega arith)
-list_wide f j (suc k) c a b e = ⊎_elim (λ (i : j ≡ c). left_false (is_small (f j)) (all_small (list_from f (suc j) k)) (subst (λ (m : ℕ). is_small (f m) ≡ false) (sym i) e))
-    (λ (i : suc j ≤ c). right_false (is_small (f j)) (all_small (list_from f (suc j) k)) (list_wide f (suc j) k c i (omega arith) e)) (order j c a)
-  where
-    order : (j c : ℕ) → j ≤ c → (j ≡ c) ⊎ (suc j ≤ c)
-    order j c a = grind arith
+list_wide f j (suc k) c a b e = ⊎_elim (λ (i : j ≡ c). and_left (is_small (f j)) (all_small (list_from f (suc j) k)) (subst (λ (m : ℕ). is_small (f m) ≡ false) (sym i) e))
+    (λ (i : suc j ≤ c). and_right (is_small (f j)) (all_small (list_from f (suc j) k)) (list_wide f (suc j) k c i (omega arith) e)) (eq-or-lt_of_le a)
 
 pub form_all_small : (e : ℕ → ℕ → ℤ) (j k : ℕ) → ((r c : ℕ) → j ≤ r → r ≤ c → c < j + k → is_small (e r c) ≡ true) → form_small (form_from e j k) ≡ true
 form_all_small e j zero h = refl
-form_all_small e j (suc k) h = both (is_small (e j j)) (all_small (list_from (e j) (suc j) k) && form_small (form_from e (suc j) k)) (h j j (omega arith) (omega arith) (omega arith))
-    (both (all_small (list_from (e j) (suc j) k)) (form_small (form_from e (suc j) k)) (list_small (e j) (suc j) k (λ c a b. h j c (omega arith) (omega arith) (omega arith)))
+form_all_small e j (suc k) h = and_from (is_small (e j j)) (all_small (list_from (e j) (suc j) k) && form_small (form_from e (suc j) k)) (h j j (omega arith) (omega arith) (omega arith))
+    (and_from (all_small (list_from (e j) (suc j) k)) (form_small (form_from e (suc j) k)) (list_small (e j) (suc j) k (λ c a b. h j c (omega arith) (omega arith) (omega arith)))
     (form_all_small e (suc j) k (λ r c a b d. h r c (omega arith) (omega arith) (omega arith))))
 
 pub form_wide : (e : ℕ → ℕ → ℤ) (j k r c : ℕ) → j ≤ r → r ≤ c → c < j + k → is_small (e r c) ≡ false → form_small (form_from e j k) ≡ false
 form_wide e j zero r c a b d h = absurd (omega arith)
 form_wide e j (suc k) r c a b d h = ⊎_elim
     (λ (i : j ≡ r). right_or (subst (λ (m : ℕ). is_small (e m c) ≡ false) (sym i) h) (subst (λ (m : ℕ). m ≤ c) (sym i) b))
-    (λ (i : suc j ≤ r). right_false own (others && rest) (right_false others rest (form_wide e (suc j) k r c i b (omega arith) h))) (order j r a)
+    (λ (i : suc j ≤ r). and_right own (others && rest) (and_right others rest (form_wide e (suc j) k r c i b (omega arith) h))) (eq-or-lt_of_le a)
   where
     own : Bool
     own = is_small (e j j)
@@ -48,12 +36,9 @@ form_wide e j (suc k) r c a b d h = ⊎_elim
     rest : Bool
     rest = form_small (form_from e (suc j) k)
 
-    order : (j c : ℕ) → j ≤ c → (j ≡ c) ⊎ (suc j ≤ c)
-    order j c a = grind arith
-
     right_or : is_small (e j c) ≡ false → j ≤ c → (own && (others && rest)) ≡ false
-    right_or g l = ⊎_elim (λ (i : j ≡ c). left_false own (others && rest) (subst (λ (m : ℕ). is_small (e j m) ≡ false) (sym i) g))
-        (λ (i : suc j ≤ c). right_false own (others && rest) (left_false others rest (list_wide (e j) (suc j) k c i (omega arith) g))) (order j c l)
+    right_or g l = ⊎_elim (λ (i : j ≡ c). and_left own (others && rest) (subst (λ (m : ℕ). is_small (e j m) ≡ false) (sym i) g))
+        (λ (i : suc j ≤ c). and_right own (others && rest) (and_left others rest (list_wide (e j) (suc j) k c i (omega arith) g))) (eq-or-lt_of_le l)
 
 pub small_size : (x : ℤ) → is_small x ≡ true → unsigned_abs x ≤ 2 ^ 62
 small_size x e = omega (arith, ltb-true)

@@ -1,9 +1,9 @@
 -- One step of the elimination, by its tests.
-use Rattle.std.proofs.Common.{◌≡◌, ℕ, suc, ◌+◌, ◌<◌, ◌≤◌, ◌^◌, Bool, true, false, int_lt, List, ℤ, pos, ◌<ℤ◌, Result, Ok, Err, unsigned_abs, arith, sym, ap, ap₂, ◌∙◌, refl, subst}
+use Rattle.std.proofs.Common.{◌≡◌, ℕ, suc, ◌+◌, ◌<◌, ◌≤◌, ◌^◌, Bool, true, false, int_lt, List, ℤ, pos, ◌<ℤ◌, Ok, Err, unsigned_abs, arith, sym, ap, ap₂, ◌∙◌, refl, subst}
 use Rattle.std.proofs.lemmas.Int.{ints}
 use Rattle.whole_math.specs.Vectors.{len}
 use Rattle.quadratic_form.specs.Forms.{Column}
-use Rattle.quadratic_form.specs.Elimination.{factors, kept, next, Factor, Refusal, weak, wide_factor, wide_entry, all_small, form_small, step}
+use Rattle.quadratic_form.specs.Elimination.{factors, kept, next, Factor, Refusal, weak, wide_factor, wide_entry, all_small, form_small, step, StepAnswer}
 use Rattle.quadratic_form.specs.Places.{list_from, form_from}
 use Rattle.quadratic_form.proofs.Places.{list_factors, form_next, len_list}
 use Rattle.form_tables.specs.Tables.{entry}
@@ -13,17 +13,14 @@ use Rattle.elimination.proofs.NewEntries.{new_own, new_other}
 use Rattle.elimination.proofs.NewRows.{word, read}
 use Rattle.elimination.proofs.SmallEntries.{list_small}
 
-abbrev Answer : Type 0
-Answer = Result (Factor × List Column) Refusal
+abbrev last : Factor × List Column → Bool → StepAnswer
+last p b = elim b as (λ x. StepAnswer) [ false ↦ Err wide_entry | true ↦ Ok p ]
 
-abbrev last : Factor × List Column → Bool → Answer
-last p b = elim b as (λ x. Answer) [ false ↦ Err wide_entry | true ↦ Ok p ]
+abbrev second : Factor × List Column → Bool → Bool → StepAnswer
+second p b d = elim b as (λ x. StepAnswer) [ false ↦ Err wide_factor | true ↦ last p d ]
 
-abbrev second : Factor × List Column → Bool → Bool → Answer
-second p b d = elim b as (λ x. Answer) [ false ↦ Err wide_factor | true ↦ last p d ]
-
-abbrev first : Refusal → Factor × List Column → Bool → Bool → Bool → Answer
-first e p b d g = elim b as (λ x. Answer) [ true ↦ Err e | false ↦ second p d g ]
+abbrev first : Refusal → Factor × List Column → Bool → Bool → Bool → StepAnswer
+first e p b d g = elim b as (λ x. StepAnswer) [ true ↦ Err e | false ↦ second p d g ]
 
 pub step_tests : (j : ℕ) (c : Column) (m : List Column) (b d : Bool) → int_lt c.own (pos (2 ^ 20)) ≡ false → all_small (factors (unsigned_abs c.own) c.others) ≡ b →
     form_small (next (unsigned_abs c.own) (len c.others) c.others m) ≡ d →

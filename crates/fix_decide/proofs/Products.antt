@@ -3,7 +3,7 @@ use Rattle.std.proofs.Common.{◌≡◌, ℕ, ◌*◌, ◌^◌, ◌≤◌, [], �
 use Rattle.std.proofs.lemmas.Int.{ints}
 use Rattle.std.specs.Int.{w64, w128}
 use Rattle.whole_math.proofs.Ring.{◌⊕◌, ◌⊖◌, ◌⊗◌}
-use Rattle.whole_math.proofs.Inequalities.{le_by, both_nn, prod_nn, less_nn, pos_one, nat}
+use Rattle.whole_math.proofs.Inequalities.{le_by, both_nn, prod_nn, less_nn, pos_one, nat, pos_nn}
 use Rattle.fix_decide.proofs.Words.{small_w64, small_w128}
 
 -- a share k of n rows, and a sum g of gaps
@@ -18,10 +18,7 @@ one_share k n h g l = le_by (k ∷ n ∷ []) (λ k n. (k, nat (2 ^ 32), (nat (2 
 -- k g ≤ k n 2^72 ≤ 2^104
 product_below : (k g n : ℤ) → pos 0 ≤ℤ k → (k *ℤ n) ≤ℤ pos (2 ^ 32) → g ≤ℤ (n *ℤ pos (2 ^ 72)) → (k *ℤ g) ≤ℤ pos (2 ^ 104)
 product_below k g n h l m = le_by (k ∷ g ∷ n ∷ []) (λ k g n. (k ⊗ g, nat (2 ^ 104), k ⊗ (n ⊗ nat (2 ^ 72) ⊖ g) ⊕ (nat (2 ^ 32) ⊖ k ⊗ n) ⊗ nat (2 ^ 72))) refl
-    (both_nn (prod_nn h (less_nn m)) (prod_nn (less_nn l) (nat_nn (2 ^ 72))))
-  where
-    nat_nn : (n : ℕ) → pos 0 ≤ℤ pos n
-    nat_nn n = omega (arith, ints)
+    (both_nn (prod_nn h (less_nn m)) (prod_nn (less_nn l) (pos_nn (2 ^ 72))))
 
 pub weighted : (k g : ℤ) (n : ℕ) → 1 ≤ n → n ≤ 15 → pos 0 ≤ℤ k → (k *ℤ pos n) ≤ℤ pos (2 ^ 32) → pos 0 ≤ℤ g → g ≤ℤ pos (n * 2 ^ 72) → Weighted k g
 weighted k g n some few from share_to g_from g_to =

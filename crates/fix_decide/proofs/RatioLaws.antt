@@ -1,17 +1,17 @@
 -- No sum of squares is below 0, so what is best by a ratio of 1000 or more is strictly best.
-use Rattle.std.proofs.Common.{◌≡◌, ◌≢◌, ℕ, ◌*◌, ◌≤◌, ◌<◌, List, [], ◌∷◌, length, ℤ, pos, ◌+ℤ◌, ◌*ℤ◌, ◌≤ℤ◌, ◌<ℤ◌, mul-pos, arith, sym, ap, refl, subst}
-use Rattle.whole_math.specs.Vectors.{len, sum, squared_norm}
-use Rattle.whole_math.proofs.Order.{lins, mul_le_cancel}
+use Rattle.std.proofs.Common.{◌≡◌, ◌≢◌, ℕ, ◌*◌, ◌≤◌, ◌<◌, List, [], ◌∷◌, length, ℤ, pos, ◌*ℤ◌, ◌≤ℤ◌, ◌<ℤ◌, mul-pos, arith, sym, refl, subst}
+use Rattle.whole_math.proofs.Order.{lins, mul_le_cancel, le_pos}
 use Rattle.whole_math.proofs.Ring.{◌⊕◌, ◌⊖◌, ◌⊗◌}
 use Rattle.whole_math.proofs.Inequalities.{le_by, both_nn, prod_nn, less_nn, pos_nn, pos_one, later, strict, nat}
-use Rattle.rational.specs.Rational.{Rational, of_whole, mul_r}
-use Rattle.rational.specs.Over.{Over, AreOver, HasCommonDenominator}
-use Rattle.rational.proofs.Over.{over_zero, over_add, over_sub, over_mul, over_times, common}
+use Rattle.rational.specs.Rational.{Rational}
+use Rattle.rational.specs.Over.{Over, HasCommonDenominator}
+use Rattle.rational.proofs.Over.{common}
 use Rattle.quadratic_form.specs.Spread.{spread}
 use Rattle.quadratic_form.specs.Rows.{SignalGroup, GroupsOf}
-use Rattle.quadratic_form.specs.RationalData.{RowData, Baseline, residuals, sum_of_rationals, squared_norm_of_rationals, spread_of_rationals, sum_of_squares as group_sum}
+use Rattle.quadratic_form.specs.RationalData.{RowData, Baseline, residuals, spread_of_rationals, sum_of_squares as group_sum}
 use Rattle.quadratic_form.proofs.Spread.{spread_nonneg}
 use Rattle.quadratic_form.proofs.UpperSum.{share_nonneg}
+use Rattle.quadratic_form.proofs.RationalData.{spread_over}
 use Rattle.obs_rows.specs.declared.arcs.Arc.{Arc}
 use Rattle.obs_rows.specs.declared.pair_rows.PairRows.{PairRows}
 use Rattle.obs_rows.specs.declared.sessions.Session.{Session}
@@ -24,31 +24,6 @@ use Rattle.obs_rows.proofs.GroupLaws.{sum_is}
 use Rattle.obs_rows.proofs.GroupShapes.{groups_of}
 use Rattle.fix_decide.specs.Ratios.{IsLessByRatio, IsBestByRatio}
 use Rattle.fix_decide.proofs.DecisionLaws.{less_by_1000, signals_of}
-
--- ---- a spread over one denominator
-sum_over : (k : ℤ) (t : List ℤ) (s : List Rational) → AreOver k t s → Over k (sum t) (sum_of_rationals s)
-sum_over k [] [] h = over_zero k
-sum_over k [] (q ∷ s) h = absurd h
-sum_over k (n ∷ t) [] h = absurd h
-sum_over k (n ∷ t) (q ∷ s) h = over_add k n (sum t) q (sum_of_rationals s) h.0 (sum_over k t s h.1)
-
-norm_over : (k : ℤ) (t : List ℤ) (s : List Rational) → AreOver k t s → Over (k *ℤ k) (squared_norm t) (squared_norm_of_rationals s)
-norm_over k [] [] h = over_zero (k *ℤ k)
-norm_over k [] (q ∷ s) h = absurd h
-norm_over k (n ∷ t) [] h = absurd h
-norm_over k (n ∷ t) (q ∷ s) h = over_add (k *ℤ k) (n *ℤ n) (squared_norm t) (mul_r q q) (squared_norm_of_rationals s) (over_mul k k n n q q h.0 h.0) (norm_over k t s h.1)
-
-len_over : (k : ℤ) (t : List ℤ) (s : List Rational) → AreOver k t s → len t ≡ len s
-len_over k [] [] h = refl
-len_over k [] (q ∷ s) h = absurd h
-len_over k (n ∷ t) [] h = absurd h
-len_over k (n ∷ t) (q ∷ s) h = ap (λ m. pos 1 +ℤ m) (len_over k t s h.1)
-
-spread_over : (k : ℤ) (t : List ℤ) (s : List Rational) → AreOver k t s → Over (k *ℤ k) (spread t) (spread_of_rationals s)
-spread_over k t s h = over_sub (k *ℤ k) (len t *ℤ squared_norm t) (sum t *ℤ sum t) (mul_r (of_whole (len s)) (squared_norm_of_rationals s)) (mul_r (sum_of_rationals s) (sum_of_rationals s))
-    (subst (λ (n : ℤ). Over (k *ℤ k) (len t *ℤ squared_norm t) (mul_r (of_whole n) (squared_norm_of_rationals s))) (len_over k t s h)
-    (over_times (k *ℤ k) (len t) (squared_norm t) (squared_norm_of_rationals s) (norm_over k t s h)))
-    (over_mul k k (sum t) (sum t) (sum_of_rationals s) (sum_of_rationals s) (sum_over k t s h) (sum_over k t s h))
 
 -- ---- signs
 -- n / k has the sign of n
@@ -74,11 +49,8 @@ sum_from arcs ss pairs z b observed held = subst (λ (q : Rational). pos 0 ≤�
 
 -- ---- orders
 pub less_by_more : (ratio : ℕ) (f g : Rational) → 1000 ≤ ratio → pos 0 ≤ℤ f.num → IsLessByRatio ratio f g → IsLessByRatio 1000 f g
-less_by_more ratio f g large from less = step (pos ratio) f.num (pos g.den) (pos 1000 *ℤ g.num *ℤ pos f.den) (at_least ratio large) from (pos_nn g.den) less
+less_by_more ratio f g large from less = step (pos ratio) f.num (pos g.den) (pos 1000 *ℤ g.num *ℤ pos f.den) (le_pos 1000 ratio large) from (pos_nn g.den) less
   where
-    at_least : (n : ℕ) → 1000 ≤ n → pos 1000 ≤ℤ pos n
-    at_least n h = omega (arith, lins)
-
     step : (r n e m : ℤ) → pos 1000 ≤ℤ r → pos 0 ≤ℤ n → pos 0 ≤ℤ e → (r *ℤ n *ℤ e) <ℤ m → (pos 1000 *ℤ n *ℤ e) <ℤ m
     step r n e m h g i k = strict (pos_one 1 (omega arith)) (le_by (r ∷ n ∷ e ∷ m ∷ []) (λ r n e m. (nat 1000 ⊗ n ⊗ e ⊕ nat 1, m, (m ⊖ (r ⊗ n ⊗ e ⊕ nat 1)) ⊕ (r ⊖ nat 1000) ⊗ (n ⊗ e))) refl
         (both_nn (less_nn (later k)) (prod_nn (less_nn h) (prod_nn g i))))

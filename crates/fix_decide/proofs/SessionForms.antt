@@ -1,23 +1,23 @@
 -- What is known of the form of a session and of its two least vectors.
-use Rattle.std.proofs.Common.{◌≡◌, ℕ, suc, ◌+◌, ◌-◌, ◌*◌, ◌^◌, ◌<◌, ◌≤◌, true, false, Bool, cond, lit≤, List, length, ℤ, pos, ◌<ℤ◌, Result, Ok, Err, arith, sym, ap, ◌∙◌, subst, unsigned_abs, All, take, min}
+use Rattle.std.proofs.Common.{◌≡◌, ℕ, suc, ◌+◌, ◌-◌, ◌^◌, ◌<◌, ◌≤◌, true, false, Bool, cond, lit≤, List, length, ℤ, pos, ◌<ℤ◌, Ok, Err, arith, sym, ap, ◌∙◌, subst, unsigned_abs, All, take, min, ◌≤ℤ◌, mul-pos}
 use Rattle.std.specs.Prelude.{◌==◌}
 use Rattle.std.proofs.lemmas.List.{get_or_default, get_or-take, length-take}
+use Rattle.std.proofs.lemmas.Int.{ints}
 use Rattle.whole_math.specs.Vectors.{len, zeros}
 use Rattle.whole_math.proofs.Vectors.{len_is}
 use Rattle.whole_math.proofs.Order.{lins}
 use Rattle.quadratic_form.specs.Forms.{Column}
-use Rattle.quadratic_form.specs.Elimination.{Factor, Refusal, wide_entry, form_small, steps}
+use Rattle.quadratic_form.specs.Elimination.{Factor, wide_entry, form_small, steps, StepsAnswer}
 use Rattle.quadratic_form.specs.TwoLeast.{TwoLeast}
 use Rattle.quadratic_form.proofs.LowerSums.{small_second}
+use Rattle.quadratic_form.proofs.MatrixEntries.{length_zeros}
 use Rattle.obs_rows.specs.declared.bands.Signals.{Signals}
 use Rattle.obs_rows.specs.declared.sessions.Session.{Session}
 use Rattle.obs_rows.specs.declared.units.TheConstants.{SIGNALS_12, SIGNALS_15, SIGNALS_125}
-use Rattle.obs_rows.specs.Arcs.{free_count}
 use Rattle.obs_rows.specs.Ranges.{IsBelow}
 use Rattle.form_tables.specs.Tables.{entry}
 use Rattle.obs_rows.specs.Signals.{fine_signals, counted, phases}
 use Rattle.obs_rows.specs.Integers.{integer_count}
-use Rattle.obs_rows.proofs.IntegerPlaces.{length_zeros}
 use Rattle.integer_form.specs.declared.form.Form.{Form}
 use Rattle.integer_form.specs.Factors.{stored}
 use Rattle.integer_form.specs.Forms.{integers_of, columns_of, value_of}
@@ -33,11 +33,9 @@ use Rattle.int_search.specs.Answers.{IsTwoBest}
 use Rattle.fix_decide.specs.Decisions.{IsFormOf, first_of, second_of}
 
 -- ---- the bound over all data
-abbrev Answer : Type 0
-Answer = Result (List Factor × List Column) Refusal
 
 -- an answer that isn't refused is that of the steps
-taken : (r : Answer) (b : Bool) (p : List Factor × List Column) → elim b as (λ x. Answer) [ true ↦ r | false ↦ Err wide_entry ] ≡ Ok p → r ≡ Ok p
+pub taken : (r : StepsAnswer) (b : Bool) (p : List Factor × List Column) → elim b as (λ x. StepsAnswer) [ true ↦ r | false ↦ Err wide_entry ] ≡ Ok p → r ≡ Ok p
 taken r true p e = e
 taken r false p e = absurd (apart e)
   where
@@ -69,13 +67,13 @@ some_phases signals = by_l5 (signals.l5 == 0)
     by_l5 false = by_l2 (signals.l2 == 0)
 
 some_integers : (s : Session) → 1 ≤ integer_count s.arcs (fine_signals s.signals)
-some_integers s = product (length (phases (fine_signals s.signals))) (free_count s.arcs) (some_phases s.signals) s.arcs_in.some_free
-  where
-    product : (m n : ℕ) → 1 ≤ m → 1 ≤ n → 1 ≤ m * n
-    product m n h g = grind arith
+some_integers s = mul-pos (some_phases s.signals) s.arcs_in.some_free
 
 -- ---- the second value is below 2^54
-one_less : (n : ℕ) → 1 ≤ n → n ≡ suc (n - 1)
+pub second_fits : (x : ℤ) → x <ℤ pos (2 ^ 54) → x ≤ℤ pos (2 ^ 62)
+second_fits x h = omega (arith, ints)
+
+pub one_less : (n : ℕ) → 1 ≤ n → n ≡ suc (n - 1)
 one_less n h = omega arith
 
 -- a form that has integers

@@ -1,11 +1,11 @@
 -- The upper sum over rows is that of their signal groups, and bounds the sum of squares for all data.
-use Rattle.std.proofs.Common.{◌≡◌, ℕ, ◌^◌, List, [], ◌∷◌, ◌++◌, length, map, ℤ, pos, neg_ℤ, ◌+ℤ◌, ◌-ℤ◌, ◌*ℤ◌, ◌≤ℤ◌, arith, sym, ap₂, ◌∙◌, refl, pow_pos}
+use Rattle.std.proofs.Common.{◌≡◌, ℕ, ◌^◌, List, [], ◌∷◌, ◌++◌, length, map, ℤ, pos, neg_ℤ, ◌+ℤ◌, ◌-ℤ◌, ◌*ℤ◌, ◌≤ℤ◌, arith, sym, ap₂, ◌∙◌, refl, pow_pos, ◌<◌, ◌≤◌, ◌+◌, ◌*◌}
 use Rattle.std.proofs.lemmas.List.{length-map}
+use Rattle.std.proofs.Math.IntN.{+ℤ_assoc, +ℤ_idl}
+use Rattle.std.proofs.lemmas.Int.{ints}
 use Rattle.whole_math.specs.Vectors.{sum, dot}
 use Rattle.whole_math.specs.Rounding.{floor_div}
 use Rattle.whole_math.proofs.Order.{lins}
-use Rattle.whole_math.proofs.Ring.{◌⊕◌, ◌⊗◌, ng}
-use Rattle.whole_math.proofs.Inequalities.{same_by}
 use Rattle.whole_math.proofs.Rounding.{ceil_close}
 use Rattle.rational.specs.Rational.{Rational, of_whole, ◌≤ʳ◌}
 use Rattle.rational.proofs.Laws.{≤ʳ_trans, of_whole-le}
@@ -16,24 +16,20 @@ use Rattle.obs_rows.specs.declared.arcs.Arc.{Arc}
 use Rattle.obs_rows.specs.declared.rows.Row.{Row}
 use Rattle.obs_rows.specs.declared.pair_rows.PairRows.{PairRows}
 use Rattle.obs_rows.specs.Signals.{cycle}
-use Rattle.obs_rows.specs.Integers.{integer_count, integer_place, integer}
+use Rattle.obs_rows.specs.Integers.{integer_count, integer}
 use Rattle.obs_rows.specs.Data.{Observed, number_at, AreData}
 use Rattle.obs_rows.specs.SumOfSquares.{share, sum_of_squares}
 use Rattle.obs_rows.specs.Best.{moved}
 use Rattle.obs_rows.specs.SignalGroups.{cycles, signal_row, signal_group, signal_groups, group_data, whole_move}
-use Rattle.obs_rows.proofs.IntegerPlaces.{place_below, dot_only_at}
-use Rattle.obs_rows.proofs.GroupLaws.{sum_is, data_fit}
+use Rattle.obs_rows.proofs.GroupLaws.{sum_is, data_fit, cycles_give}
 use Rattle.obs_rows.proofs.SessionLaws.{groups_of_vector}
+use Rattle.obs_rows.specs.declared.limits.TheConstants.{MOST_PAIRS}
 use Rattle.fix_decide.specs.Reaches.{gap, gaps_from, gaps}
 use Rattle.fix_decide.specs.UpperSums.{scalar_product, centre, rad, reach_of, signal_upper, upper_sum, top}
 use Rattle.fix_decide.specs.Bounds.{StaysAtMost}
 use Rattle.fix_decide.proofs.Radii.{number-sizes}
 
 -- ---- one row
-cycles_give : (arcs : List Arc) (ss : List ℕ) (s : ℕ) (z : List ℤ) (r : Row) → neg_ℤ (cycle s *ℤ integer arcs ss z r.arc s) ≡ dot (cycles arcs ss s r) z
-cycles_give arcs ss s z r =
-    same_by (cycle s ∷ integer arcs ss z r.arc s ∷ []) (λ c n. (ng (c ⊗ n), ng c ⊗ n)) refl
-    ∙ sym (dot_only_at (integer_count arcs ss) (integer_place arcs ss r.arc s) (neg_ℤ (cycle s)) z (place_below arcs ss r.arc s))
 
 less : (a b c : ℤ) → neg_ℤ b ≡ c → a -ℤ b ≡ a +ℤ c
 less a b c e = omega (arith, lins)
@@ -66,17 +62,12 @@ signal_is : (arcs : List Arc) (ss : List ℕ) (z m : List ℤ) (p : PairRows) (s
 signal_is arcs ss z m p s = ap₂ (λ (n : ℕ) (g : ℤ). share n s *ℤ g) (sym (length-map p.rows (signal_row arcs ss s))) (gaps_are arcs ss z m s p.rows)
 
 -- ---- all pairs
-three : (a b c : ℤ) → (a +ℤ b) +ℤ c ≡ a +ℤ (b +ℤ c)
-three a b c = same_by (a ∷ b ∷ c ∷ []) (λ a b c. ((a ⊕ b) ⊕ c, a ⊕ (b ⊕ c))) refl
 
 sum_of_pair : (arcs : List Arc) (ss : List ℕ) (z m : List ℤ) (p : PairRows) (signals : List ℕ) (rest : ℤ) (gs : List SignalGroup) → rest ≡ group_sum z (whole_move m) gs →
     sum (map (signal_upper arcs ss z m p) signals) +ℤ rest ≡ group_sum z (whole_move m) (map (signal_group arcs ss p) signals ++ gs)
-sum_of_pair arcs ss z m p [] rest gs e = zero_first rest ∙ e
-  where
-    zero_first : (x : ℤ) → pos 0 +ℤ x ≡ x
-    zero_first x = omega (arith, lins)
+sum_of_pair arcs ss z m p [] rest gs e = +ℤ_idl rest ∙ e
 sum_of_pair arcs ss z m p (s ∷ signals) rest gs e =
-    three (signal_upper arcs ss z m p s) (sum (map (signal_upper arcs ss z m p) signals)) rest
+    +ℤ_assoc (signal_upper arcs ss z m p s) (sum (map (signal_upper arcs ss z m p) signals)) rest
     ∙ ap₂ (λ x y. x +ℤ y) (signal_is arcs ss z m p s) (sum_of_pair arcs ss z m p signals rest gs e)
 
 pub upper_sum_is : (arcs : List Arc) (ss : List ℕ) (pairs : List PairRows) (z m : List ℤ) → upper_sum arcs ss pairs z m ≡ group_sum z (whole_move m) (signal_groups arcs ss pairs)
@@ -102,3 +93,12 @@ top_stays_at_most h arcs ss pairs z m e = record {
   where
     wider : (q : Rational) (u t : ℤ) → q ≤ʳ of_whole u → u ≤ℤ t → q ≤ʳ of_whole t
     wider q u t h k = ≤ʳ_trans q (of_whole u) (of_whole t) h (of_whole-le u t k)
+
+-- ---- sizes
+-- with one pair more the sum stays small, where each adds at most 2^107
+pub few_pairs : (k n : ℕ) → k < n → n ≤ MOST_PAIRS → (k + 1) * 2 ^ 107 ≤ 2 ^ 125
+few_pairs k n h g = omega arith
+
+-- a sum within its bound fits a word
+pub top_fits : (x : ℤ) → x ≤ℤ pos (2 ^ 119) → x ≤ℤ pos (2 ^ 126)
+top_fits x h = omega (arith, ints)

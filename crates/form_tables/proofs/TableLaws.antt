@@ -1,5 +1,5 @@
 -- What a table of zeros has.
-use Rattle.std.proofs.Common.{◌≡◌, ℕ, zero, suc, [], pos, get_or, replicate, refl}
+use Rattle.std.proofs.Common.{◌≡◌, ℕ, zero, suc, [], pos, get_or, replicate, refl, unsigned_abs, ◌<◌, ◌^◌, ap, ◌∙◌, arith, ℤ, List}
 use Rattle.std.proofs.lemmas.List.{length-replicate, get_or-replicate}
 use Rattle.form_tables.specs.Tables.{entry, HasShape, zero_rows}
 
@@ -17,3 +17,10 @@ pub zero_entry : (n k i j : ℕ) → entry (zero_rows n k) i j ≡ pos 0
 zero_entry zero k i j = refl
 zero_entry (suc n) k zero j = zero_item k j
 zero_entry (suc n) k (suc i) j = zero_entry n k i j
+
+pub all_zero : (n k : ℕ) (t : List (List ℤ)) → t ≡ zero_rows n k → (i j : ℕ) → entry t i j ≡ pos 0
+all_zero n k t zeros i j = ap (λ (t : List (List ℤ)). entry t i j) zeros ∙ zero_entry n k i j
+
+-- 0 is a small entry
+pub zero_small : unsigned_abs (pos 0) < 2 ^ 52
+zero_small = omega arith

@@ -1,10 +1,9 @@
 -- The numbers of an integer form, as the search reads them.
 use Rattle.std.proofs.Common.{◌≡◌, ℕ, zero, suc, ◌+◌, ◌-◌, ◌<◌, ◌≤◌, ◌^◌, List, [], ◌∷◌, ◌++◌, length, get_or, drop, ℤ, pos, ◌*ℤ◌, ◌≤ℤ◌, unsigned_abs, arith, refl, ap, ap₂, sym, ◌∙◌, subst}
-use Rattle.std.proofs.lemmas.Int.{ints}
 use Rattle.whole_math.specs.Vectors.{dot}
 use Rattle.quadratic_form.specs.Elimination.{Factor}
 use Rattle.quadratic_form.specs.Places.{list_from}
-use Rattle.quadratic_form.specs.LowerSums.{lower_sum, Small}
+use Rattle.quadratic_form.specs.LowerSums.{lower_sum}
 use Rattle.quadratic_form.proofs.Ranges.{steps_range}
 use Rattle.form_tables.specs.Tables.{entry}
 use Rattle.integer_form.specs.declared.form.Form.{Form}
@@ -13,6 +12,7 @@ use Rattle.integer_form.specs.Kept.{constant_form}
 use Rattle.integer_form.specs.Forms.{integers_of, columns_of, value_of, factors_of}
 use Rattle.integer_form.proofs.FormLaws.{lower_sums_below}
 use Rattle.elimination.proofs.FinishLaws.{small_form}
+use Rattle.elimination.proofs.TableLaws.{size}
 use Rattle.int_search.specs.Suffixes.{IsSearchable, low, rest, weight, no_factor}
 use Rattle.int_search.specs.Vectors.{suffix}
 use Rattle.int_search.specs.SearchedForm.{search_form}
@@ -37,10 +37,7 @@ get_stored d l columns j (suc n) (suc i) other h = get_stored d l columns (suc j
 
 -- ---- what the entries of p leave is small
 g_small : (f : Form) → unsigned_abs f.g < 2 ^ 52
-g_small f = within f.g (steps_range 3 (integers_of f) (columns_of f) (factors_of f, constant_form f.g) f.eliminated (small_form (entry f.p) 0 (f.columns - 3) f.entries_in)).1.0
-  where
-    within : (g : ℤ) → Small g → unsigned_abs g < 2 ^ 52
-    within g s = let a = s.0 in let b = s.1 in omega (arith, ints)
+g_small f = size f.g (steps_range 3 (integers_of f) (columns_of f) (factors_of f, constant_form f.g) f.eliminated (small_form (entry f.p) 0 (f.columns - 3) f.entries_in)).1.0
 
 -- ---- the form is one that can be searched
 pub searchable : (f : Form) → 4 < f.columns → IsSearchable (search_form f)

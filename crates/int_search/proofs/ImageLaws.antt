@@ -2,8 +2,10 @@
 use Rattle.std.proofs.Common.{◌≡◌, ◌≢◌, ◌⊎◌, inl, inr, ◌^◌, lit<, unsigned_abs, subst, ℕ, zero, suc, ◌+◌, ◌<◌, ◌≤◌, List, [], ◌∷◌, length, get_or, drop, take, ℤ, pos, ◌+ℤ◌, ◌*ℤ◌, arith}
 use Rattle.std.proofs.Common.{refl, ap, ap₂, sym, ◌∙◌, add-one, length-take, set, below_more, get_or-set_same, get_or-set_other}
 use Rattle.std.proofs.lemmas.Int.{ints}
+use Rattle.std.proofs.lemmas.Bool.{cases_lt, cases_eq}
 use Rattle.whole_math.specs.Vectors.{dot}
 use Rattle.quadratic_form.specs.Maps.{apply}
+use Rattle.quadratic_form.proofs.LowerSums.{dot_nil}
 use Rattle.form_tables.specs.Matrices.{EntriesBelow}
 use Rattle.form_tables.specs.Tables.{entry, HasShape}
 use Rattle.int_search.specs.Vectors.{suffix}
@@ -22,10 +24,6 @@ drop_at r k h = let e : k + 1 ≡ suc k = add-one k in rw e (go r k h)
 pub product_step : (r z : List ℤ) (k n : ℕ) → k < n → n ≤ length z → n ≤ length r →
     dot (drop k r) (suffix z k n) ≡ (get_or r k (pos 0) *ℤ get_or z k (pos 0)) +ℤ dot (drop (k + 1) r) (suffix z (k + 1) n)
 product_step r z k n h g m = ap₂ (λ u v. dot u v) (drop_at r k (omega arith)) (suffix-cons z k n h g)
-
-pub dot_nil : (r : List ℤ) → dot r [] ≡ pos 0
-dot_nil [] = refl
-dot_nil (x ∷ r) = refl
 
 pub product_end : (r z : List ℤ) (n : ℕ) → dot (drop n r) (suffix z n n) ≡ pos 0
 product_end r z n = ap (λ v. dot (drop n r) v) (suffix-none z n n (omega arith)) ∙ dot_nil (drop n r)
@@ -82,14 +80,8 @@ dot_unit (x ∷ r) (y ∷ v) (suc i) h g e o = step x y (dot r v) (get_or v i (p
 
 -- 1 on the diagonal up to place n, and 0 elsewhere
 pub identity_entries : (m : List (List ℤ)) (n : ℕ) → ((k : ℕ) → k < n → entry m k k ≡ pos 1) → ((k j : ℕ) → (k ≢ j) ⊎ (n ≤ k) → entry m k j ≡ pos 0) → EntriesBelow (2 ^ 30) m
-identity_entries m n own others k j = by_cases (apart k j) (past n k)
+identity_entries m n own others k j = by_cases (cases_eq k j) (cases_lt k n)
   where
-    apart : (k j : ℕ) → (k ≡ j) ⊎ (k ≢ j)
-    apart k j = grind arith
-
-    past : (n k : ℕ) → (k < n) ⊎ (n ≤ k)
-    past n k = grind arith
-
     zero_small : entry m k j ≡ pos 0 → unsigned_abs (entry m k j) < 2 ^ 30
     zero_small e = rw e (lit< tt)
 

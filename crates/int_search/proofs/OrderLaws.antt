@@ -1,14 +1,12 @@
 -- The order of vectors is a chain, and what an offered vector does to the two best.
 use Rattle.std.proofs.Common.{◌≡◌, inl, inr, List, ℤ, ◌<ℤ◌, ◌≤ℤ◌, arith, sym, ◌∙◌, subst}
 use Rattle.whole_math.proofs.Order.{lins}
+use Rattle.whole_math.proofs.Inequalities.{weak, le_eq}
 use Rattle.quadratic_form.specs.Rows.{value}
-use Rattle.quadratic_form.proofs.VectorOrder.{before_chain, before_never}
+use Rattle.quadratic_form.proofs.VectorOrder.{before_chain, before_never, chain}
 use Rattle.int_search.specs.Suffixes.{SearchForm}
 use Rattle.int_search.specs.Order.{IsLess}
 use Rattle.int_search.specs.Search.{IsSettled}
-
-chain : (a b c : ℤ) → a <ℤ b → b <ℤ c → a <ℤ c
-chain a b c h k = omega (arith, lins)
 
 pub less_chain : (f : SearchForm) (m : List ℤ → List ℤ) (u v w : List ℤ) → IsLess f m u v → IsLess f m v w → IsLess f m u w
 less_chain f m u v w (inl h) (inl k) = inl (chain (value f.p u) (value f.p v) (value f.p w) h k)
@@ -17,14 +15,8 @@ less_chain f m u v w (inr h) (inl k) = inl (subst (λ (t : ℤ). t <ℤ value f.
 less_chain f m u v w (inr h) (inr k) = inr (h.0 ∙ k.0, before_chain (m u) (m v) (m w) h.1 k.1)
 
 pub less_le : (f : SearchForm) (m : List ℤ → List ℤ) (v w : List ℤ) → IsLess f m v w → value f.p v ≤ℤ value f.p w
-less_le f m v w (inl h) = weaker (value f.p v) (value f.p w) h
-  where
-    weaker : (a b : ℤ) → a <ℤ b → a ≤ℤ b
-    weaker a b h = omega (arith, lins)
-less_le f m v w (inr h) = same (value f.p v) (value f.p w) h.0
-  where
-    same : (a b : ℤ) → a ≡ b → a ≤ℤ b
-    same a b h = omega (arith, lins)
+less_le f m v w (inl h) = weak h
+less_le f m v w (inr h) = le_eq h.0
 
 pub less_apart : (f : SearchForm) (m : List ℤ → List ℤ) (v w : List ℤ) → IsLess f m v w → v ≡ w → ⊥
 less_apart f m v w h e = never (subst (λ (u : List ℤ). IsLess f m v u) (sym e) h)

@@ -1,10 +1,10 @@
 -- The search in the coordinates of a map that has an inverse.
-use Rattle.std.proofs.Common.{◌≡◌, ◌⊎◌, inl, inr, ⊎_elim, ℕ, ◌+◌, ◌-◌, ◌<◌, ◌≤◌, ◌^◌, List, [], ◌∷◌, length, take, ℤ, pos, ◌<ℤ◌, ◌≤ℤ◌, arith, refl, sym, ap, ◌∙◌, subst, Result, Ok}
+use Rattle.std.proofs.Common.{◌≡◌, ◌⊎◌, inl, inr, ⊎_elim, ℕ, ◌+◌, ◌-◌, ◌<◌, ◌≤◌, ◌^◌, List, [], ◌∷◌, length, take, ℤ, pos, ◌<ℤ◌, ◌≤ℤ◌, arith, refl, sym, ap, ◌∙◌, subst, Ok}
 use Rattle.whole_math.specs.Vectors.{len}
 use Rattle.whole_math.proofs.Vectors.{len_is}
 use Rattle.whole_math.proofs.Order.{lins}
 use Rattle.quadratic_form.specs.Forms.{Column}
-use Rattle.quadratic_form.specs.Elimination.{Factor, Refusal, steps}
+use Rattle.quadratic_form.specs.Elimination.{Factor, steps, StepsAnswer}
 use Rattle.quadratic_form.specs.Rows.{value}
 use Rattle.quadratic_form.specs.Maps.{apply, Inverse}
 use Rattle.quadratic_form.specs.Places.{form_from}
@@ -137,7 +137,7 @@ own_of : List Column → ℤ
 own_of [] = pos 0
 own_of (c ∷ a) = c.own
 
-ok_same : (p q : List Factor × List Column) → (let x : Result (List Factor × List Column) Refusal = Ok p in x) ≡ Ok q → p ≡ q
+ok_same : (p q : List Factor × List Column) → (let x : StepsAnswer = Ok p in x) ≡ Ok q → p ≡ q
 ok_same p q e = cc
 
 forms_same : (a b : ℕ) (x y : List Factor) (g h : ℤ) (p q : List Column) → a ≡ b → x ≡ y → g ≡ h → p ≡ q →
@@ -148,7 +148,7 @@ forms_same a b x y g h p q i j k l = ap (λ (z : ℕ). let s : SearchForm = reco
     ∙ ap (λ (z : List Column). let s : SearchForm = record { size = b; factors = y; g = h; p = z } in s) l
 
 search_same : (f r : Form) (u : Unimodular) (n : ℕ) (c : HasCountIn f n u.map) → IsDecorrelated f r u →
-    (let x : Result (List Factor × List Column) Refusal = Ok (c.factors, constant_form c.g) in x) ≡ Ok (factors_of r, constant_form r.g) →
+    (let x : StepsAnswer = Ok (c.factors, constant_form c.g) in x) ≡ Ok (factors_of r, constant_form r.g) →
     search_form r ≡ decorrelated f u.map c.factors c.g
 unfolding own_of
 search_same f r u n c d e =
@@ -172,7 +172,7 @@ apart : (x y : ℤ) → x <ℤ y → y ≤ℤ x → ⊥
 apart x y h g = omega (arith, lins)
 
 pub reduced_fault : (f r : Form) (u : Unimodular) (n : ℕ) (fault : SearchFault) (c : HasCountIn f n u.map) → IsDecorrelated f r u →
-    (let x : Result (List Factor × List Column) Refusal = Ok (c.factors, constant_form c.g) in x) ≡ Ok (factors_of r, constant_form r.g) →
+    (let x : StepsAnswer = Ok (c.factors, constant_form c.g) in x) ≡ Ok (factors_of r, constant_form r.g) →
     IsFault (search_form r) (search_image r u.map) n fault → ⊥
 reduced_fault f r u n Spent c d e h = c.counted (subst (λ (s : SearchForm). IsOver s n) (search_same f r u n c d e) h)
 reduced_fault f r u n Overwidth c d e h = wide (subst (λ (s : SearchForm). IsTooWide s (search_image r u.map) n) (search_same f r u n c d e) h)

@@ -7,38 +7,35 @@ use Rattle.quadratic_form.specs.Places.{list_from}
 use Rattle.int_search.specs.Levels.{tail_of}
 use Rattle.int_search.specs.Vectors.{suffix}
 
-unfoldable cut : List ℤ → ℕ → ℕ → List ℤ
-cut z i n = drop i (take n z)
-
-cut_cons : (z : List ℤ) (i n : ℕ) → i < n → n ≤ length z → cut z i n ≡ get_or z i (pos 0) ∷ cut z (suc i) n
-unfolding cut
+cut_cons : (z : List ℤ) (i n : ℕ) → i < n → n ≤ length z → suffix z i n ≡ get_or z i (pos 0) ∷ suffix z (suc i) n
+unfolding suffix
 cut_cons z i zero h k = absurd (omega arith)
 cut_cons [] i (suc n) h k = absurd (omega arith)
 cut_cons (x ∷ z) zero (suc n) h k = refl
 cut_cons (x ∷ z) (suc i) (suc n) h k = cut_cons z i n (omega arith) (omega arith)
 
-cut_none : (z : List ℤ) (n i : ℕ) → n ≤ i → cut z i n ≡ []
-unfolding cut
-cut_none z zero zero h = refl
-cut_none z zero (suc i) h = refl
-cut_none z (suc n) zero h = absurd (omega arith)
-cut_none [] (suc n) (suc i) h = refl
-cut_none (x ∷ z) (suc n) (suc i) h = cut_none z n i (omega arith)
+pub suffix-none : (z : List ℤ) (i n : ℕ) → n ≤ i → suffix z i n ≡ []
+unfolding suffix
+suffix-none z zero zero h = refl
+suffix-none z (suc i) zero h = refl
+suffix-none z zero (suc n) h = absurd (omega arith)
+suffix-none [] (suc i) (suc n) h = refl
+suffix-none (x ∷ z) (suc i) (suc n) h = suffix-none z i n (omega arith)
 
-cut_set : (z : List ℤ) (i n : ℕ) (x : ℤ) → i < n → n ≤ length z → cut (set z i x) i n ≡ x ∷ cut z (suc i) n
-unfolding cut
+cut_set : (z : List ℤ) (i n : ℕ) (x : ℤ) → i < n → n ≤ length z → suffix (set z i x) i n ≡ x ∷ suffix z (suc i) n
+unfolding suffix
 cut_set z i zero x h k = absurd (omega arith)
 cut_set [] i (suc n) x h k = absurd (omega arith)
 cut_set (y ∷ z) zero (suc n) x h k = refl
 cut_set (y ∷ z) (suc i) (suc n) x h k = cut_set z i n x (omega arith) (omega arith)
 
-cut_above : (z : List ℤ) (i k n : ℕ) (x : ℤ) → i < k → cut (set z i x) k n ≡ cut z k n
-unfolding cut
-cut_above z i zero n x h = absurd (omega arith)
-cut_above [] i (suc k) n x h = refl
-cut_above (y ∷ z) i (suc k) zero x h = refl
-cut_above (y ∷ z) zero (suc k) (suc n) x h = refl
-cut_above (y ∷ z) (suc i) (suc k) (suc n) x h = cut_above z i k n x (omega arith)
+pub suffix-above : (z : List ℤ) (i k n : ℕ) (x : ℤ) → i < k → suffix (set z i x) k n ≡ suffix z k n
+unfolding suffix
+suffix-above z i zero n x h = absurd (omega arith)
+suffix-above [] i (suc k) n x h = refl
+suffix-above (y ∷ z) i (suc k) zero x h = refl
+suffix-above (y ∷ z) zero (suc k) (suc n) x h = refl
+suffix-above (y ∷ z) (suc i) (suc k) (suc n) x h = suffix-above z i k n x (omega arith)
 
 drop_tail : (l : List ℤ) (i : ℕ) → tail_of (drop i l) ≡ drop (suc i) l
 drop_tail [] zero = refl
@@ -47,20 +44,12 @@ drop_tail (x ∷ l) zero = refl
 drop_tail (x ∷ l) (suc i) = drop_tail l i
 
 pub suffix-cons : (z : List ℤ) (i n : ℕ) → i < n → n ≤ length z → suffix z i n ≡ get_or z i (pos 0) ∷ suffix z (i + 1) n
-unfolding suffix cut
+unfolding suffix
 suffix-cons z i n h k = let e : i + 1 ≡ suc i = add-one i in rw e (cut_cons z i n h k)
 
-pub suffix-none : (z : List ℤ) (i n : ℕ) → n ≤ i → suffix z i n ≡ []
-unfolding suffix cut
-suffix-none z i n h = cut_none z n i h
-
 pub suffix-set : (z : List ℤ) (i n : ℕ) (x : ℤ) → i < n → n ≤ length z → suffix (set z i x) i n ≡ x ∷ suffix z (i + 1) n
-unfolding suffix cut
+unfolding suffix
 suffix-set z i n x h k = let e : i + 1 ≡ suc i = add-one i in rw e (cut_set z i n x h k)
-
-pub suffix-above : (z : List ℤ) (i k n : ℕ) (x : ℤ) → i < k → suffix (set z i x) k n ≡ suffix z k n
-unfolding suffix cut
-suffix-above z i k n x h = cut_above z i k n x h
 
 pub suffix-tail : (z : List ℤ) (i n : ℕ) → tail_of (suffix z i n) ≡ suffix z (i + 1) n
 unfolding suffix

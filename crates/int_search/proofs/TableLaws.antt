@@ -1,5 +1,6 @@
 -- A value written at its place in a table and across the diagonal.
-use Rattle.std.proofs.Common.{◌≡◌, ◌≢◌, ◌⊎◌, inl, inr, ⊎_elim, ℕ, ◌<◌, List, ℤ, unsigned_abs, arith, sym, ◌∙◌, subst, ap₂}
+use Rattle.std.proofs.Common.{◌≡◌, ◌≢◌, ◌⊎◌, inl, inr, ⊎_elim, ℕ, ◌<◌, List, ℤ, unsigned_abs, sym, ◌∙◌, subst, ap₂}
+use Rattle.std.proofs.lemmas.Bool.{cases_eq}
 use Rattle.form_tables.specs.Tables.{entry}
 use Rattle.form_tables.specs.Matrices.{EntriesBelow}
 
@@ -9,20 +10,17 @@ pub record IsSetBoth (old p : List (List ℤ)) (r c : ℕ) (x : ℤ) : Type 0 wh
   pub across : entry p c r ≡ x
   pub others : (i j : ℕ) → (i ≢ r) ⊎ (j ≢ c) → (i ≢ c) ⊎ (j ≢ r) → entry p i j ≡ entry old i j
 
-decide : (a b : ℕ) → (a ≡ b) ⊎ (a ≢ b)
-decide a b = grind arith
-
 pub set_twice : (old mid new : List (List ℤ)) (r c : ℕ) (x : ℤ) → entry mid r c ≡ x → ((i j : ℕ) → (i ≢ r) ⊎ (j ≢ c) → entry mid i j ≡ entry old i j) → entry new c r ≡ x →
     ((i j : ℕ) → (i ≢ c) ⊎ (j ≢ r) → entry new i j ≡ entry mid i j) → IsSetBoth old new r c x
 set_twice old mid new r c x a o b q = record {
-  there = ⊎_elim (λ (e : r ≡ c). subst (λ (k : ℕ). entry new r k ≡ x) e (subst (λ (k : ℕ). entry new k r ≡ x) (sym e) b)) (λ (d : r ≢ c). q r c (inl d) ∙ a) (decide r c);
+  there = ⊎_elim (λ (e : r ≡ c). subst (λ (k : ℕ). entry new r k ≡ x) e (subst (λ (k : ℕ). entry new k r ≡ x) (sym e) b)) (λ (d : r ≢ c). q r c (inl d) ∙ a) (cases_eq r c);
   across = b;
   others = λ i j h g. q i j g ∙ o i j h;
 }
 
 -- an entry is one of the two, or as before
 pub by_place : (old p : List (List ℤ)) (r c i j : ℕ) (x : ℤ) → IsSetBoth old p r c x → (((i ≡ r) × (j ≡ c)) ⊎ ((i ≡ c) × (j ≡ r))) ⊎ ((entry p i j ≡ entry old i j) × (entry p j i ≡ entry old j i))
-by_place old p r c i j x s = go (decide i r) (decide j c) (decide i c) (decide j r)
+by_place old p r c i j x s = go (cases_eq i r) (cases_eq j c) (cases_eq i c) (cases_eq j r)
   where
     same : (i ≢ r) ⊎ (j ≢ c) → (i ≢ c) ⊎ (j ≢ r) → (entry p i j ≡ entry old i j) × (entry p j i ≡ entry old j i)
     same h g = (s.others i j h g, s.others j i (swap g) (swap h))

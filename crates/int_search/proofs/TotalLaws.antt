@@ -1,5 +1,5 @@
 -- Sums over places: of sums, of multiples, and in either order.
-use Rattle.std.proofs.Common.{ℕ, zero, suc, ◌≡◌, ◌+◌, ◌<◌, ◌≤◌, [], ◌∷◌, ℤ, pos, ◌+ℤ◌, ◌*ℤ◌, arith, sym, ap, ap₂, ◌∙◌, refl}
+use Rattle.std.proofs.Common.{ℕ, zero, suc, ◌≡◌, ◌+◌, ◌<◌, ◌≤◌, [], ◌∷◌, ℤ, pos, ◌+ℤ◌, ◌*ℤ◌, arith, sym, ap, ap₂, ◌∙◌, refl, add-one}
 use Rattle.whole_math.proofs.Inequalities.{same_by, nat}
 use Rattle.whole_math.proofs.Ring.{◌⊕◌, ◌⊗◌}
 use Rattle.whole_math.specs.Vectors.{dot}
@@ -24,11 +24,8 @@ total_times x f a zero = same_by (x ∷ []) (λ x. (nat 0, x ⊗ nat 0)) refl
 total_times x f a (suc k) = ap (λ z. (x *ℤ f a) +ℤ z) (total_times x f (suc a) k) ∙ same_by (x ∷ f a ∷ total f (suc a) k ∷ []) (λ x y s. (x ⊗ y ⊕ x ⊗ s, x ⊗ (y ⊕ s))) refl
 
 pub total_last : (f : ℕ → ℤ) (a k : ℕ) → total f a (k + 1) ≡ total f a k +ℤ f (a + k)
-total_last f a k = ap (total f a) (one k) ∙ more f a k
+total_last f a k = ap (total f a) (add-one k) ∙ more f a k
   where
-    one : (k : ℕ) → k + 1 ≡ suc k
-    one k = omega arith
-
     more : (f : ℕ → ℤ) (a k : ℕ) → total f a (suc k) ≡ total f a k +ℤ f (a + k)
     more f a zero = ap (λ c. f c +ℤ pos 0) (omega arith) ∙ same_by (f (a + 0) ∷ []) (λ x. (x ⊕ nat 0, nat 0 ⊕ x)) refl
     more f a (suc k) = ap (λ z. f a +ℤ z) (more f (suc a) k ∙ ap (λ c. total f (suc a) k +ℤ f c) (omega arith))

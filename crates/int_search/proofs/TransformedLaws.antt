@@ -1,5 +1,5 @@
 -- The form in the coordinates of a map has at each vector the value that the form has at its image.
-use Rattle.std.proofs.Common.{ℕ, zero, suc, nat_lt, nat_eq, false, ◌≡◌, ◌⊎◌, inl, inr, ⊎_elim, ◌+◌, ◌<◌, ◌≤◌, List, [], ◌∷◌, ◌++◌, length, get_or, ℤ, pos, ◌+ℤ◌, ◌*ℤ◌, arith, sym}
+use Rattle.std.proofs.Common.{ℕ, zero, suc, nat_lt, nat_eq, false, ◌≡◌, ◌⊎◌, inl, inr, ⊎_elim, ◌+◌, ◌<◌, ◌≤◌, List, [], ◌∷◌, ◌++◌, length, get_or, ℤ, pos, ◌+ℤ◌, ◌*ℤ◌, arith, sym, zero-add}
 use Rattle.std.proofs.Common.{ap, ap₂, ◌∙◌, refl, length-append}
 use Rattle.std.proofs.lemmas.Bool.{lt-ltb, eq-eqb}
 use Rattle.whole_math.proofs.Inequalities.{same_by, nat}
@@ -92,21 +92,15 @@ image_before : (n : ℕ) (m : ℕ → ℕ → ℤ) (z : List ℤ) (b : ℕ) → 
 image_before n m z b e h = total_last (λ j. with_constant n m b j *ℤ with_one z j) 0 n
     ∙ ap₂ (λ x y. x +ℤ y) (total_same (λ j. with_constant n m b j *ℤ with_one z j) (λ j. m b j *ℤ get_or z j (pos 0)) 0 n
     (λ j i g. ap₂ (λ x y. x *ℤ y) (inside n m b j h (omega arith)) (one_before n z j e (omega arith))))
-    (ap (λ c. with_constant n m b c *ℤ with_one z c) (plain n) ∙ ap (λ x. x *ℤ with_one z n) (beside n m b h))
+    (ap (λ c. with_constant n m b c *ℤ with_one z c) (zero-add n) ∙ ap (λ x. x *ℤ with_one z n) (beside n m b h))
     ∙ same_by (total (λ j. m b j *ℤ get_or z j (pos 0)) 0 n ∷ with_one z n ∷ []) (λ s x. (s ⊕ nat 0 ⊗ x, s)) refl
-  where
-    plain : (n : ℕ) → 0 + n ≡ n
-    plain n = omega arith
 
 image_last : (n : ℕ) (m : ℕ → ℕ → ℤ) (z : List ℤ) → length z ≡ n → image n m (with_one z) n ≡ pos 1
 image_last n m z e = total_last (λ j. with_constant n m n j *ℤ with_one z j) 0 n
     ∙ ap₂ (λ x y. x +ℤ y) (total_zero (λ j. with_constant n m n j *ℤ with_one z j) 0 n
     (λ j i g. ap (λ x. x *ℤ with_one z j) (below n m j (omega arith)) ∙ same_by (with_one z j ∷ []) (λ x. (nat 0 ⊗ x, nat 0)) refl))
-    (ap (λ c. with_constant n m n c *ℤ with_one z c) (plain n) ∙ ap₂ (λ x y. x *ℤ y) (corner n m) (one_last n z e))
+    (ap (λ c. with_constant n m n c *ℤ with_one z c) (zero-add n) ∙ ap₂ (λ x y. x *ℤ y) (corner n m) (one_last n z e))
     ∙ same_by [] (nat 0 ⊕ nat 1 ⊗ nat 1, nat 1) refl
-  where
-    plain : (n : ℕ) → 0 + n ≡ n
-    plain n = omega arith
 
 images : (n : ℕ) (m : ℕ → ℕ → ℤ) (z v : List ℤ) → length z ≡ n → length v ≡ n → ((b : ℕ) → b < n → get_or v b (pos 0) ≡ total (λ j. m b j *ℤ get_or z j (pos 0)) 0 n) →
     (b : ℕ) → b < n + 1 → image n m (with_one z) b ≡ with_one v b

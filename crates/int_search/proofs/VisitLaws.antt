@@ -1,9 +1,10 @@
 -- What is open comes no earlier than the suffix that a search visits next, so it comes to that one after the visits that it has made.
-use Rattle.std.proofs.Common.{◌≡◌, ◌⊎◌, inl, inr, ℕ, ◌<◌, ◌≤◌, ◌^◌, List, [], ◌∷◌, ◌++◌, length, get_or, ℤ, pos, ◌+ℤ◌, ◌*ℤ◌, neg_ℤ, ◌<ℤ◌, ◌≤ℤ◌, arith, refl, ap, sym, ◌∙◌, subst, unsigned_abs}
+use Rattle.std.proofs.Common.{◌≡◌, ◌⊎◌, inl, inr, ℕ, ◌<◌, ◌≤◌, ◌^◌, List, [], ◌∷◌, ◌++◌, length, get_or, ℤ, pos, ◌+ℤ◌, ◌*ℤ◌, neg_ℤ, ◌<ℤ◌, ◌≤ℤ◌, arith, refl, ap, sym, ◌∙◌, subst, unsigned_abs, le_refl, not-le_of_lt}
 use Rattle.std.proofs.Common.{length-append, append_assoc}
 use Rattle.std.specs.List.{Contains}
 use Rattle.std.proofs.lemmas.Int.{ints}
 use Rattle.whole_math.proofs.Order.{polys}
+use Rattle.whole_math.proofs.Inequalities.{le_trans_ℤ}
 use Rattle.quadratic_form.specs.Rows.{value}
 use Rattle.int_search.specs.Suffixes.{SearchForm, offset, rest, low}
 use Rattle.int_search.specs.PlainCount.{IsWithin, Counts, HasLarge, top}
@@ -69,11 +70,6 @@ inside : (a b g : List ℤ) (x y z : ℤ) (t u : List ℤ) → a ++ (x ∷ t) �
 inside a b g x y z t u e i = same_heads (a ++ (x ∷ g)) b z y u (append_assoc a (x ∷ g) (z ∷ u) ∙ ap (λ l. a ++ (x ∷ l)) (sym i) ∙ e)
 
 -- ---- no suffix that comes before is open
-self : (n : ℕ) → n ≤ n
-self n = omega arith
-
-below_itself : (a b : ℕ) → a < b → b ≤ a → ⊥
-below_itself a b h k = omega arith
 
 closed_at : (f : SearchForm) (b : Level) (t q s more : List ℤ) (y : ℤ) → IsLevel f b t → b.down <ℤ y → y <ℤ b.up → s ≡ more ++ (y ∷ t) → IsBefore f q s → IsOpenAt b t q → ⊥
 closed_at f b t q s more y k h g e (inl w) o =
@@ -91,12 +87,12 @@ closed_at f b t q s more y k h g e (inr w) o = go (ends w.near_front o.front w.n
         subst (λ (z : ℤ). unsigned_abs (offset f o.head t) < unsigned_abs (offset f z t)) far
         (subst (λ (z : ℤ). unsigned_abs (offset f z t) < unsigned_abs (offset f w.far t)) m.heads
         (subst (λ (l : List ℤ). unsigned_abs (offset f w.near l) < unsigned_abs (offset f w.far l)) m.tails w.nearer)) in
-        below_itself (unsigned_abs (offset f o.head t)) (unsigned_abs (offset f y t)) near (taken_nearer f b t y o.head k h g o.free)
+        not-le_of_lt near (taken_nearer f b t y o.head k h g o.free)
     go (inr (inl m)) = between_not_free b y h g (along_free b o.head y (inside w.far_front more m.0 w.far y o.head w.same t both m.1) o.free)
     go (inr (inr m)) =
         let near : w.near ≡ w.far = inside more w.far_front m.0 y w.far w.near t w.same (sym both) m.1 in
-        below_itself (unsigned_abs (offset f w.near w.same)) (unsigned_abs (offset f w.near w.same))
-        (subst (λ (z : ℤ). unsigned_abs (offset f w.near w.same) < unsigned_abs (offset f z w.same)) (sym near) w.nearer) (self (unsigned_abs (offset f w.near w.same)))
+        not-le_of_lt
+        (subst (λ (z : ℤ). unsigned_abs (offset f w.near w.same) < unsigned_abs (offset f z w.same)) (sym near) w.nearer) (le_refl (unsigned_abs (offset f w.near w.same)))
 
 closed_below : (f : SearchForm) (r : List Level) (t q s more : List ℤ) → AreUnder f r t → s ≡ more ++ t → IsBefore f q s → IsOpen r (tail_of t) q → ⊥
 closed_below f [] t q s more u e w o = o
@@ -125,12 +121,12 @@ closed_first f a s q x c k n e (inr w) o = go (ends w.near_front o.front w.near 
         subst (λ (z : ℤ). unsigned_abs (offset f o.head s) < unsigned_abs (offset f z s)) far
         (subst (λ (z : ℤ). unsigned_abs (offset f z s) < unsigned_abs (offset f w.far s)) m.heads
         (subst (λ (l : List ℤ). unsigned_abs (offset f w.near l) < unsigned_abs (offset f w.far l)) m.tails w.nearer)) in
-        below_itself (unsigned_abs (offset f o.head s)) (unsigned_abs (offset f x s)) near (chosen_nearer f a s x c o.head k n e o.free)
+        not-le_of_lt near (chosen_nearer f a s x c o.head k n e o.free)
     go (inr (inl m)) = too_long w.far_front m.0 w.far o.head (ap (λ l. w.far_front ++ (w.far ∷ l)) (sym m.1) ∙ both)
     go (inr (inr m)) =
         let near : w.near ≡ w.far = inside [] w.far_front m.0 x w.far w.near s w.same (sym both) m.1 in
-        below_itself (unsigned_abs (offset f w.near w.same)) (unsigned_abs (offset f w.near w.same))
-        (subst (λ (z : ℤ). unsigned_abs (offset f w.near w.same) < unsigned_abs (offset f z w.same)) (sym near) w.nearer) (self (unsigned_abs (offset f w.near w.same)))
+        not-le_of_lt
+        (subst (λ (z : ℤ). unsigned_abs (offset f w.near w.same) < unsigned_abs (offset f z w.same)) (sym near) w.nearer) (le_refl (unsigned_abs (offset f w.near w.same)))
 
 closed_before : (f : SearchForm) (a : Level) (r : List Level) (s q : List ℤ) (x c : ℤ) → AreLevels f (a ∷ r) s → IsNearest a c → offset f x s ≡ c → IsBefore f q (x ∷ s) → IsOpen (a ∷ r) s q → ⊥
 closed_before f a r s q x c k n e w (inl o) = closed_first f a s q x c k.0 n e w o
@@ -140,11 +136,8 @@ closed_before f a r s q x c k n e w (inr o) = closed_below f r s q (x ∷ s) (x 
 second_bound : (f : SearchForm) (im : List ℤ → List ℤ) (one two : List ℤ) (p : ℤ) → length one ≡ f.size → length two ≡ f.size → IsLess f im one two → IsUpToSecond f p → p ≤ℤ value f.p two
 second_bound f im one two p g h o u = go (u.each one two g h (less_apart f im one two o))
   where
-    chain : (a b c : ℤ) → a ≤ℤ b → b ≤ℤ c → a ≤ℤ c
-    chain a b c l m = omega (arith, ints)
-
     go : (p ≤ℤ value f.p one) ⊎ (p ≤ℤ value f.p two) → p ≤ℤ value f.p two
-    go (inl l) = chain p (value f.p one) (value f.p two) l (less_le f im one two o)
+    go (inl l) = le_trans_ℤ l (less_le f im one two o)
     go (inr l) = l
 
 pub next_reached : (f : SearchForm) (im : List ℤ → List ℤ) (a : Level) (r : List Level) (x c : ℤ) (s one two : List ℤ) (n m : ℕ) → IsSearch f im (a ∷ r) s one two n → IsNearest a c →

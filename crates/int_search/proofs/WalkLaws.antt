@@ -1,5 +1,5 @@
 -- What a turn does to the state.
-use Rattle.std.proofs.Common.{◌≡◌, ℕ, suc, ◌+◌, ◌-◌, ◌*◌, ◌<◌, ◌≤◌, ◌^◌, List, [], ◌∷◌, length, get_or, set, drop, ℤ, pos, ◌+ℤ◌, ◌-ℤ◌, ◌*ℤ◌, neg_ℤ, ◌<ℤ◌, ◌≤ℤ◌, Bool, true, false, arith}
+use Rattle.std.proofs.Common.{◌≡◌, ℕ, ◌+◌, ◌-◌, ◌*◌, ◌<◌, ◌≤◌, ◌^◌, List, [], ◌∷◌, length, get_or, set, drop, ℤ, pos, ◌+ℤ◌, ◌-ℤ◌, ◌*ℤ◌, neg_ℤ, ◌<ℤ◌, ◌≤ℤ◌, Bool, true, false, arith, add-one}
 use Rattle.std.proofs.Common.{unsigned_abs, refl, ap, sym, ◌∙◌, subst, length-set}
 use Rattle.std.specs.Bool.{MatchBool}
 use Rattle.std.proofs.lemmas.Int.{ints}
@@ -38,10 +38,7 @@ latest_level f im w a h t = (focus f im w a h t).levels.0
 
 pub drop_length : {A : Type 0} (l : List A) → 0 < length l → length (drop 1 l) + 1 ≡ length l
 drop_length [] h = absurd (omega arith)
-drop_length (x ∷ l) h = add_one_of (length l)
-  where
-    add_one_of : (n : ℕ) → n + 1 ≡ suc n
-    add_one_of n = omega arith
+drop_length (x ∷ l) h = add-one (length l)
 
 -- ---- what is kept of the pivot of the latest level's integer
 pub record IsWeightHere (f : SearchForm) (w : SearchState) (d : ℤ) : Type 0 where

@@ -1,13 +1,14 @@
 -- The numbers of the columns, by places.
-use Rattle.std.proofs.Common.{◌≡◌, ◌⊎◌, ⊎_elim, ℕ, zero, suc, ◌+◌, ◌-◌, ◌^◌, ◌<◌, ◌≤◌, List, [], ◌∷◌, ◌++◌, length, take, ℤ, pos, ◌+ℤ◌, ◌*ℤ◌, unsigned_abs, arith, sym, ap, ap₂, ◌∙◌, refl, subst, add-zero, zero-add, suc-add}
+use Rattle.std.proofs.Common.{◌≡◌, ⊎_elim, ℕ, zero, suc, ◌+◌, ◌-◌, ◌^◌, ◌<◌, ◌≤◌, List, [], ◌∷◌, ◌++◌, length, take, ℤ, pos, ◌+ℤ◌, ◌*ℤ◌, unsigned_abs, arith, sym, ap, ap₂, ◌∙◌, refl, subst, add-zero, zero-add, suc-add}
+use Rattle.std.proofs.lemmas.Bool.{cases_lt}
 use Rattle.whole_math.specs.Vectors.{dot, scaled}
 use Rattle.whole_math.proofs.Vectors.{dot_last}
 use Rattle.quadratic_form.specs.Places.{list_from}
-use Rattle.quadratic_form.proofs.Places.{list_same, len_list}
+use Rattle.quadratic_form.proofs.Places.{list_same, len_list, later}
 use Rattle.form_tables.specs.Tables.{entry, item}
 use Rattle.integer_form.specs.Factors.{stored}
 use Rattle.integer_form.specs.FloatPoint.{next_number, solved, baseline_at, HasWide, HasWideBefore}
-use Rattle.integer_form.proofs.PlaceLaws.{list_last, list_whole, later}
+use Rattle.integer_form.proofs.PlaceLaws.{list_last, list_whole}
 
 -- ---- lists
 pub list_item : (f : ℕ → ℤ) (j k i : ℕ) → i < k → item (list_from f j k) i ≡ f (j + i)
@@ -109,7 +110,4 @@ narrow_three a b c x y z (suc (suc (suc i))) = omega arith
 -- ---- all numbers of a form, which stand in the list x
 pub float_item : (n : ℕ) (x s : List ℤ) → list_from (item x) 0 n ≡ s → ((i : ℕ) → n ≤ i → item x i ≡ pos 0) → (j : ℕ) → item x j ≡ item s j
 float_item n x s e h j = ⊎_elim (λ (l : j < n). sym (ap (λ (i : ℕ). item x i) (zero-add j)) ∙ sym (list_item (item x) 0 n j l) ∙ ap (λ (t : List ℤ). item t j) e)
-    (λ (l : n ≤ j). h j l ∙ sym (list_past (item x) 0 n j l) ∙ ap (λ (t : List ℤ). item t j) e) (either j n)
-  where
-    either : (j n : ℕ) → (j < n) ⊎ (n ≤ j)
-    either j n = grind arith
+    (λ (l : n ≤ j). h j l ∙ sym (list_past (item x) 0 n j l) ∙ ap (λ (t : List ℤ). item t j) e) (cases_lt j n)

@@ -1,7 +1,6 @@
 -- A refusal of the definition, and the fault that reports it.
-use Rattle.std.specs.Prelude.{◌≡◌, List, Result, Err}
-use Rattle.quadratic_form.specs.Forms.{Column}
-use Rattle.quadratic_form.specs.Elimination.{Factor, Refusal, weak, wide_factor, wide_entry}
+use Rattle.std.specs.Prelude.{◌≡◌, Err}
+use Rattle.quadratic_form.specs.Elimination.{Refusal, weak, wide_factor, wide_entry, StepsAnswer}
 use Rattle.integer_form.specs.declared.faults.Place.TheVariants.{Factor as PlaceOfFactor, Entry as PlaceOfEntry}
 use Rattle.integer_form.specs.declared.faults.LowerFault.{LowerFault}
 use Rattle.integer_form.specs.declared.faults.LowerFault.TheVariants.{Weak, Overwidth}
@@ -12,5 +11,5 @@ told wide_factor = Overwidth PlaceOfFactor
 told wide_entry = Overwidth PlaceOfEntry
 
 -- the answer is a refusal, and this fault reports it
-abbrev pub IsToldAs : LowerFault → Result (List Factor × List Column) Refusal → Type 0
+abbrev pub IsToldAs : LowerFault → StepsAnswer → Type 0
 IsToldAs fault answer = (refusal : Refusal) × ((answer ≡ Err refusal) × (fault ≡ told refusal))

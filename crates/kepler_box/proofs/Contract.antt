@@ -5,7 +5,7 @@ use Rattle.std.proofs.Math.Nat.{mul-pos}
 use Rattle.whole_math.proofs.Ring.{ring, va, ko, ◌⊖◌, ◌⊗◌}
 use Rattle.whole_math.proofs.Order.{lins, mul_le_right, le_pos, lt_pos}
 use Rattle.whole_math.proofs.Certificates.{cert, weak, nm}
-use Rattle.whole_math.proofs.Inequalities.{le_refl_ℤ, le_eq}
+use Rattle.whole_math.proofs.Inequalities.{le_refl_ℤ, le_eq, less_nn}
 use Rattle.rational.specs.Rational.{Rational, InBox, add_r, sub_r, mul_r, ◌≤ʳ◌, AreWithin, times, two_to_minus, IsNearBox, of_scale}
 use Rattle.trig_box.specs.AnglePairs.{IsAnglePair, InRange}
 use Rattle.trig_box.proofs.PairLaws.{canonical_exists, canonical_is_pair, sharp_law}
@@ -27,16 +27,13 @@ pub record IsSeen (x r lo hi : ℤ) (d mean other e angle c s t : Rational) : Ty
 positive_of : (x : Rational) → pos 0 <ℤ pos x.den
 positive_of x = lt_pos 0 x.den x.positive
 
-apart_nn : (a b : ℤ) → b ≤ℤ a → pos 0 ≤ℤ (a -ℤ b)
-apart_nn a b h = omega (arith, lins)
-
 pub above_is : (x r lo hi : ℤ) (d mean other e angle c s c' t : Rational) → IsSeen x r lo hi d mean other e angle c s t → IsAnglePair 5 (of_scale 56 x) c' t →
     (pos 15 *ℤ (((angle.num *ℤ pos (2 ^ 56)) -ℤ ((x +ℤ r) *ℤ pos angle.den)) *ℤ pos d.den)) ≤ℤ (pos 16 *ℤ (d.num *ℤ (pos angle.den *ℤ pos (2 ^ 56))))
 above_is x r lo hi d mean other e angle c s c' t g k = by_lt_z (angle.num *ℤ pos (2 ^ 56)) (x *ℤ pos angle.den)
     (λ l. upper_easy angle.num (pos angle.den) d.num (pos d.den) x r (weak _ _ l) g.radius (near_nn d mean other g.near) (weak _ _ (positive_of angle)) (weak _ _ (positive_of d)))
     (λ l.
     let z : ℤ = (angle.num *ℤ pos (2 ^ 56)) -ℤ (x *ℤ pos angle.den) in
-    let z0 : pos 0 ≤ℤ z = apart_nn (angle.num *ℤ pos (2 ^ 56)) (x *ℤ pos angle.den) l in
+    let z0 : pos 0 ≤ℤ z = less_nn l in
     let w : ℤ = pos angle.den *ℤ pos (2 ^ 56) in
     let far : Rational = record { num = z; den = angle.den * 2 ^ 56; positive = mul-pos angle.positive (pow_pos 56) } in
     let n : AreWithin far angle (of_scale 56 x) = (
@@ -55,7 +52,7 @@ below_is x r lo hi d mean other e angle c s c' t g k = by_lt_z (x *ℤ pos angle
     (λ l. lower_easy angle.num (pos angle.den) d.num (pos d.den) x r (weak _ _ l) g.radius (near_nn d mean other g.near) (weak _ _ (positive_of angle)) (weak _ _ (positive_of d)))
     (λ l.
     let z : ℤ = (x *ℤ pos angle.den) -ℤ (angle.num *ℤ pos (2 ^ 56)) in
-    let z0 : pos 0 ≤ℤ z = apart_nn (x *ℤ pos angle.den) (angle.num *ℤ pos (2 ^ 56)) l in
+    let z0 : pos 0 ≤ℤ z = less_nn l in
     let far : Rational = record { num = z; den = angle.den * 2 ^ 56; positive = mul-pos angle.positive (pow_pos 56) } in
     let n : AreWithin far angle (of_scale 56 x) = (
       back_near (x *ℤ pos angle.den) (angle.num *ℤ pos (2 ^ 56)) (pos angle.den *ℤ pos (2 ^ 56)) z0 (weak _ _ (lt_pos 0 (angle.den * 2 ^ 56) far.positive)),

@@ -1,6 +1,6 @@
 -- What the functions of the code need.
 use Rattle.std.proofs.Common.{◌≡◌, ◌*◌, ◌^◌, ◌≤◌, ℤ, pos, ◌+ℤ◌, ◌-ℤ◌, ◌*ℤ◌, neg_ℤ, ◌≤ℤ◌, ◌<ℤ◌, inl, inr, arith, sym, subst, refl, lit<, unsigned_abs}
-use Rattle.std.proofs.Common.{Result, Ok, Err, IsOk, IsErr, to_z, of_z}
+use Rattle.std.proofs.Common.{to_z, of_z}
 use Rattle.std.proofs.lemmas.Int.{ints}
 use Rattle.std.specs.Int.{w64}
 use Rattle.whole_math.proofs.Order.{lins, mul_le_right, abs_mul_le, lt_pos}
@@ -13,13 +13,11 @@ use Rattle.trig_box.proofs.PairLaws.{canonical_is_pair}
 use Rattle.kepler_box.specs.Steps.{IsStep, AreNear}
 use Rattle.iv_core.specs.Boxes.{least_corner, most_corner, Past}
 use Rattle.whole_math.proofs.Extremes.{least_case, most_case}
+use Rattle.whole_math.proofs.Inequalities.{le_refl_ℤ, le_trans_ℤ}
 use Rattle.kepler_box.proofs.Steps.{in_range}
 use Rattle.kepler_box.proofs.PartCertificates.{corner_high, corner_low}
 
 -- ---- results that are no refusals
-pub ok_of : {T E : Type 0} → (r : Result T E) → (IsErr r → ⊥) → IsOk r
-ok_of (Ok x) h = refl
-ok_of (Err x) h = absurd (h refl)
 
 corner_size : (e s : ℤ) → pos 0 ≤ℤ e → e ≤ℤ pos (2 ^ 55) → unsigned_abs s ≤ 2 ^ 61 → (neg_ℤ (pos (2 ^ 116)) ≤ℤ (e *ℤ s)) × ((e *ℤ s) ≤ℤ pos (2 ^ 116))
 corner_size e s h k l = go (e *ℤ s) (abs_mul_le e s (2 ^ 55) (2 ^ 61) (size e h k) l)
@@ -40,8 +38,8 @@ pub record IsSizedProduct (p q a b : ℤ) : Type 0 where
 -- the ends of the product, in units of 2^-56
 pub product_ends : (p q a b : ℤ) → IsSizedProduct p q a b → (neg_ℤ (pos (2 ^ 52)) ≤ℤ floor_div (least_corner p q a b) (2 ^ 64)) × (ceil_div (most_corner p q a b) (2 ^ 64) ≤ℤ pos (2 ^ 52))
 product_ends p q a b h =
-    let p1 = through p q (pos (2 ^ 55)) h.ordered h.e_high in
-    let q0 = through (pos 0) p q h.e_low h.ordered in
+    let p1 = le_trans_ℤ h.ordered h.e_high in
+    let q0 = le_trans_ℤ h.e_low h.ordered in
     let pa = corner_size p a h.e_low p1 h.a_size in
     let pb = corner_size p b h.e_low p1 h.b_size in
     let qa = corner_size q a q0 h.e_high h.a_size in
@@ -49,9 +47,6 @@ product_ends p q a b h =
       floor_greatest (least_corner p q a b) (neg_ℤ (pos (2 ^ 52))) (2 ^ 64) (lit< tt) (least_case (λ z. neg_ℤ (pos (2 ^ 116)) ≤ℤ z) (p *ℤ a) (p *ℤ b) (q *ℤ a) (q *ℤ b) pa.0 pb.0 qa.0 qb.0),
       ceil_least (most_corner p q a b) (pos (2 ^ 52)) (2 ^ 64) (lit< tt) (most_case (λ z. z ≤ℤ pos (2 ^ 116)) (p *ℤ a) (p *ℤ b) (q *ℤ a) (q *ℤ b) pa.1 pb.1 qa.1 qb.1),
     )
-  where
-    through : (a b c : ℤ) → a ≤ℤ b → b ≤ℤ c → a ≤ℤ c
-    through a b c h k = omega (arith, lins)
 
 pub product_fits : (p q a b : ℤ) → IsSizedProduct p q a b → Past (floor_div (least_corner p q a b) (2 ^ 64)) (ceil_div (most_corner p q a b) (2 ^ 64)) → ⊥
 product_fits p q a b h = let e = product_ends p q a b h in go (floor_div (least_corner p q a b) (2 ^ 64)) (ceil_div (most_corner p q a b) (2 ^ 64)) e.0 e.1
@@ -69,26 +64,15 @@ sum_fits p q a b ml mh pl ph h m0 m1 el eh = let e = product_ends p q a b h in g
     go m n l h m0 n0 i j (inr k) = omega (arith, ints)
 
 -- ---- boxes
-pub point_holds : (x l h : ℤ) → l ≡ x → h ≡ x → InBox 56 l h (of_scale 56 x)
-point_holds x l h e f = (
-  subst (λ (z : ℤ). (z *ℤ pos (2 ^ 56)) ≤ℤ (x *ℤ pos (2 ^ 56))) (sym e) (same (x *ℤ pos (2 ^ 56))),
-  subst (λ (z : ℤ). (x *ℤ pos (2 ^ 56)) ≤ℤ (z *ℤ pos (2 ^ 56))) (sym f) (same (x *ℤ pos (2 ^ 56))),
-)
-  where
-    same : (z : ℤ) → z ≤ℤ z
-    same z = omega (arith, lins)
 
 pub widen : (a b l h : ℤ) (s : Rational) → a ≤ℤ l → h ≤ℤ b → InBox 60 l h s → InBox 60 a b s
 widen a b l h s i j k = (
-  through (a *ℤ pos s.den) (l *ℤ pos s.den) (s.num *ℤ pos (2 ^ 60)) (mul_le_right (pos s.den) a l (den_nn s) i) k.0,
-  through (s.num *ℤ pos (2 ^ 60)) (h *ℤ pos s.den) (b *ℤ pos s.den) k.1 (mul_le_right (pos s.den) h b (den_nn s) j),
+  le_trans_ℤ (mul_le_right (pos s.den) a l (den_nn s) i) k.0,
+  le_trans_ℤ k.1 (mul_le_right (pos s.den) h b (den_nn s) j),
 )
   where
     den_nn : (s : Rational) → pos 0 ≤ℤ pos s.den
     den_nn s = weak (pos 0) (pos s.den) (lt_pos 0 s.den s.positive)
-
-    through : (a b c : ℤ) → a ≤ℤ b → b ≤ℤ c → a ≤ℤ c
-    through a b c h k = omega (arith, lins)
 
 -- ---- a step from a box of the sine
 pub record IsSineBox (x a b : ℤ) : Type 0 where
@@ -158,10 +142,10 @@ residual ml mh el eh m x a b fl fh r =
     let z0 = floor_le (el *ℤ t) (2 ^ 64) (lit< tt) in
     let z1 = lt_floor (el *ℤ t) (2 ^ 64) (lit< tt) in
     let w = r.settled (m +ℤ z) (step_is m el x a b t (m +ℤ z) r.sine mid.0 mid.1 mid.2 mid.3 refl) in
-    let e1 = through el eh (pos (2 ^ 55)) r.sized.ordered r.sized.e_high in
+    let e1 = le_trans_ℤ r.sized.ordered r.sized.e_high in
     let ab = sizes a b r.sized.a_size r.sized.b_size in
     let own = apart_self el in
-    let le = same el in
+    let le = le_refl_ℤ el in
     let most : most_corner el eh a b ≤ℤ ((el *ℤ t) +ℤ pos 18446744073709551616) = most_case (λ (y : ℤ). y ≤ℤ ((el *ℤ t) +ℤ pos 18446744073709551616)) (el *ℤ a) (el *ℤ b) (eh *ℤ a) (eh *ℤ b)
     (corner_high el eh el t a (under a t mid.0) own le r.sized.e_low e1 ab.1) (corner_high el eh el t b mid.3 own le r.sized.e_low e1 ab.3)
     (corner_high eh eh el t a (under a t mid.0) r.e_narrow r.sized.ordered r.sized.e_low e1 ab.1) (corner_high eh eh el t b mid.3 r.e_narrow r.sized.ordered r.sized.e_low e1 ab.3) in
@@ -174,12 +158,6 @@ residual ml mh el eh m x a b fl fh r =
   where
     middle : (a b t : ℤ) → (t *ℤ pos 2) ≤ℤ (a +ℤ b) → (a +ℤ b) <ℤ ((t *ℤ pos 2) +ℤ pos 2) → a ≤ℤ b → (b -ℤ a) ≤ℤ pos 512 → (a ≤ℤ t) × (t ≤ℤ b) × ((t -ℤ a) ≤ℤ pos 256) × ((b -ℤ t) ≤ℤ pos 256)
     middle a b t h k i j = (omega (arith, ints), omega (arith, ints), omega (arith, ints), omega (arith, ints))
-
-    through : (a b c : ℤ) → a ≤ℤ b → b ≤ℤ c → a ≤ℤ c
-    through a b c h k = omega (arith, lins)
-
-    same : (a : ℤ) → a ≤ℤ a
-    same a = omega (arith, lins)
 
     apart_self : (a : ℤ) → (a -ℤ a) ≤ℤ pos 2
     apart_self a = omega (arith, lins)

@@ -7,6 +7,7 @@ use Rattle.whole_math.proofs.Order.{lins, abs_mul_le, le_pos, lt_pos}
 use Rattle.whole_math.proofs.Certificates.{weak}
 use Rattle.whole_math.specs.Rounding.{floor_div}
 use Rattle.whole_math.proofs.Rounding.{floor_le, lt_floor}
+use Rattle.whole_math.proofs.Inequalities.{le_refl_ℤ, less_nn}
 use Rattle.rational.specs.Rational.{Rational, AreWithin, of_scale}
 use Rattle.trig_box.specs.AnglePairs.{InRange}
 use Rattle.trig_box.proofs.PairLaws.{canonical_exists, canonical_law}
@@ -79,20 +80,14 @@ record IsMagnitude (x y d : ℤ) : Type 0 where
 
 magnitude : (x y : ℤ) → (d : ℤ) × IsMagnitude x y d
 magnitude x y = by_lt_z x y
-    (λ l. (y -ℤ x, record { nn = up x y l; within = (up_other x y l, same (y -ℤ x)); either = inr refl }))
-    (λ l. (x -ℤ y, record { nn = down x y l; within = (same (x -ℤ y), down_other x y l); either = inl refl }))
+    (λ l. (y -ℤ x, record { nn = up x y l; within = (up_other x y l, le_refl_ℤ (y -ℤ x)); either = inr refl }))
+    (λ l. (x -ℤ y, record { nn = less_nn l; within = (le_refl_ℤ (x -ℤ y), down_other x y l); either = inl refl }))
   where
-    same : (z : ℤ) → z ≤ℤ z
-    same z = omega (arith, lins)
-
     up : (x y : ℤ) → x <ℤ y → pos 0 ≤ℤ (y -ℤ x)
     up x y h = omega (arith, lins)
 
     up_other : (x y : ℤ) → x <ℤ y → (x -ℤ y) ≤ℤ (y -ℤ x)
     up_other x y h = omega (arith, lins)
-
-    down : (x y : ℤ) → y ≤ℤ x → pos 0 ≤ℤ (x -ℤ y)
-    down x y h = omega (arith, lins)
 
     down_other : (x y : ℤ) → y ≤ℤ x → (y -ℤ x) ≤ℤ (x -ℤ y)
     down_other x y h = omega (arith, lins)
@@ -122,11 +117,8 @@ settled_end m e x h z q = let p = h z q in (go (z -ℤ x) p.0, go (x -ℤ z) p.1
 
 -- where a step changes nothing, each further step leads at most 2 units away
 pub settled_fixed : (m e x : ℤ) → pos 0 ≤ℤ e → e ≤ℤ pos (2 ^ 55) → InRange 5 (of_scale 56 x) → IsStep m e x x → (next : ℤ) → IsStep m e x next → AreNear (pos 3) next x
-settled_fixed m e x e0 e1 r p next q = let s = steps_shrink m e x x next x (pos 0) r r e0 e1 (zero_le (pos 0)) (own x) q p in (go (next -ℤ x) s.0, go (x -ℤ next) s.1)
+settled_fixed m e x e0 e1 r p next q = let s = steps_shrink m e x x next x (pos 0) r r e0 e1 (le_refl_ℤ (pos 0)) (own x) q p in (go (next -ℤ x) s.0, go (x -ℤ next) s.1)
   where
-    zero_le : (z : ℤ) → z ≤ℤ z
-    zero_le z = omega (arith, lins)
-
     own : (x : ℤ) → AreNear (pos 0) x x
     own x = (omega (arith, lins), omega (arith, lins))
 

@@ -1,5 +1,5 @@
 -- The own entries of a form, by their places.
-use Rattle.std.proofs.Common.{◌≡◌, ◌⊎◌, ⊎_elim, ℕ, zero, suc, ◌+◌, ◌^◌, ◌<◌, ◌≤◌, ℤ, pos, ◌*ℤ◌, ◌<ℤ◌, arith, subst, pow_pos}
+use Rattle.std.proofs.Common.{◌≡◌, ⊎_elim, ℕ, zero, suc, ◌+◌, ◌^◌, ◌<◌, ◌≤◌, ℤ, pos, ◌*ℤ◌, ◌<ℤ◌, arith, subst, pow_pos, eq-or-lt_of_le}
 use Rattle.whole_math.proofs.Order.{lt_pos}
 use Rattle.quadratic_form.specs.Places.{form_from}
 use Rattle.quadratic_form.specs.Lowering.{OwnBelow}
@@ -11,10 +11,7 @@ own_below e h j (suc k) b = (b j (omega arith) (omega arith), own_below e h (suc
 pub own_of : (e : ℕ → ℕ → ℤ) (h j k : ℕ) → OwnBelow h (form_from e j k) → (i : ℕ) → j ≤ i → i < j + k → (pos 63 *ℤ e i i) <ℤ pos (2 ^ (50 + h))
 own_of e h j zero b i f g = absurd (omega arith)
 own_of e h j (suc k) b i f g = ⊎_elim (λ (s : j ≡ i). subst (λ (m : ℕ). (pos 63 *ℤ e m m) <ℤ pos (2 ^ (50 + h))) s b.0) (λ (l : suc j ≤ i). own_of e h (suc j) k b.1 i l (omega arith))
-    (order j i f)
-  where
-    order : (j c : ℕ) → j ≤ c → (j ≡ c) ⊎ (suc j ≤ c)
-    order j c a = grind arith
+    (eq-or-lt_of_le f)
 
 pub power_above : (k : ℕ) → pos 0 <ℤ pos (2 ^ (50 + k))
 power_above k = lt_pos 0 (2 ^ (50 + k)) (pow_pos (50 + k))

@@ -1,6 +1,7 @@
 -- The entries of the first rounding are those of the form that bounds the sum of squares, rounded.
 use Rattle.std.proofs.Common.{◌≡◌, ℕ, zero, suc, ◌+◌, ◌-◌, ◌^◌, ◌<◌, ◌≤◌, Bool, true, false, nat_eq, nat_lt, cond, List, [], ◌∷◌, ◌++◌, length, ℤ, pos, negsuc, ◌+ℤ◌, ◌-ℤ◌, ◌*ℤ◌, slice_index_or, arith, sym, ap, ap₂, ◌∙◌, refl, subst}
 use Rattle.std.proofs.lemmas.Bool.Decides.{nat_tests}
+use Rattle.std.proofs.lemmas.Bool.{eq-eqb}
 use Rattle.whole_math.specs.Rounding.{floor_div, nearest_div}
 use Rattle.whole_math.specs.Vectors.{zeros}
 use Rattle.whole_math.proofs.Ring.{ko, ◌⊕◌, ◌⊖◌, ◌⊗◌}
@@ -13,13 +14,8 @@ use Rattle.quadratic_form.proofs.Places.{list_same, form_plus, form_times, form_
 use Rattle.form_tables.specs.Tables.{entry}
 use Rattle.normal_sum.specs.declared.normal.Normal.{Normal}
 use Rattle.normal_sum.specs.Values.{bounding_of}
+use Rattle.elimination.proofs.NewEntries.{apart}
 use Rattle.lower_form.specs.FirstRounding.{radius_at, own_bound, first_entry, first_form}
-
-same : (r : ℕ) → nat_eq r r ≡ true
-same r = grind (arith, nat_tests)
-
-apart : (r c : ℕ) → r < c → nat_eq r c ≡ false
-apart r c h = grind (arith, nat_tests)
 
 zero_list : (j k : ℕ) (f : ℕ → ℤ) → list_from (λ c. pos 0) (suc j) k ≡ zeros (length (list_from f (suc j) k))
 zero_list j zero f = refl
@@ -31,7 +27,7 @@ on_diagonal f r c = cond (nat_eq r c) (f r) (pos 0)
 diagonal_form : (f : ℕ → ℤ) (j k : ℕ) → form_from (on_diagonal f) j k ≡ diagonal (list_from f j k)
 diagonal_form f j zero = refl
 diagonal_form f j (suc k) =
-    ap (λ (x : ℤ). record { own = x; others = list_from (on_diagonal f j) (suc j) k } ∷ form_from (on_diagonal f) (suc j) k) (ap (λ (b : Bool). cond b (f j) (pos 0)) (same j))
+    ap (λ (x : ℤ). record { own = x; others = list_from (on_diagonal f j) (suc j) k } ∷ form_from (on_diagonal f) (suc j) k) (ap (λ (b : Bool). cond b (f j) (pos 0)) (eq-eqb j j refl))
     ∙ ap₂ (λ (s : List ℤ) (a : List Column). record { own = f j; others = s } ∷ a)
     (list_same (on_diagonal f j) (λ c. pos 0) (suc j) k (λ c h g. ap (λ (b : Bool). cond b (f j) (pos 0)) (apart j c (omega arith))) ∙ zero_list j k f)
     (diagonal_form f (suc j) k)
@@ -52,7 +48,7 @@ of_constant : (n : Normal) (i : ℕ) → n.columns ≡ columns i → radius_at n
 of_constant n i e =
     let a : nat_lt (3 + i) 3 ≡ false = grind (arith, nat_tests) in
     let s : suc (3 + i) ≡ n.columns = omega arith in
-    let b : nat_eq (suc (3 + i)) n.columns ≡ true = subst (λ (m : ℕ). nat_eq (suc (3 + i)) m ≡ true) s (same (suc (3 + i))) in
+    let b : nat_eq (suc (3 + i)) n.columns ≡ true = subst (λ (m : ℕ). nat_eq (suc (3 + i)) m ≡ true) s (eq-eqb (suc (3 + i)) (suc (3 + i)) refl) in
     ap₂ (λ (p q : Bool). cond p (slice_index_or n.r (3 + i) (pos 0)) (cond q (slice_index_or n.r 3 (pos 0)) (pos 0))) a b
 
 abbrev loss_at : Normal → ℕ → ℤ
@@ -78,7 +74,7 @@ bounding_is n i e = form_plus (λ r c. pos 63 *ℤ entry n.c r c) (on_diagonal (
     (diagonal_form (loss_at n) 0 (columns i) ∙ ap (λ s. diagonal s) (losses n i e))
 
 own_same : (n : Normal) (r : ℕ) → own_bound n r ≡ bound_entry n r r
-own_same n r = less (entry n.c r r) (radius_at n r) ∙ sym (ap (λ (b : Bool). (pos 63 *ℤ entry n.c r r) +ℤ cond b (loss_at n r) (pos 0)) (same r))
+own_same n r = less (entry n.c r r) (radius_at n r) ∙ sym (ap (λ (b : Bool). (pos 63 *ℤ entry n.c r r) +ℤ cond b (loss_at n r) (pos 0)) (eq-eqb r r refl))
   where
     less : (x y : ℤ) → (pos 63 *ℤ x) -ℤ (pos 16128 *ℤ y) ≡ (pos 63 *ℤ x) +ℤ (negsuc 16127 *ℤ y)
     less x y = same_by (x ∷ y ∷ []) (λ x y. (nat 63 ⊗ x ⊖ nat 16128 ⊗ y, nat 63 ⊗ x ⊕ ko (negsuc 16127) ⊗ y)) refl
@@ -90,7 +86,7 @@ other_same n r c h = more (pos 63 *ℤ entry n.c r c) ∙ sym (ap (λ (b : Bool)
     more x = same_by (x ∷ []) (λ x. (x, x ⊕ nat 0)) refl
 
 first_own : (n : Normal) (h r : ℕ) → first_entry n h r r ≡ floor_div (bound_entry n r r) (2 ^ h) -ℤ pos n.columns
-first_own n h r = ap (λ (b : Bool). cond b (floor_div (own_bound n r) (2 ^ h) -ℤ pos n.columns) (nearest_div (pos 63 *ℤ entry n.c r r) (2 ^ h))) (same r)
+first_own n h r = ap (λ (b : Bool). cond b (floor_div (own_bound n r) (2 ^ h) -ℤ pos n.columns) (nearest_div (pos 63 *ℤ entry n.c r r) (2 ^ h))) (eq-eqb r r refl)
     ∙ ap (λ z. floor_div z (2 ^ h) -ℤ pos n.columns) (own_same n r)
 
 first_other : (n : Normal) (h r c : ℕ) → r < c → first_entry n h r c ≡ nearest_div (bound_entry n r c) (2 ^ h)

@@ -1,7 +1,8 @@
 -- What the front keeps, from the tables that its steps leave.
-use Rattle.std.proofs.Common.{◌≡◌, ◌⊎◌, inl, inr, ⊎_elim, ℕ, ◌-◌, ◌^◌, ◌<◌, ◌≤◌, Bool, true, false, List, ℤ, pos, Result, Ok, Err, unsigned_abs, slice_index_or, arith, sym, ap₂, ◌∙◌, refl, subst}
+use Rattle.std.proofs.Common.{◌≡◌, ◌⊎◌, inl, inr, ⊎_elim, ℕ, ◌-◌, ◌^◌, ◌<◌, ◌≤◌, Bool, true, false, List, ℤ, pos, Ok, Err, unsigned_abs, slice_index_or, arith, sym, ap₂, ◌∙◌, refl, subst}
+use Rattle.std.proofs.lemmas.Bool.{cases_lt}
 use Rattle.quadratic_form.specs.Forms.{Column}
-use Rattle.quadratic_form.specs.Elimination.{Factor, Refusal, wide_entry, form_small, steps}
+use Rattle.quadratic_form.specs.Elimination.{Factor, wide_entry, form_small, steps, StepsAnswer}
 use Rattle.quadratic_form.specs.LowerSums.{SmallForm}
 use Rattle.quadratic_form.specs.Places.{form_from}
 use Rattle.quadratic_form.proofs.Ranges.{AllInRange, form_is, steps_range}
@@ -9,21 +10,19 @@ use Rattle.form_tables.specs.declared.sizes.TheConstants.{MOST_COLUMNS}
 use Rattle.form_tables.specs.Tables.{entry, IsZeroOutside}
 use Rattle.normal_sum.specs.declared.normal.Normal.{Normal}
 use Rattle.form_tables.specs.Matrices.{EntriesBelow}
+use Rattle.form_tables.proofs.TableLaws.{zero_small}
 use Rattle.integer_form.specs.Factors.{stored}
 use Rattle.integer_form.specs.Kept.{form_of_table, IsBelowDiagonal}
 use Rattle.integer_form.proofs.StoredPlaces.{stored_same}
 use Rattle.lower_form.specs.FirstRounding.{first_form}
 use Rattle.lower_form.specs.Fronts.{front_of}
-use Rattle.elimination.proofs.KeptLaws.{none, factors_below}
-
-abbrev Answer : Type 0
-Answer = Result (List Factor × List Column) Refusal
+use Rattle.elimination.proofs.KeptLaws.{factors_below}
 
 -- an answer of the front passed the test of the first rounding
 pub front_answer : (h : ℕ) (n : Normal) (p : List Factor × List Column) → front_of h n ≡ Ok p → (form_small (first_form h n) ≡ true) × (steps 0 3 (first_form h n) ≡ Ok p)
 front_answer h n p e = go (form_small (first_form h n)) refl e
   where
-    go : (t : Bool) → form_small (first_form h n) ≡ t → elim t as (λ b. Answer) [ true ↦ steps 0 3 (first_form h n) | false ↦ Err wide_entry ] ≡ Ok p → (form_small (first_form h n) ≡ true) ×
+    go : (t : Bool) → form_small (first_form h n) ≡ t → elim t as (λ b. StepsAnswer) [ true ↦ steps 0 3 (first_form h n) | false ↦ Err wide_entry ] ≡ Ok p → (form_small (first_form h n) ≡ true) ×
         (steps 0 3 (first_form h n) ≡ Ok p)
     go true o e = (o, e)
     go false o e = absurd cc
@@ -46,15 +45,12 @@ pub fronted : (columns h : ℕ) (n : Normal) (d d' : List ℤ) (l l' t p : List 
     form_of_table p (columns - 3) ≡ form_from (entry t) 3 (columns - 3) → Fronted columns h n d l p
 fronted columns h n d d' l l' t p to e z kept factors outside form = record {
   factors_in = λ r c. subst (λ (x : ℤ). unsigned_abs x < 2 ^ 52) (sym (same r c))
-      (⊎_elim (λ (a : c < 3). factors_below d' l' columns 0 3 below range.0 r c (omega arith) a) (λ (a : 3 ≤ c). subst (λ (x : ℤ). unsigned_abs x < 2 ^ 52) (sym (z r c (inl a))) none)
-      (either c 3));
+      (⊎_elim (λ (a : c < 3). factors_below d' l' columns 0 3 below range.0 r c (omega arith) a) (λ (a : 3 ≤ c). subst (λ (x : ℤ). unsigned_abs x < 2 ^ 52) (sym (z r c (inl a))) zero_small)
+      (cases_lt c 3));
   factors_outside = λ r c a. same r c ∙ below r c a;
-  taken = e ∙ ap₂ (λ (s : List Factor) (a : List Column). let x : Answer = Ok (s, a) in x) (sym (stored_same d d' l l' columns 0 3 (λ i a b. kept i b) (λ r i a b. same r i))) (sym form);
+  taken = e ∙ ap₂ (λ (s : List Factor) (a : List Column). let x : StepsAnswer = Ok (s, a) in x) (sym (stored_same d d' l l' columns 0 3 (λ i a b. kept i b) (λ r i a b. same r i))) (sym form);
 }
   where
-    either : (c n : ℕ) → (c < n) ⊎ (n ≤ c)
-    either c n = grind arith
-
     range : AllInRange (stored d' l' columns 0 3) × SmallForm (form_from (entry t) 3 (columns - 3))
     range = front_range h n (stored d' l' columns 0 3, form_from (entry t) 3 (columns - 3)) e
 
@@ -66,5 +62,5 @@ fronted columns h n d d' l l' t p to e z kept factors outside form = record {
 
     same : (r c : ℕ) → entry l r c ≡ entry l' r c
     same r c = ⊎_elim (λ (a : c < 3). ⊎_elim (λ (b : r < MOST_COLUMNS). factors r c b a) (λ (b : MOST_COLUMNS ≤ r). outside r c (inl b) ∙ sym (z r c (inr (inr (past r b)))))
-        (either r MOST_COLUMNS))
-        (λ (a : 3 ≤ c). outside r c (inr a) ∙ sym (z r c (inl a))) (either c 3)
+        (cases_lt r MOST_COLUMNS))
+        (λ (a : 3 ≤ c). outside r c (inr a) ∙ sym (z r c (inl a))) (cases_lt c 3)

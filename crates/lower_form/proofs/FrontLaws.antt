@@ -18,7 +18,7 @@ use Rattle.lower_form.specs.Fronts.{BoundsAllData}
 four_and : (n : ℕ) → columns n ≡ 4 + n
 four_and n = omega arith
 
-fewer : (m n : ℕ) → m ≡ 4 + n → m - 4 ≡ n
+pub fewer : (m n : ℕ) → m ≡ 4 + n → m - 4 ≡ n
 fewer m n e = omega arith
 
 pub first_is : (arcs : List Arc) (ss : List ℕ) (pairs : List PairRows) (n : Normal) (h : ℕ) → IsNormalOf arcs ss pairs n → first_form h n ≡ first_rounding h (integer_count arcs ss)

@@ -1,8 +1,9 @@
 -- The front and the finish together are the whole elimination.
-use Rattle.std.proofs.Common.{◌≡◌, ℕ, zero, suc, ◌+◌, ◌-◌, ◌≤◌, Bool, true, false, List, [], ◌∷◌, ℤ, Result, Ok, Err, arith, sym, ap, ap₂, ◌∙◌, refl, subst}
+use Rattle.std.proofs.Common.{◌≡◌, ℕ, zero, suc, ◌+◌, ◌-◌, ◌≤◌, Bool, true, false, List, [], ◌∷◌, ℤ, Ok, Err, arith, sym, ap, ap₂, ◌∙◌, refl, subst, add-zero, zero-add, suc-add}
 use Rattle.quadratic_form.specs.Forms.{Column}
-use Rattle.quadratic_form.specs.Elimination.{Factor, Refusal, wide_entry, form_small, step, steps, with_factor}
+use Rattle.quadratic_form.specs.Elimination.{Factor, Refusal, wide_entry, form_small, step, steps, with_factor, StepsAnswer, StepAnswer}
 use Rattle.quadratic_form.specs.Lowering.{IsExponent}
+use Rattle.quadratic_form.proofs.Places.{later}
 use Rattle.normal_sum.specs.declared.normal.Normal.{Normal}
 use Rattle.normal_sum.specs.Values.{form_of}
 use Rattle.integer_form.specs.declared.front_form.FrontForm.{FrontForm}
@@ -19,74 +20,60 @@ use Rattle.lower_form.specs.Forms.{elimination_of, IsFrontOf, IsLowerOf}
 use Rattle.lower_form.proofs.Exponents.{exponent_unique}
 use Rattle.lower_form.proofs.FrontKept.{front_answer}
 
-abbrev Answer : Type 0
-Answer = Result (List Factor × List Column) Refusal
-
 -- ---- k steps and then m
-later : (j k : ℕ) → suc j + k ≡ j + suc k
-later j k = omega arith
 
-nothing : (j : ℕ) → j + 0 ≡ j
-nothing j = omega arith
-
-empty : (j m : ℕ) → let x : Answer = Ok ([], []) in steps j m [] ≡ x
+empty : (j m : ℕ) → let x : StepsAnswer = Ok ([], []) in steps j m [] ≡ x
 empty j zero = refl
 empty j (suc m) = refl
-
-more : (k m : ℕ) → suc k + m ≡ suc (k + m)
-more k m = omega arith
-
-none : (m : ℕ) → 0 + m ≡ m
-none m = omega arith
 
 pub steps_after : (j k m : ℕ) (a : List Column) (p : List Factor × List Column) → steps j k a ≡ Ok p → steps j (k + m) a ≡ before p.0 (steps (j + k) m p.1)
 steps_after j zero m a p e =
     let q : (List Factor × List Column) = ([], a) in
     let i : q ≡ p = cc in
-    subst (λ (z : List Factor × List Column). steps j (0 + m) a ≡ before z.0 (steps (j + 0) m z.1)) i (ap₂ (λ x y. steps x y a) (sym (nothing j)) (none m))
+    subst (λ (z : List Factor × List Column). steps j (0 + m) a ≡ before z.0 (steps (j + 0) m z.1)) i (ap₂ (λ x y. steps x y a) (sym (add-zero j)) (zero-add m))
 steps_after j (suc k) m [] p e =
     let q : (List Factor × List Column) = ([], []) in
     let i : q ≡ p = cc in
     subst (λ (z : List Factor × List Column). steps j (suc k + m) [] ≡ before z.0 (steps (j + suc k) m z.1)) i (empty j (suc k + m) ∙ sym (empty (j + suc k) m))
-steps_after j (suc k) m (c ∷ a) p e = ap (λ (n : ℕ). steps j n (c ∷ a)) (more k m) ∙ first (step j c a) refl (λ b q. steps_after (suc j) k m b q) e
+steps_after j (suc k) m (c ∷ a) p e = ap (λ (n : ℕ). steps j n (c ∷ a)) (suc-add k m) ∙ first (step j c a) refl (λ b q. steps_after (suc j) k m b q) e
   where
-    second : (u : Factor × List Column) (r : Answer) → ((q : List Factor × List Column) → r ≡ Ok q → steps (suc j) (k + m) u.1 ≡ before q.0 (steps (suc j + k) m q.1)) → with_factor u.0 r
+    second : (u : Factor × List Column) (r : StepsAnswer) → ((q : List Factor × List Column) → r ≡ Ok q → steps (suc j) (k + m) u.1 ≡ before q.0 (steps (suc j + k) m q.1)) → with_factor u.0 r
         ≡ Ok p → with_factor u.0 (steps (suc j) (k + m) u.1) ≡ before p.0 (steps (j + suc k) m p.1)
     second u (Err n) ih e = absurd cc
     second u (Ok q) ih e =
         let w : (List Factor × List Column) = (u.0 ∷ q.0, q.1) in
         let i : w ≡ p = cc in
-        ap (λ (x : Answer). with_factor u.0 x) (ih q refl ∙ ap (λ (n : ℕ). before q.0 (steps n m q.1)) (later j k))
+        ap (λ (x : StepsAnswer). with_factor u.0 x) (ih q refl ∙ ap (λ (n : ℕ). before q.0 (steps n m q.1)) (later j k))
         ∙ subst (λ (z : List Factor × List Column). with_factor u.0 (before q.0 (steps (j + suc k) m q.1)) ≡ before z.0 (steps (j + suc k) m z.1)) i refl
 
-    first : (r : Result (Factor × List Column) Refusal) → step j c a ≡ r → ((b : List Column) (q : List Factor × List Column) → steps (suc j) k b ≡ Ok q → steps (suc j) (k + m) b ≡ before q.0
+    first : (r : StepAnswer) → step j c a ≡ r → ((b : List Column) (q : List Factor × List Column) → steps (suc j) k b ≡ Ok q → steps (suc j) (k + m) b ≡ before q.0
         (steps (suc j + k) m q.1)) →
-        elim r as (λ t. Answer) [ Ok u ↦ with_factor u.0 (steps (suc j) k u.1) | Err n ↦ Err n ] ≡ Ok p →
-        elim (step j c a) as (λ t. Answer) [ Ok u ↦ with_factor u.0 (steps (suc j) (k + m) u.1) | Err n ↦ Err n ] ≡ before p.0 (steps (j + suc k) m p.1)
+        elim r as (λ t. StepsAnswer) [ Ok u ↦ with_factor u.0 (steps (suc j) k u.1) | Err n ↦ Err n ] ≡ Ok p →
+        elim (step j c a) as (λ t. StepsAnswer) [ Ok u ↦ with_factor u.0 (steps (suc j) (k + m) u.1) | Err n ↦ Err n ] ≡ before p.0 (steps (j + suc k) m p.1)
     first (Err n) o ih e = absurd cc
-    first (Ok u) o ih e = ap (λ (x : Result (Factor × List Column) Refusal). elim x as (λ t. Answer) [ Ok v ↦ with_factor v.0 (steps (suc j) (k + m) v.1) | Err n ↦ Err n ]) o
+    first (Ok u) o ih e = ap (λ (x : StepAnswer). elim x as (λ t. StepsAnswer) [ Ok v ↦ with_factor v.0 (steps (suc j) (k + m) v.1) | Err n ↦ Err n ]) o
         ∙ second u (steps (suc j) k u.1) (λ q. ih u.1 q) e
 
 pub steps_stop : (j k m : ℕ) (a : List Column) (i : Refusal) → steps j k a ≡ Err i → steps j (k + m) a ≡ Err i
 steps_stop j zero m a i e = absurd cc
 steps_stop j (suc k) m [] i e = absurd cc
-steps_stop j (suc k) m (c ∷ a) i e = ap (λ (n : ℕ). steps j n (c ∷ a)) (more k m) ∙ first (step j c a) refl (λ b n. steps_stop (suc j) k m b n) e
+steps_stop j (suc k) m (c ∷ a) i e = ap (λ (n : ℕ). steps j n (c ∷ a)) (suc-add k m) ∙ first (step j c a) refl (λ b n. steps_stop (suc j) k m b n) e
   where
-    second : (u : Factor × List Column) (r : Answer) → ((n : Refusal) → r ≡ Err n → steps (suc j) (k + m) u.1 ≡ Err n) → with_factor u.0 r ≡ Err i → with_factor u.0 (steps (suc j) (k + m) u.1)
+    second : (u : Factor × List Column) (r : StepsAnswer) → ((n : Refusal) → r ≡ Err n → steps (suc j) (k + m) u.1 ≡ Err n) → with_factor u.0 r ≡ Err i → with_factor u.0 (steps (suc j) (k + m) u.1)
         ≡ Err i
     second u (Ok q) ih e = absurd cc
-    second u (Err n) ih e = ap (λ (x : Answer). with_factor u.0 x) (ih n refl) ∙ e
+    second u (Err n) ih e = ap (λ (x : StepsAnswer). with_factor u.0 x) (ih n refl) ∙ e
 
-    first : (r : Result (Factor × List Column) Refusal) → step j c a ≡ r → ((b : List Column) (n : Refusal) → steps (suc j) k b ≡ Err n → steps (suc j) (k + m) b ≡ Err n) →
-        elim r as (λ t. Answer) [ Ok u ↦ with_factor u.0 (steps (suc j) k u.1) | Err n ↦ Err n ] ≡ Err i →
-        elim (step j c a) as (λ t. Answer) [ Ok u ↦ with_factor u.0 (steps (suc j) (k + m) u.1) | Err n ↦ Err n ] ≡ Err i
-    first (Err n) o ih e = ap (λ (x : Result (Factor × List Column) Refusal). elim x as (λ t. Answer) [ Ok v ↦ with_factor v.0 (steps (suc j) (k + m) v.1) | Err n ↦ Err n ]) o ∙ e
-    first (Ok u) o ih e = ap (λ (x : Result (Factor × List Column) Refusal). elim x as (λ t. Answer) [ Ok v ↦ with_factor v.0 (steps (suc j) (k + m) v.1) | Err n ↦ Err n ]) o
+    first : (r : StepAnswer) → step j c a ≡ r → ((b : List Column) (n : Refusal) → steps (suc j) k b ≡ Err n → steps (suc j) (k + m) b ≡ Err n) →
+        elim r as (λ t. StepsAnswer) [ Ok u ↦ with_factor u.0 (steps (suc j) k u.1) | Err n ↦ Err n ] ≡ Err i →
+        elim (step j c a) as (λ t. StepsAnswer) [ Ok u ↦ with_factor u.0 (steps (suc j) (k + m) u.1) | Err n ↦ Err n ] ≡ Err i
+    first (Err n) o ih e = ap (λ (x : StepAnswer). elim x as (λ t. StepsAnswer) [ Ok v ↦ with_factor v.0 (steps (suc j) (k + m) v.1) | Err n ↦ Err n ]) o ∙ e
+    first (Ok u) o ih e = ap (λ (x : StepAnswer). elim x as (λ t. StepsAnswer) [ Ok v ↦ with_factor v.0 (steps (suc j) (k + m) v.1) | Err n ↦ Err n ]) o
         ∙ second u (steps (suc j) k u.1) (λ n. ih u.1 n) e
 
 -- ---- a normal matrix
-abbrev tested : Answer → Bool → Answer
-tested r b = elim b as (λ x. Answer) [ true ↦ r | false ↦ Err wide_entry ]
+abbrev tested : StepsAnswer → Bool → StepsAnswer
+tested r b = elim b as (λ x. StepsAnswer) [ true ↦ r | false ↦ Err wide_entry ]
 
 small_first : (h : ℕ) (n : Normal) → form_small (first_form h n) ≡ true → elimination_of h n ≡ steps 0 (n.columns - 1) (first_form h n)
 small_first h n e = ap (λ (b : Bool). tested (steps 0 (n.columns - 1) (first_form h n)) b) e
@@ -117,14 +104,14 @@ lower_is n r f a b = record {
   exponent = subst (λ (h : ℕ). IsExponent h (form_of n)) (sym b.h) a.exponent;
   front = front;
   taken = front_then f.h n (stored f.d f.l f.columns 0 3, form_of_table f.p (f.columns - 3)) front
-      ∙ ap (λ (x : Answer). before (stored f.d f.l f.columns 0 3) x) rest ∙ together ∙ ap (λ (k : ℕ). let x : Answer = Ok (stored f.d f.l f.columns 0 k, constant_form f.g) in x)
+      ∙ ap (λ (x : StepsAnswer). before (stored f.d f.l f.columns 0 3) x) rest ∙ together ∙ ap (λ (k : ℕ). let x : StepsAnswer = Ok (stored f.d f.l f.columns 0 k, constant_form f.g) in x)
       (sym (integers_count f.columns f.columns_from));
 }
   where
     front : front_of f.h n ≡ Ok (stored f.d f.l f.columns 0 3, form_of_table f.p (f.columns - 3))
     front = ap (λ (h : ℕ). front_of h n) b.h ∙ a.taken
-        ∙ ap₂ (λ (s : List Factor) (k : ℕ). let x : Answer = Ok (s, form_of_table r.p (k - 3)) in x) (sym b.baseline) (sym b.columns)
-        ∙ ap (λ (t : List (List ℤ)). let x : Answer = Ok (stored f.d f.l f.columns 0 3, form_of_table t (f.columns - 3)) in x) (sym b.p)
+        ∙ ap₂ (λ (s : List Factor) (k : ℕ). let x : StepsAnswer = Ok (s, form_of_table r.p (k - 3)) in x) (sym b.baseline) (sym b.columns)
+        ∙ ap (λ (t : List (List ℤ)). let x : StepsAnswer = Ok (stored f.d f.l f.columns 0 3, form_of_table t (f.columns - 3)) in x) (sym b.p)
 
     rest : steps 3 (n.columns - 4) (form_of_table f.p (f.columns - 3)) ≡ Ok (stored f.d f.l f.columns 3 (f.columns - 4), constant_form f.g)
     rest = ap (λ (k : ℕ). steps 3 (k - 4) (form_of_table f.p (f.columns - 3))) (sym (b.columns ∙ a.columns)) ∙ f.eliminated
@@ -142,7 +129,7 @@ finish_told n r e a t h k = (
   t.0,
   (
     ap (λ (m : ℕ). elimination_of m n) (exponent_unique h r.h (form_of n) k a.exponent) ∙ front_then r.h n (stored r.d r.l r.columns 0 3, form_of_table r.p (r.columns - 3)) a.taken
-        ∙ ap (λ (x : Answer). before (stored r.d r.l r.columns 0 3) x) (ap (λ (m : ℕ). steps 3 (m - 4) (form_of_table r.p (r.columns - 3))) (sym a.columns) ∙ t.1.0),
+        ∙ ap (λ (x : StepsAnswer). before (stored r.d r.l r.columns 0 3) x) (ap (λ (m : ℕ). steps 3 (m - 4) (form_of_table r.p (r.columns - 3))) (sym a.columns) ∙ t.1.0),
     t.1.1,
   ),
 )

@@ -1,22 +1,20 @@
 -- The places that hold the coefficients of a row.
-use Rattle.std.proofs.Common.{◌≡◌, ◌≢◌, ◌⊎◌, ⊎_elim, ℕ, zero, suc, ◌+◌, ◌<◌, ◌≤◌, List, [], ◌∷◌, ◌++◌, length, ℤ, pos, neg_ℤ, Option, Some, None, IfSome, replicate, set, unsigned_abs, slice_index_or, get_or-set_same, get_or-set_other, length-set, length-append, arith, sym, ap, ◌∙◌, refl, subst}
-use Rattle.std.proofs.lemmas.Bool.{cases_eq}
+use Rattle.std.proofs.Common.{◌≡◌, ◌≢◌, ◌⊎◌, ⊎_elim, ℕ, zero, suc, ◌+◌, ◌<◌, ◌≤◌, List, [], ◌∷◌, ◌++◌, length, ℤ, pos, neg_ℤ, Option, Some, None, IfSome, replicate, set, unsigned_abs, get_or-set_same, get_or-set_other, length-set, length-append, arith, sym, ap, ◌∙◌, refl, subst}
+use Rattle.std.proofs.lemmas.Bool.{cases_eq, cases_lt}
 use Rattle.std.proofs.lemmas.List.{get_or_append_left, get_or_push, get_or_past, length-replicate, ext_get_or}
 use Rattle.whole_math.specs.Vectors.{zeros}
 use Rattle.quadratic_form.specs.MatrixEntries.{coefficient}
+use Rattle.quadratic_form.proofs.MatrixEntries.{length_zeros}
 use Rattle.obs_rows.specs.declared.arcs.Arc.{Arc}
 use Rattle.obs_rows.specs.declared.rows.Row.{Row}
 use Rattle.obs_rows.specs.Signals.{cycle}
 use Rattle.obs_rows.specs.Integers.{integer_count, integer_place}
 use Rattle.obs_rows.specs.Data.{number_at}
 use Rattle.obs_rows.specs.SignalGroups.{only_at, signal_row}
-use Rattle.obs_rows.proofs.IntegerPlaces.{length_zeros}
 use Rattle.form_tables.specs.declared.sizes.TheConstants.{MOST_COLUMNS, MOST_FORM_COLUMNS, MOST_INTEGERS}
 use Rattle.form_tables.proofs.TableLaws.{zero_item}
+use Rattle.form_tables.specs.Tables.{item}
 use Rattle.normal_sum.specs.Places.{put_at}
-
-abbrev pub item : List ℤ → ℕ → ℤ
-item s j = slice_index_or s j (pos 0)
 
 -- ---- zeros
 
@@ -149,9 +147,6 @@ nothing_elsewhere w n p a b d v y e j h f g =
 zero_set : (t : List ℤ) (i j : ℕ) → (j ≢ i → item t j ≡ pos 0) → item (set t i (pos 0)) j ≡ pos 0
 zero_set t i j h = ⊎_elim (λ (e : j ≡ i). by_room (cases_lt i (length t)) e) (λ (e : j ≡ i → ⊥). get_or-set_other t i j (pos 0) (pos 0) e ∙ h e) (cases_eq j i)
   where
-    cases_lt : (a b : ℕ) → (a < b) ⊎ (b ≤ a)
-    cases_lt a b = grind arith
-
     by_room : (i < length t) ⊎ (length t ≤ i) → j ≡ i → item (set t i (pos 0)) j ≡ pos 0
     by_room w e = subst (λ (k : ℕ). item (set t i (pos 0)) k ≡ pos 0) (sym e)
         (⊎_elim (λ (g : i < length t). get_or-set_same t i (pos 0) (pos 0) g) (λ (g : length t ≤ i). get_or_past (set t i (pos 0)) i (pos 0) (omega (arith, length-set t i (pos 0)))) w)

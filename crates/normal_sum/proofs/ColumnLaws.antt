@@ -1,8 +1,8 @@
 -- Lists of columns, and what is added in them.
-use Rattle.std.proofs.Common.{◌≡◌, ◌≢◌, ◌⊎◌, inl, inr, ⊎_elim, ℕ, zero, suc, ◌+◌, ◌-◌, ◌<◌, ◌≤◌, List, [], ◌∷◌, ◌++◌, length, drop, ℤ, pos, ◌+ℤ◌, slice_index_or, arith, sym, ap, ◌∙◌, subst, below_more, length-append, refl}
+use Rattle.std.proofs.Common.{◌≡◌, ◌≢◌, ◌⊎◌, inl, inr, ⊎_elim, ℕ, zero, suc, ◌+◌, ◌-◌, ◌<◌, ◌≤◌, List, [], ◌∷◌, ◌++◌, length, drop, ℤ, pos, ◌+ℤ◌, slice_index_or, arith, sym, ap, ◌∙◌, subst, below_more, length-append, refl, add-zero, add-sub_of_le}
 use Rattle.std.specs.Prelude.{slice_index, All}
 use Rattle.std.specs.List.Sorted.{IsStrictlyIncreasing}
-use Rattle.std.proofs.lemmas.Bool.{cases_eq}
+use Rattle.std.proofs.lemmas.Bool.{cases_eq, cases_lt}
 use Rattle.std.proofs.lemmas.List.{get_or_append_left, get_or_past, get_or_push, get_or-drop, get_or_default, length-drop}
 use Rattle.std.proofs.lemmas.List.Elements.{All-from_recursion, All-push}
 use Rattle.std.proofs.lemmas.List.Kept.{AllPairs-from_increasing}
@@ -69,10 +69,7 @@ later_length : (columns : List ℕ) (k m : ℕ) → k ≤ length columns → m <
 later_length columns k m h g = omega (arith, length-drop k columns)
 
 at_or_behind : (columns : List ℕ) (k m : ℕ) → IsStrictlyIncreasing columns → k + m < length columns → slice_index columns k ≤ slice_index columns (k + m)
-at_or_behind columns k zero r h = subst (λ (i : ℕ). slice_index columns k ≤ slice_index columns i) (plain k) (omega arith)
-  where
-    plain : (k : ℕ) → k ≡ k + 0
-    plain k = omega arith
+at_or_behind columns k zero r h = subst (λ (i : ℕ). slice_index columns k ≤ slice_index columns i) (sym (add-zero k)) (omega arith)
 at_or_behind columns k (suc m) r h = let below : slice_index columns k < slice_index columns (k + suc m) = AllPairs-from_increasing columns r k (k + suc m) 0 (omega arith) h in omega (arith, below)
 
 -- after the columns of the baseline, where k is one of them, and else from k on
@@ -83,15 +80,9 @@ columns_from values columns k m are h past apart low high = record {
   from = λ i d l. from_at i d l;
   behind = λ i d l. behind_at i d l;
   rising = λ i l. rising_at i l;
-  others = λ j g b f. are.others j (λ i l e. none_at j g b f i l e (side i m));
+  others = λ j g b f. are.others j (λ i l e. none_at j g b f i l e (cases_lt i m));
 }
   where
-    side : (i n : ℕ) → (i < n) ⊎ (n ≤ i)
-    side i n = grind arith
-
-    plain : (i k : ℕ) → k ≤ i → k + (i - k) ≡ i
-    plain i k h = omega arith
-
     inner : (i : ℕ) → i < length (drop m columns) → m + i < length columns
     inner i l = omega (arith, length-drop m columns)
 
@@ -102,7 +93,7 @@ columns_from values columns k m are h past apart low high = record {
     inside_at i d l = subst (λ (c : ℕ). c < MOST_COLUMNS) (sym (read_at i d l)) (are.inside (m + i) 0 (inner i l))
 
     in_order : (a b : ℕ) → a ≤ b → b < length columns → slice_index columns a ≤ slice_index columns b
-    in_order a b g l = subst (λ (i : ℕ). slice_index columns a ≤ slice_index columns i) (plain b a g) (at_or_behind columns a (b - a) are.rising (omega arith))
+    in_order a b g l = subst (λ (i : ℕ). slice_index columns a ≤ slice_index columns i) (add-sub_of_le g) (at_or_behind columns a (b - a) are.rising (omega arith))
 
     from_at : (i d : ℕ) → i < length (drop m columns) → slice_index columns k ≤ slice_index_or (drop m columns) i d
     from_at i d l = subst (λ (c : ℕ). slice_index columns k ≤ c) (sym (read_at i d l)) (in_order k (m + i) (omega arith) (inner i l))
@@ -123,8 +114,8 @@ columns_from values columns k m are h past apart low high = record {
     none_at j g b f i l e (inl ahead) = ⊎_elim
         (λ (few : k < BASELINE_COLUMNS). omega (arith, low few, ahead, are.baseline i (omega (arith, low few)), e, b))
         (λ (many : BASELINE_COLUMNS ≤ k). let below : slice_index columns i < slice_index columns k = AllPairs-from_increasing columns are.rising i k 0 (omega (arith, high many)) h in omega (arith, below, e, g))
-        (side k BASELINE_COLUMNS)
-    none_at j g b f i l e (inr after) = f (i - m) (omega (arith, length-drop m columns)) (later_index columns m (i - m) ∙ ap (slice_index columns) (plain i m after) ∙ e)
+        (cases_lt k BASELINE_COLUMNS)
+    none_at j g b f i l e (inr after) = f (i - m) (omega (arith, length-drop m columns)) (later_index columns m (i - m) ∙ ap (slice_index columns) (add-sub_of_le after) ∙ e)
 
 -- ---- the columns of a row: three of the baseline, of its integer if it has one, and of the constant
 first_columns : (a b : ℕ) → 3 ≤ a → a < b → IsStrictlyIncreasing (0 ∷ 1 ∷ 2 ∷ a ∷ b ∷ [])
@@ -205,15 +196,12 @@ one_used values j used u = record {
   baseline = λ k h. get_or_append_left used (j ∷ []) 0 k (omega (arith, u.enough)) ∙ u.baseline k h;
   enough = omega (arith, u.enough, length-append used (j ∷ []));
   below = All-push (λ (c : ℕ). c < j + 1) used j (λ i d h. omega (arith, u.below i d h)) (omega arith);
-  rising = λ k h. next k (side (k + 1) (length used)) h;
+  rising = λ k h. next k (cases_lt (k + 1) (length used)) h;
   others = below_more (λ (k : ℕ). ((m : ℕ) → m < length (used ++ j ∷ []) → slice_index (used ++ j ∷ []) m ≢ k) → slice_index_or values k (pos 0) ≡ pos 0) j
       (λ k h f. u.others k h (λ m l e. f m (omega (arith, length-append used (j ∷ []))) (get_or_append_left used (j ∷ []) 0 m l ∙ e)))
       (λ f. absurd (f (length used) (omega (arith, length-append used (j ∷ []))) (get_or_push used j 0 (length used) refl)));
 }
   where
-    side : (i n : ℕ) → (i < n) ⊎ (n ≤ i)
-    side i n = grind arith
-
     -- the last two, or two before
     next : (k : ℕ) → (k + 1 < length used) ⊎ (length used ≤ k + 1) → k + 1 < length (used ++ j ∷ []) → slice_index (used ++ j ∷ []) k < slice_index (used ++ j ∷ []) (k + 1)
     next k (inl l) h = subst (λ (a : ℕ). a < slice_index (used ++ j ∷ []) (k + 1)) (sym (get_or_append_left used (j ∷ []) 0 k (omega arith)))
@@ -232,8 +220,5 @@ all_used values n used full few beyond u = record {
   inside = λ i d h. omega (arith, u.below i d h);
   rising = u.rising;
   others = λ j f. ⊎_elim (λ (h : j < n). u.others j h f)
-      (λ (g : n ≤ j). ⊎_elim (λ (h : j < MOST_COLUMNS). beyond j g h) (λ (h : MOST_COLUMNS ≤ j). get_or_past values j (pos 0) (omega arith)) (side j MOST_COLUMNS)) (side j n);
+      (λ (g : n ≤ j). ⊎_elim (λ (h : j < MOST_COLUMNS). beyond j g h) (λ (h : MOST_COLUMNS ≤ j). get_or_past values j (pos 0) (omega arith)) (cases_lt j MOST_COLUMNS)) (cases_lt j n);
 }
-  where
-    side : (i n : ℕ) → (i < n) ⊎ (n ≤ i)
-    side i n = grind arith

@@ -1,8 +1,9 @@
 -- A table whose entries are those of the rows, inside and outside its columns.
-use Rattle.std.proofs.Common.{◌≡◌, ⊎_elim, ℕ, zero, suc, drop, ◌+◌, ◌^◌, ◌<◌, ◌≤◌, List, [], ◌∷◌, ◌++◌, length, ℤ, pos, ◌+ℤ◌, ◌≤ℤ◌, ◌<ℤ◌, unsigned_abs, slice_index_or, to_z, of_z, arith, sym, ap, ◌∙◌, refl, subst}
+use Rattle.std.proofs.Common.{◌≡◌, ⊎_elim, ℕ, zero, suc, ◌+◌, ◌^◌, ◌<◌, ◌≤◌, List, [], ◌∷◌, ◌++◌, ℤ, pos, ◌+ℤ◌, ◌≤ℤ◌, ◌<ℤ◌, unsigned_abs, slice_index_or, to_z, of_z, arith, sym, ap, ◌∙◌, subst}
 use Rattle.std.proofs.lemmas.Bool.{cases_lt}
 use Rattle.std.proofs.lemmas.List.{get_or_past}
 use Rattle.std.specs.Int.{w128}
+use Rattle.std.proofs.Math.IntN.{+ℤ_idr, +ℤ_idl}
 use Rattle.whole_math.proofs.Order.{lins}
 use Rattle.quadratic_form.specs.Rows.{SignalGroup, columns, GroupsOf, Radii, add_radii, row_radii, no_radii, radii}
 use Rattle.quadratic_form.specs.MatrixEntries.{matrix_entry}
@@ -59,20 +60,17 @@ below_is m t s h e = λ i j. ⊎_elim
     nothing : (x : ℤ) → x ≡ pos 0 → unsigned_abs x < m
     nothing x e = subst (λ (z : ℤ). unsigned_abs z < m) (sym e) h
 
-no_left : (x : ℤ) → pos 0 +ℤ x ≡ x
-no_left x = omega (arith, lins)
+pub zero_last : (a b : ℤ) → a +ℤ pos 0 ≡ b → a ≡ b
+zero_last a b e = omega (arith, lins)
 
 pub zero_first : (a b : ℤ) → a ≡ pos 0 → a +ℤ b ≡ b
 zero_first a b e = omega (arith, lins)
 
-pub no_right : (x : ℤ) → x +ℤ pos 0 ≡ x
-no_right x = omega (arith, lins)
-
 pub radii_start : (r : Radii) → add_radii no_radii r ≡ r
-radii_start r = radii_same _ _ _ _ _ _ _ _ (no_left r.r1) (no_left r.r2) (no_left r.r3) (no_left r.ry)
+radii_start r = radii_same _ _ _ _ _ _ _ _ (+ℤ_idl r.r1) (+ℤ_idl r.r2) (+ℤ_idl r.r3) (+ℤ_idl r.ry)
 
 pub radii_end : (r : Radii) → add_radii r no_radii ≡ r
-radii_end r = radii_same _ _ _ _ _ _ _ _ (no_right r.r1) (no_right r.r2) (no_right r.r3) (no_right r.ry)
+radii_end r = radii_same _ _ _ _ _ _ _ _ (+ℤ_idr r.r1) (+ℤ_idr r.r2) (+ℤ_idr r.r3) (+ℤ_idr r.ry)
 
 pub radii_append : (gs hs : List SignalGroup) → radii (gs ++ hs) ≡ add_radii (radii gs) (radii hs)
 radii_append [] hs = sym (radii_start (radii hs))
@@ -80,12 +78,6 @@ radii_append (g ∷ gs) hs = ap (λ (r : Radii). add_radii (row_radii g.weight g
 
 pub four_and : (n : ℕ) → columns n ≡ 4 + n
 four_and n = omega arith
-
-pub drop_end : {A : Type 0} (xs : List A) (i : ℕ) → length xs ≤ i → drop i xs ≡ []
-drop_end [] zero h = refl
-drop_end [] (suc i) h = refl
-drop_end (x ∷ xs) zero h = absurd (omega arith)
-drop_end (x ∷ xs) (suc i) h = drop_end xs i (omega arith)
 
 below_limit : (x : ℤ) (m : ℕ) → x ≤ℤ pos m → m < 2 ^ 100 → x <ℤ pos (2 ^ 100)
 below_limit x m h g = omega (arith, lins)

@@ -1,13 +1,14 @@
 -- The entries of the constant's column, by the sums of the observations; and what a code adds elsewhere.
 use Rattle.std.proofs.Common.{◌≡◌, ◌≢◌, ◌⊎◌, inl, inr, ⊎_elim, ℕ, zero, suc, ◌+◌, ◌/◌, ◌<◌, ◌≤◌, List, [], ◌∷◌, ◌++◌, Option, Some, None, ℤ, pos, neg_ℤ, ◌+ℤ◌, ◌-ℤ◌, ◌*ℤ◌, length, map, length-append, length-set, arith, sym, ap, ap₂, ◌∙◌, refl, subst}
 use Rattle.std.proofs.lemmas.List.{length-map, get_or_append_left, get_or_push, get_or_past}
-use Rattle.std.proofs.lemmas.Bool.{cases_eq}
+use Rattle.std.proofs.lemmas.Bool.{cases_eq, cases_lt}
 use Rattle.whole_math.specs.Vectors.{zeros}
 use Rattle.whole_math.proofs.Vectors.{len_is}
 use Rattle.whole_math.proofs.Ring.{◌⊕◌, ◌⊖◌, ◌⊗◌}
 use Rattle.whole_math.proofs.Inequalities.{same_by, nat}
 use Rattle.quadratic_form.specs.Rows.{SignalRow}
 use Rattle.quadratic_form.specs.MatrixEntries.{coefficient, coefficient_sum, product_sum, group_entry}
+use Rattle.quadratic_form.proofs.MatrixEntries.{length_zeros}
 use Rattle.obs_rows.specs.declared.arcs.Arc.{Arc}
 use Rattle.obs_rows.specs.declared.rows.Row.{Row}
 use Rattle.obs_rows.specs.declared.pair_rows.PairRows.{PairRows}
@@ -16,14 +17,13 @@ use Rattle.obs_rows.specs.Signals.{weight, cycle}
 use Rattle.obs_rows.specs.Integers.{integer_count, integer_place}
 use Rattle.obs_rows.specs.SumOfSquares.{share}
 use Rattle.obs_rows.specs.SignalGroups.{only_at, signal_row, signal_group}
-use Rattle.obs_rows.proofs.IntegerPlaces.{length_zeros}
 use Rattle.form_tables.specs.declared.sizes.TheConstants.{BASELINE_COLUMNS}
-use Rattle.form_tables.specs.Tables.{entry}
+use Rattle.form_tables.specs.Tables.{entry, item}
 use Rattle.normal_sum.specs.Directions.{direction_sum}
 use Rattle.normal_sum.specs.Places.{SeesNone}
 use Rattle.normal_sum.specs.Observations.{observation_sum, observation_products, observation_squares, axis_spread, observation_spread}
 use Rattle.normal_sum.proofs.RowSums.{times_nothing}
-use Rattle.normal_sum.proofs.CoefficientPlaces.{item, item_zeros}
+use Rattle.normal_sum.proofs.CoefficientPlaces.{item_zeros}
 use Rattle.normal_sum.proofs.DirectionLaws.{turned, axis, sum_is}
 
 -- ---- a row's coefficient of the constant
@@ -160,13 +160,10 @@ pub code_entries : (arcs : List Arc) (ss : List ℕ) (p : PairRows) (s integers 
     ((i j : ℕ) → (j ≢ BASELINE_COLUMNS + integers) ⊎ ((BASELINE_COLUMNS ≤ i) × (i ≢ BASELINE_COLUMNS + integers)) → entry u i j ≡ entry t i j) →
     (i j : ℕ) → BASELINE_COLUMNS ≤ j → entry u i j ≡ entry t i j +ℤ group_entry (signal_group arcs ss p s) i j
 code_entries arcs ss p s integers t u rows same none n axes square others i j b = ⊎_elim
-    (λ (f : j ≡ BASELINE_COLUMNS + integers). subst (λ (k : ℕ). entry u i k ≡ entry t i k +ℤ group_entry (signal_group arcs ss p s) i k) (sym f) (of_constant (side i BASELINE_COLUMNS)))
+    (λ (f : j ≡ BASELINE_COLUMNS + integers). subst (λ (k : ℕ). entry u i k ≡ entry t i k +ℤ group_entry (signal_group arcs ss p s) i k) (sym f) (of_constant (cases_lt i BASELINE_COLUMNS)))
     (λ (f : j ≡ BASELINE_COLUMNS + integers → ⊥). others i j (inl f) ∙ no_entry_second arcs ss p s i j (BASELINE_COLUMNS + integers) (entry t i j) none e b f)
     (cases_eq j (BASELINE_COLUMNS + integers))
   where
-    side : (i n : ℕ) → (i < n) ⊎ (n ≤ i)
-    side i n = grind arith
-
     e : BASELINE_COLUMNS + integers ≡ BASELINE_COLUMNS + integer_count arcs ss
     e = ap (λ (m : ℕ). BASELINE_COLUMNS + m) n
 

@@ -1,10 +1,11 @@
 -- The places of the integers of rows.
-use Rattle.std.proofs.Common.{◌≡◌, ◌⊎◌, ⊎_elim, ℕ, zero, suc, ◌+◌, ◌-◌, ◌*◌, ◌<◌, ◌≤◌, Bool, true, false, cond, Option, Some, None, IfSome, List, [], ◌∷◌, length, take, drop, arith, sym, ap, ap₂, ◌∙◌, refl, subst, slice_index_or}
+use Rattle.std.proofs.Common.{◌≡◌, ⊎_elim, ℕ, zero, suc, ◌+◌, ◌-◌, ◌*◌, ◌<◌, ◌≤◌, Bool, true, false, cond, Option, Some, None, IfSome, List, [], ◌∷◌, length, take, drop, arith, sym, ap, ap₂, ◌∙◌, refl, subst, slice_index_or}
 use Rattle.std.specs.Prelude.{slice_get, position, ◌==◌}
 use Rattle.std.specs.Option.{option_map}
 use Rattle.std.proofs.lemmas.List.Quantifiers.{position-Some}
 use Rattle.std.proofs.lemmas.List.Sums.{sum_by-append}
 use Rattle.std.proofs.Math.Seq.{take-add}
+use Rattle.std.proofs.lemmas.Bool.{cases_lt}
 use Rattle.form_tables.specs.declared.sizes.TheConstants.{MOST_INTEGERS}
 use Rattle.obs_rows.specs.declared.arcs.Arc.{Arc}
 use Rattle.obs_rows.specs.declared.rows.Row.{Row}
@@ -81,11 +82,8 @@ are_within arcs ss s rows firsts phase are none k = ⊎_elim
     (λ (h : k < length rows). subst (λ (p : Option ℕ). IfSome p (λ i. i < integer_count arcs ss)) (sym (are k (a_row rows h) h))
     (place_within arcs ss (slice_index_or rows k (a_row rows h)).arc s))
     (λ (h : length rows ≤ k). subst (λ (p : Option ℕ). IfSome p (λ i. i < integer_count arcs ss)) (sym (ap (λ (p : Option ℕ). place_from p phase) (none k h))) tt)
-    (side k (length rows))
+    (cases_lt k (length rows))
   where
-    side : (i n : ℕ) → (i < n) ⊎ (n ≤ i)
-    side i n = grind arith
-
     a_row : (l : List Row) → k < length l → Row
     a_row [] h = absurd (omega arith)
     a_row (x ∷ l) h = x

@@ -1,6 +1,7 @@
 -- Sums of squares of radii.
 use Rattle.std.proofs.Common.{◌≡◌, ℕ, ◌+◌, ◌^◌, ◌≤◌, List, ◌∷◌, [], map, ℤ, pos, ◌+ℤ◌, ◌*ℤ◌, ◌≤ℤ◌, to_z, of_z, arith, sym, ap, ◌∙◌, refl, subst}
 use Rattle.std.specs.Int.{w64, w128}
+use Rattle.std.proofs.Math.IntN.{+ℤ_assoc}
 use Rattle.whole_math.specs.Vectors.{sum}
 use Rattle.whole_math.proofs.Ring.{◌⊕◌, ◌⊗◌}
 use Rattle.whole_math.proofs.Order.{lins}
@@ -22,11 +23,8 @@ radii_same a b c d a' b' c' d' e f g h =
     ap (λ (z : ℤ). let p : Radii = record { r1 = z; r2 = b; r3 = c; ry = d } in p) e ∙ ap (λ (z : ℤ). let p : Radii = record { r1 = a'; r2 = z; r3 = c; ry = d } in p) f
     ∙ ap (λ (z : ℤ). let p : Radii = record { r1 = a'; r2 = b'; r3 = z; ry = d } in p) g ∙ ap (λ (z : ℤ). let p : Radii = record { r1 = a'; r2 = b'; r3 = c'; ry = z } in p) h
 
-plus_assoc : (a b c : ℤ) → (a +ℤ b) +ℤ c ≡ a +ℤ (b +ℤ c)
-plus_assoc a b c = same_by (a ∷ b ∷ c ∷ []) (λ a b c. ((a ⊕ b) ⊕ c, a ⊕ (b ⊕ c))) refl
-
 pub radii_assoc : (p q r : Radii) → add_radii (add_radii p q) r ≡ add_radii p (add_radii q r)
-radii_assoc p q r = radii_same _ _ _ _ _ _ _ _ (plus_assoc p.r1 q.r1 r.r1) (plus_assoc p.r2 q.r2 r.r2) (plus_assoc p.r3 q.r3 r.r3) (plus_assoc p.ry q.ry r.ry)
+radii_assoc p q r = radii_same _ _ _ _ _ _ _ _ (+ℤ_assoc p.r1 q.r1 r.r1) (+ℤ_assoc p.r2 q.r2 r.r2) (+ℤ_assoc p.r3 q.r3 r.r3) (+ℤ_assoc p.ry q.ry r.ry)
 
 pub up_to : (a b : ℤ) (m : ℕ) → a ≤ℤ (b +ℤ pos (2 ^ 75)) → b ≤ℤ pos m → a ≤ℤ pos (m + 2 ^ 75)
 up_to a b m h g = omega (arith, lins)

@@ -1,5 +1,5 @@
 -- The steps of the sums over rows, over plain numbers.
-use Rattle.std.proofs.Common.{◌≡◌, ℕ, ◌+◌, ◌*◌, ◌^◌, ◌≤◌, [], ◌∷◌, ℤ, pos, ◌+ℤ◌, ◌-ℤ◌, ◌*ℤ◌, unsigned_abs, arith, sym, ap, ◌∙◌, refl, subst}
+use Rattle.std.proofs.Common.{◌≡◌, ℕ, ◌+◌, ◌*◌, ◌^◌, ◌≤◌, [], ◌∷◌, ℤ, pos, ◌+ℤ◌, ◌-ℤ◌, ◌*ℤ◌, unsigned_abs, arith, sym, ap, ◌∙◌, refl, subst, le_trans}
 use Rattle.std.proofs.lemmas.Int.{ints}
 use Rattle.whole_math.proofs.Ring.{◌⊕◌, ◌⊖◌, ◌⊗◌}
 use Rattle.whole_math.proofs.Order.{abs_mul_le}
@@ -45,13 +45,10 @@ group_size t1 t2 t0 w s t n g e h1 hw hs ht =
     let q : unsigned_abs ((w *ℤ s) *ℤ t) ≤ (unsigned_abs w * (n * 2 ^ 34)) * (n * 2 ^ 34) = abs_mul_le (w *ℤ s) t (unsigned_abs w * (n * 2 ^ 34)) (n * 2 ^ 34) p ht in
     let o : (unsigned_abs w * (n * 2 ^ 34)) * (n * 2 ^ 34) ≤ 15 * 2 ^ 100 = product_of (unsigned_abs w) n hw g in
     let a : unsigned_abs (t1 +ℤ ((w *ℤ s) *ℤ t)) ≤ unsigned_abs t1 + unsigned_abs ((w *ℤ s) *ℤ t) = size_add t1 ((w *ℤ s) *ℤ t) in
-    let b : unsigned_abs ((w *ℤ s) *ℤ t) ≤ 15 * 2 ^ 100 = chain q o in
+    let b : unsigned_abs ((w *ℤ s) *ℤ t) ≤ 15 * 2 ^ 100 = le_trans q o in
     subst (λ (z : ℤ). unsigned_abs z ≤ unsigned_abs t0 + 2 ^ 105) (sym e) (last (unsigned_abs (t1 +ℤ ((w *ℤ s) *ℤ t))) (unsigned_abs t1) (unsigned_abs ((w *ℤ s) *ℤ t))
     (unsigned_abs t0) n a b h1 g)
   where
-    chain : {a b c : ℕ} → a ≤ b → b ≤ c → a ≤ c
-    chain h g = omega arith
-
     last : (a b c d n : ℕ) → a ≤ b + c → c ≤ 15 * 2 ^ 100 → b ≤ d + (n * 2 ^ 100) → n ≤ 15 → a ≤ d + 2 ^ 105
     last a b c d n h i j k = omega arith
 

@@ -6,7 +6,7 @@ use Rattle.std.proofs.Math.Seq.{take-length}
 use Rattle.decimal_text.specs.Whole.{is_digit, are_digits, digit_sum, number_from}
 use Rattle.decimal_text.specs.Fixed.{are_blank, signed, fixed_of}
 use Rattle.decimal_text.specs.FixedForm.{IsNumber, IsSigned, size_with}
-use Rattle.decimal_text.proofs.Numbers.{number_from-sum, digits_are}
+use Rattle.decimal_text.proofs.Numbers.{number_from-sum, digits_are, number_from-append}
 use Rattle.decimal_text.proofs.FixedReads.{read_only}
 use Rattle.rinex_head.specs.Columns.{padded, columns}
 use Rattle.obs_fields.specs.Amounts.{after_sign, StandsBehindBlanks, AreDigitsOf}
@@ -36,10 +36,6 @@ behind_more text rest stands some is =
       text_is = stands.text_is ∙ ap (λ l. stands.before ++ l) (first_rest rest some) ∙ sym (append_assoc stands.before (b ∷ []) after);
       blank = blank_more stands.before b stands.blank is;
     }
-
-number_from-append : (n : ℕ) (xs ys : List ℕ) → number_from n (xs ++ ys) ≡ number_from (number_from n xs) ys
-number_from-append n [] ys = refl
-number_from-append n (x ∷ xs) ys = number_from-append (10 * n + (x - 48)) xs ys
 
 is_number : (whole part : List ℕ) → are_digits whole ≡ true → are_digits part ≡ true → 1 ≤ length part → IsNumber (whole ++ 46 ∷ part) whole part
 is_number whole part digits digits₂ some = record {

@@ -3,9 +3,11 @@ use Rattle.std.proofs.Common.{◌≡◌, ◌+◌, ◌-◌, ◌*◌, ◌/◌, ◌
 use Rattle.std.proofs.lemmas.Bool.Decides.{nat_tests}
 use Rattle.std.proofs.lemmas.Nat.{and_block, and_le_l, shr_high, mod_low}
 use Rattle.std.proofs.lemmas.Nat.Bits.{and_high_mask}
+use Rattle.std.proofs.NetLemmas.Arrays.{eight_items}
 use Rattle.decimal_text.specs.Whole.{is_digit, are_digits, digit_sum, number_from}
 use Rattle.decimal_text.specs.Fixed.{signed, fixed_of}
 use Rattle.decimal_text.proofs.Numbers.{number_from-sum, digits_are}
+use Rattle.rinex_head.proofs.TextLines.{IsByte}
 use Rattle.obs_fields.specs.Amounts.{AreDigitsOf}
 use Rattle.obs_fields.specs.SatFields.{digit_of}
 use Rattle.obs_fields.proofs.AmountLaws.{usual_is}
@@ -26,9 +28,6 @@ pub record Each (P : ℕ → Type 0) (a b c d e f g h : ℕ) : Type 0 where
   pub of_5 : P f
   pub of_6 : P g
   pub of_7 : P h
-
-abbrev pub IsByte : ℕ → Type 0
-IsByte b = b < 256
 
 -- the high half of a byte is this
 abbrev pub HasHalf : ℕ → ℕ → Type 0
@@ -248,19 +247,6 @@ eight_are w a b c d e f g h is are =
       few_enough (number_in (10 * (w - zeros) + (w - zeros) / 256)) (a - 48) (b - 48) (c - 48) (d - 48) (e - 48) (f - 48) (g - 48) (h - 48) number nines,
     )
 
-eight_bytes : (text : List ℕ) → length text ≡ 8
-    → text ≡ get_or text 0 0 ∷ get_or text 1 0 ∷ get_or text 2 0 ∷ get_or text 3 0 ∷ get_or text 4 0 ∷ get_or text 5 0 ∷ get_or text 6 0 ∷ get_or text 7 0 ∷ []
-eight_bytes [] l = absurd (omega (arith, l))
-eight_bytes (a ∷ []) l = absurd (omega (arith, l))
-eight_bytes (a ∷ b ∷ []) l = absurd (omega (arith, l))
-eight_bytes (a ∷ b ∷ c ∷ []) l = absurd (omega (arith, l))
-eight_bytes (a ∷ b ∷ c ∷ d ∷ []) l = absurd (omega (arith, l))
-eight_bytes (a ∷ b ∷ c ∷ d ∷ e ∷ []) l = absurd (omega (arith, l))
-eight_bytes (a ∷ b ∷ c ∷ d ∷ e ∷ f ∷ []) l = absurd (omega (arith, l))
-eight_bytes (a ∷ b ∷ c ∷ d ∷ e ∷ f ∷ g ∷ []) l = absurd (omega (arith, l))
-eight_bytes (a ∷ b ∷ c ∷ d ∷ e ∷ f ∷ g ∷ h ∷ []) l = refl
-eight_bytes (a ∷ b ∷ c ∷ d ∷ e ∷ f ∷ g ∷ h ∷ x ∷ bs) l = absurd (omega (arith, l))
-
 -- of the first eight bytes of a text
 abbrev pub EachOf : (ℕ → Type 0) → List ℕ → Type 0
 EachOf P text = Each P (get_or text 0 0) (get_or text 1 0) (get_or text 2 0) (get_or text 3 0) (get_or text 4 0) (get_or text 5 0) (get_or text 6 0) (get_or text 7 0)
@@ -303,7 +289,7 @@ word_number text w long small is halves above =
     let n = number_in (10 * (w - zeros) + (w - zeros) / 256) in
     let read = eight_are w (get_or text 0 0) (get_or text 1 0) (get_or text 2 0) (get_or text 3 0) (get_or text 4 0) (get_or text 5 0) (get_or text 6 0) (get_or text 7 0) is
     (nine_bytes text w small is halves above) in
-    (subst (λ (t : List ℕ). AreDigitsOf t n) (sym (eight_bytes text long)) read.0, read.1)
+    (subst (λ (t : List ℕ). AreDigitsOf t n) (sym (eight_items text long)) read.0, read.1)
 
 -- ---- an amount of ten columns before the point
 

@@ -27,7 +27,8 @@ sub_of_whole p k = ap with_num (same_by (p.num ∷ k ∷ pos p.den ∷ []) (λ n
     with_num : ℤ → Rational
     with_num n = record { num = n; den = p.den * 1; positive = mul-pos p.positive (of_whole k).positive }
 
-cycles_give : (arcs : List Arc) (ss : List ℕ) (s : ℕ) (z : List ℤ) (r : Row) → neg_ℤ (cycle s *ℤ integer arcs ss z r.arc s) ≡ dot (cycles arcs ss s r) z
+-- an integer as the groups see it
+pub cycles_give : (arcs : List Arc) (ss : List ℕ) (s : ℕ) (z : List ℤ) (r : Row) → neg_ℤ (cycle s *ℤ integer arcs ss z r.arc s) ≡ dot (cycles arcs ss s r) z
 cycles_give arcs ss s z r =
     same_by (cycle s ∷ integer arcs ss z r.arc s ∷ []) (λ c n. (ng (c ⊗ n), ng c ⊗ n)) refl
     ∙ sym (dot_only_at (integer_count arcs ss) (integer_place arcs ss r.arc s) (neg_ℤ (cycle s)) z (place_below arcs ss r.arc s))

@@ -13,6 +13,7 @@ use Rattle.whole_math.specs.Vectors.{len, dot, zeros}
 use Rattle.whole_math.proofs.Vectors.{len_is, dot_zeros}
 use Rattle.whole_math.proofs.Ring.{◌⊕◌, ◌⊗◌}
 use Rattle.whole_math.proofs.Inequalities.{same_by, nat}
+use Rattle.quadratic_form.proofs.MatrixEntries.{length_zeros}
 use Rattle.obs_rows.specs.declared.arcs.Arc.{Arc}
 use Rattle.obs_rows.specs.Arcs.{is_free, free_count, free_before}
 use Rattle.obs_rows.specs.declared.units.TheConstants.{SIGNALS, SIGNALS_12, SIGNALS_15, SIGNALS_125, COARSE_SIGNALS}
@@ -71,9 +72,6 @@ place_within arcs ss k s j m f d inside free at em ef =
     place_below arcs ss k s ((m * f) + j) e
 
 -- ---- coefficients that are 0 but at one place
-pub length_zeros : (n : ℕ) → length (zeros n) ≡ n
-length_zeros zero = refl
-length_zeros (suc n) = ap suc (length_zeros n)
 
 pub len_only_at : (n : ℕ) (p : Option ℕ) (c : ℤ) → len (only_at n p c) ≡ pos n
 len_only_at n (Some i) c = len_is (set (zeros n) i c) ∙ ap pos (length-set (zeros n) i c ∙ length_zeros n)

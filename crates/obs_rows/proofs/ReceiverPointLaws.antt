@@ -7,9 +7,10 @@ use Rattle.whole_math.proofs.Absolute.{abs_square}
 use Rattle.whole_math.proofs.Order.{square_nn, lins}
 use Rattle.whole_math.proofs.Words.{as_w64}
 use Rattle.whole_math.proofs.Vectors.{squared_norm_nonneg}
+use Rattle.whole_math.proofs.Inequalities.{le_trans_ℤ}
 use Rattle.obs_rows.specs.Ranges.{IsPoint}
 use Rattle.obs_rows.specs.ReceiverPoints.{IsReceiverPoint}
-use Rattle.obs_rows.specs.declared.limits.TheConstants.{MOST_COORDINATE, MOST_DISTANCE}
+use Rattle.obs_rows.specs.declared.limits.TheConstants.{MOST_COORDINATE}
 
 -- a number whose square is at most that of m is at most m in size
 square_root : (m n : ℕ) → n * n ≤ m * m → n ≤ m
@@ -34,10 +35,7 @@ square_in (x ∷ s) (suc k) d h = more (get_or s k d *ℤ get_or s k d) (squared
 
 -- no coordinate of a receiver's point is farther from 0 than the point from the Earth's centre
 pub receiver_is_point : (p : List ℤ) → IsReceiverPoint p → IsPoint p
-receiver_is_point p h k d inside = size_of_square (get_or p k d) MOST_COORDINATE (trans (get_or p k d *ℤ get_or p k d) (squared_norm p) (pos (MOST_DISTANCE * MOST_DISTANCE)) (square_in p k d inside) h.1)
-  where
-    trans : (a b c : ℤ) → a ≤ℤ b → b ≤ℤ c → a ≤ℤ c
-    trans a b c h g = omega (arith, lins)
+receiver_is_point p h k d inside = size_of_square (get_or p k d) MOST_COORDINATE (le_trans_ℤ (square_in p k d inside) h.1)
 
 -- the words of a sum of three squares
 pub three_words : (a b c : ℤ) → pos 0 ≤ℤ a → a ≤ℤ pos (2 ^ 80) → pos 0 ≤ℤ b → b ≤ℤ pos (2 ^ 80) → pos 0 ≤ℤ c → c ≤ℤ pos (2 ^ 80) →

@@ -13,6 +13,7 @@ use Rattle.std.proofs.lemmas.Map.Keys.{IsDistinct-head, IsDistinct-tail, IsDisti
 use Rattle.std.proofs.lemmas.Map.Views.{any-filter_same}
 use Rattle.std.proofs.Math.Seq.{take-suc}
 use Rattle.indexmap.specs.IndexMap.{insert_entry}
+use Rattle.std.proofs.Math.Bool.{or-false}
 use Rattle.obs_store.specs.declared.values.SatObs.{SatObs}
 use Rattle.obs_store.specs.declared.series.Epoch.{Epoch}
 use Rattle.obs_store.specs.Satellites.{has_satellite, AreSatellites}
@@ -23,10 +24,6 @@ use Rattle.obs_store.specs.Seen.{first_seen, numbers_of, all_numbers, epochs_wit
 abbrev put : ℕ → List ℕ → List ℕ
 put n [] = n ∷ []
 put n (x ∷ xs) = cond (nat_eq n x) (x ∷ xs) (x ∷ put n xs)
-
-or_false : (b : Bool) → (b || false) ≡ b
-or_false true = refl
-or_false false = refl
 
 others : ℕ → List ℕ → List ℕ
 others x xs = filter (λ m. not (nat_eq x m)) xs
@@ -70,7 +67,7 @@ has_satellite-numbers n [] = refl
 has_satellite-numbers n (s ∷ ss) = ap (λ b. nat_eq n s.number || b) (has_satellite-numbers n ss)
 
 has_satellite-push : (n : ℕ) (ss : List SatObs) (s : SatObs) → has_satellite n (ss ++ s ∷ []) ≡ has_satellite n ss || nat_eq n s.number
-has_satellite-push n ss s = list_any-append (λ t. nat_eq n t.number) ss (s ∷ []) ∙ ap (λ b. has_satellite n ss || b) (or_false (nat_eq n s.number))
+has_satellite-push n ss s = list_any-append (λ t. nat_eq n t.number) ss (s ∷ []) ∙ ap (λ b. has_satellite n ss || b) (or-false (nat_eq n s.number))
 
 kept_apart : (x : ℕ) (xs : List ℕ) → AllByRecursion (λ y. nat_eq x y ≡ false) (others x xs)
 unfolding others
@@ -125,7 +122,7 @@ numbers_more es e ss s =
     ∙ ap (λ l. l ++ s.number ∷ []) (sym (all_numbers-push es (with_sats e ss)))
 
 has_same : (m : ℕ) (ss : List SatObs) (s : SatObs) → nat_eq s.number m ≡ false → has_satellite m (ss ++ s ∷ []) ≡ has_satellite m ss
-has_same m ss s apart = has_satellite-push m ss s ∙ rw (flip m s.number apart) (or_false (has_satellite m ss))
+has_same m ss s apart = has_satellite-push m ss s ∙ rw (flip m s.number apart) (or-false (has_satellite m ss))
 
 -- no satellite before has the number of this one
 fresh_at : (ss : List SatObs) (k : ℕ) (z : SatObs) → AreSatellites ss → k < length ss → has_satellite (get_or ss k z).number (take k ss) ≡ false

@@ -26,18 +26,6 @@ first_move c s e t x y d h0 h1 h2 h3 h4 h5 h6 h7 =
     ((ko (pos 2)) ⊗ ((((va 2) ⊗ (va 4)) ⊕ ((va 3) ⊗ (va 5))) ⊖ (((va 0) ⊗ (va 4)) ⊕ ((va 1) ⊗ (va 5))))) ((ko (pos 2)) ⊗ ((ko (pos 152000000)) ⊗ (va 6)))
     (((((hy 1) ⊠ (hy 5)) ⊞ ((hy 0) ⊠ (hy 4))) ⊞ ((hy 3) ⊠ (hy 7))) ⊞ ((hy 2) ⊠ (hy 6))) refl (h0, (h1, (h2, (h3, (h4, (h5, (h6, (h7, tt)))))))))
 
-pub first_back : (c s e t x y d : Rational) → (sub_r c e) ≤ʳ (mul_r (of_whole (pos 2)) d) → (sub_r e c) ≤ʳ (mul_r (of_whole (pos 2)) d)
-    → (sub_r s t) ≤ʳ (mul_r (of_whole (pos 2)) d) → (sub_r t s) ≤ʳ (mul_r (of_whole (pos 2)) d) → x ≤ʳ (of_whole (pos 38000000))
-    → (neg_r (x)) ≤ʳ (of_whole (pos 38000000)) → y ≤ʳ (of_whole (pos 38000000)) → (neg_r (y)) ≤ʳ (of_whole (pos 38000000))
-    → (sub_r (add_r (mul_r c x) (mul_r s y)) (add_r (mul_r e x) (mul_r t y))) ≤ʳ (mul_r (of_whole (pos 152000000)) d)
-first_back c s e t x y d h0 h1 h2 h3 h4 h5 h6 h7 =
-    cancel_r (of_whole (pos 2)) (sub_r (add_r (mul_r c x) (mul_r s y)) (add_r (mul_r e x) (mul_r t y))) (mul_r (of_whole (pos 152000000)) d)
-    (omega (arith, ints)) (cert_r (c ∷ s ∷ e ∷ t ∷ x ∷ y ∷ d ∷ []) ((((va 0) ⊖ (va 2)) ≼ ((ko (pos 2)) ⊗ (va 6)))
-    ∷ (((va 2) ⊖ (va 0)) ≼ ((ko (pos 2)) ⊗ (va 6))) ∷ (((va 1) ⊖ (va 3)) ≼ ((ko (pos 2)) ⊗ (va 6))) ∷ (((va 3) ⊖ (va 1)) ≼ ((ko (pos 2)) ⊗ (va 6)))
-    ∷ ((va 4) ≼ (ko (pos 38000000))) ∷ ((ng (va 4)) ≼ (ko (pos 38000000))) ∷ ((va 5) ≼ (ko (pos 38000000))) ∷ ((ng (va 5)) ≼ (ko (pos 38000000))) ∷ [])
-    ((ko (pos 2)) ⊗ ((((va 0) ⊗ (va 4)) ⊕ ((va 1) ⊗ (va 5))) ⊖ (((va 2) ⊗ (va 4)) ⊕ ((va 3) ⊗ (va 5))))) ((ko (pos 2)) ⊗ ((ko (pos 152000000)) ⊗ (va 6)))
-    (((((hy 1) ⊠ (hy 4)) ⊞ ((hy 0) ⊠ (hy 5))) ⊞ ((hy 3) ⊠ (hy 6))) ⊞ ((hy 2) ⊠ (hy 7))) refl (h0, (h1, (h2, (h3, (h4, (h5, (h6, (h7, tt)))))))))
-
 pub second_move : (c s e t x y d : Rational) → (sub_r c e) ≤ʳ (mul_r (of_whole (pos 2)) d) → (sub_r e c) ≤ʳ (mul_r (of_whole (pos 2)) d)
     → (sub_r s t) ≤ʳ (mul_r (of_whole (pos 2)) d) → (sub_r t s) ≤ʳ (mul_r (of_whole (pos 2)) d) → x ≤ʳ (of_whole (pos 38000000))
     → (neg_r (x)) ≤ʳ (of_whole (pos 38000000)) → y ≤ʳ (of_whole (pos 38000000)) → (neg_r (y)) ≤ʳ (of_whole (pos 38000000))
@@ -49,18 +37,6 @@ second_move c s e t x y d h0 h1 h2 h3 h4 h5 h6 h7 =
     ∷ ((va 4) ≼ (ko (pos 38000000))) ∷ ((ng (va 4)) ≼ (ko (pos 38000000))) ∷ ((va 5) ≼ (ko (pos 38000000))) ∷ ((ng (va 5)) ≼ (ko (pos 38000000))) ∷ [])
     ((ko (pos 2)) ⊗ ((((va 2) ⊗ (va 5)) ⊖ ((va 3) ⊗ (va 4))) ⊖ (((va 0) ⊗ (va 5)) ⊖ ((va 1) ⊗ (va 4))))) ((ko (pos 2)) ⊗ ((ko (pos 152000000)) ⊗ (va 6)))
     (((((hy 1) ⊠ (hy 7)) ⊞ ((hy 0) ⊠ (hy 6))) ⊞ ((hy 3) ⊠ (hy 4))) ⊞ ((hy 2) ⊠ (hy 5))) refl (h0, (h1, (h2, (h3, (h4, (h5, (h6, (h7, tt)))))))))
-
-pub second_back : (c s e t x y d : Rational) → (sub_r c e) ≤ʳ (mul_r (of_whole (pos 2)) d) → (sub_r e c) ≤ʳ (mul_r (of_whole (pos 2)) d)
-    → (sub_r s t) ≤ʳ (mul_r (of_whole (pos 2)) d) → (sub_r t s) ≤ʳ (mul_r (of_whole (pos 2)) d) → x ≤ʳ (of_whole (pos 38000000))
-    → (neg_r (x)) ≤ʳ (of_whole (pos 38000000)) → y ≤ʳ (of_whole (pos 38000000)) → (neg_r (y)) ≤ʳ (of_whole (pos 38000000))
-    → (sub_r (sub_r (mul_r c y) (mul_r s x)) (sub_r (mul_r e y) (mul_r t x))) ≤ʳ (mul_r (of_whole (pos 152000000)) d)
-second_back c s e t x y d h0 h1 h2 h3 h4 h5 h6 h7 =
-    cancel_r (of_whole (pos 2)) (sub_r (sub_r (mul_r c y) (mul_r s x)) (sub_r (mul_r e y) (mul_r t x))) (mul_r (of_whole (pos 152000000)) d)
-    (omega (arith, ints)) (cert_r (c ∷ s ∷ e ∷ t ∷ x ∷ y ∷ d ∷ []) ((((va 0) ⊖ (va 2)) ≼ ((ko (pos 2)) ⊗ (va 6)))
-    ∷ (((va 2) ⊖ (va 0)) ≼ ((ko (pos 2)) ⊗ (va 6))) ∷ (((va 1) ⊖ (va 3)) ≼ ((ko (pos 2)) ⊗ (va 6))) ∷ (((va 3) ⊖ (va 1)) ≼ ((ko (pos 2)) ⊗ (va 6)))
-    ∷ ((va 4) ≼ (ko (pos 38000000))) ∷ ((ng (va 4)) ≼ (ko (pos 38000000))) ∷ ((va 5) ≼ (ko (pos 38000000))) ∷ ((ng (va 5)) ≼ (ko (pos 38000000))) ∷ [])
-    ((ko (pos 2)) ⊗ ((((va 0) ⊗ (va 5)) ⊖ ((va 1) ⊗ (va 4))) ⊖ (((va 2) ⊗ (va 5)) ⊖ ((va 3) ⊗ (va 4))))) ((ko (pos 2)) ⊗ ((ko (pos 152000000)) ⊗ (va 6)))
-    (((((hy 1) ⊠ (hy 6)) ⊞ ((hy 0) ⊠ (hy 7))) ⊞ ((hy 3) ⊠ (hy 5))) ⊞ ((hy 2) ⊠ (hy 4))) refl (h0, (h1, (h2, (h3, (h4, (h5, (h6, (h7, tt)))))))))
 
 pub first_size : (c s x y : Rational) → c ≤ʳ (of_whole (pos 2)) → (neg_r (c)) ≤ʳ (of_whole (pos 2)) → s ≤ʳ (of_whole (pos 2))
     → (neg_r (s)) ≤ʳ (of_whole (pos 2)) → x ≤ʳ (of_whole (pos 38000000)) → (neg_r (x)) ≤ʳ (of_whole (pos 38000000)) → y ≤ʳ (of_whole (pos 38000000))

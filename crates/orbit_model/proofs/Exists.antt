@@ -15,7 +15,7 @@ use Rattle.orbit_model.specs.Elements.{earth_rate}
 use Rattle.orbit_model.specs.SeenPlaces.{Place, difference, square, turned_back, HasSeenPlace, IsSentPlace, IsReceiverPlace, range_of}
 use Rattle.orbit_model.proofs.NearRoots.{near_root, travel_root}
 use Rattle.orbit_model.proofs.Apart.{IsBetween, turned_square, loosely, vector_square}
-use Rattle.orbit_model.proofs.BisectionCertificates.{coordinate_square, first_move, first_back, second_move, second_back, first_size, first_neg, second_size, second_neg, square_move, ends_high, ends_low, light_square, at_last, sum_move, zero_early, middle_low, middle_high, most_below, upper_half, lower_half, slower, slower_back, range_nn}
+use Rattle.orbit_model.proofs.BisectionCertificates.{coordinate_square, first_move, second_move, first_size, first_neg, second_size, second_neg, square_move, ends_high, ends_low, light_square, at_last, sum_move, zero_early, middle_low, middle_high, most_below, upper_half, lower_half, slower, slower_back, range_nn}
 use Rattle.orbit_model.proofs.ChangeCertificates.{neg_square}
 
 pub turned_round : (x y z : Rational) → (add_r (add_r (mul_r y y) (mul_r x x)) (mul_r z z)) ≤ʳ (add_r (add_r (mul_r x x) (mul_r y y)) (mul_r z z))
@@ -146,12 +146,12 @@ moves_slowly sent point d x y p q h hp hq t =
     sum_move u v w v2 sent.z point.x point.y point.z d
     (square_move u v point.x d
     (first_move c s e f sent.x sent.y d t.cos_up t.cos_down t.sin_up t.sin_down z.x.0 z.x.1 z.y.0 z.y.1)
-    (first_back c s e f sent.x sent.y d t.cos_up t.cos_down t.sin_up t.sin_down z.x.0 z.x.1 z.y.0 z.y.1)
+    (first_move e f c s sent.x sent.y d t.cos_down t.cos_up t.sin_down t.sin_up z.x.0 z.x.1 z.y.0 z.y.1)
     (first_size e f sent.x sent.y cq.0 cq.1 sq.0 sq.1 z.x.0 z.x.1 z.y.0 z.y.1) (first_neg e f sent.x sent.y cq.0 cq.1 sq.0 sq.1 z.x.0 z.x.1 z.y.0 z.y.1)
     (first_size c s sent.x sent.y cp.0 cp.1 sp.0 sp.1 z.x.0 z.x.1 z.y.0 z.y.1) (first_neg c s sent.x sent.y cp.0 cp.1 sp.0 sp.1 z.x.0 z.x.1 z.y.0 z.y.1) z.p.0 z.p.1)
     (square_move w v2 point.y d
     (second_move c s e f sent.x sent.y d t.cos_up t.cos_down t.sin_up t.sin_down z.x.0 z.x.1 z.y.0 z.y.1)
-    (second_back c s e f sent.x sent.y d t.cos_up t.cos_down t.sin_up t.sin_down z.x.0 z.x.1 z.y.0 z.y.1)
+    (second_move e f c s sent.x sent.y d t.cos_down t.cos_up t.sin_down t.sin_up z.x.0 z.x.1 z.y.0 z.y.1)
     (second_size e f sent.x sent.y cq.0 cq.1 sq.0 sq.1 z.x.0 z.x.1 z.y.0 z.y.1) (second_neg e f sent.x sent.y cq.0 cq.1 sq.0 sq.1 z.x.0 z.x.1 z.y.0 z.y.1)
     (second_size c s sent.x sent.y cp.0 cp.1 sp.0 sp.1 z.x.0 z.x.1 z.y.0 z.y.1) (second_neg c s sent.x sent.y cp.0 cp.1 sp.0 sp.1 z.x.0 z.x.1 z.y.0 z.y.1) z.q.0 z.q.1)
 

@@ -4,11 +4,16 @@ use Rattle.std.proofs.Common.{lit<}
 use Rattle.rational.specs.Rational.{Rational, ◌≈◌, ◌≤ʳ◌, ◌<ʳ◌, of_whole, add_r, sub_r, mul_r, divided, IsNearRoot}
 use Rattle.trig_box.specs.AnglePairs.{Pair, IsAnglePair}
 use Rattle.orbit_model.specs.Elements.{earth_rate}
+use Rattle.orbit_model.specs.Solution.{Quantities}
 
 pub record Place : Type 0 where
   pub x : Rational
   pub y : Rational
   pub z : Rational
+
+-- the place from which a solution's satellite sent
+abbrev pub sent_place : Quantities → Place
+sent_place q = record { x = q.x; y = q.y; z = q.z }
 
 abbrev pub difference : Place → Place → Place
 difference p q = record { x = sub_r p.x q.x; y = sub_r p.y q.y; z = sub_r p.z q.z }

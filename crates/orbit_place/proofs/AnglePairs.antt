@@ -3,18 +3,14 @@ use Rattle.std.proofs.Common.{ℕ, ◌+◌, ◌*◌, ◌^◌, ◌≤◌, ℤ, po
 use Rattle.std.proofs.lemmas.Int.{ints}
 use Rattle.whole_math.proofs.Order.{le_pos}
 use Rattle.rational.specs.Rational.{Rational, ◌≤ʳ◌, add_r, mul_r, of_scale, two_to_minus}
-use Rattle.rational.proofs.Boxes.{end_in}
 use Rattle.iv_core.specs.declared.Iv.{Iv}
 use Rattle.iv_core.specs.Intervals.{Holds, IsWithin}
+use Rattle.iv_core.proofs.BoxLaws.{low_held}
 use Rattle.trig_box.specs.AnglePairs.{InRange, IsAnglePair}
 use Rattle.trig_box.proofs.PairLaws.{canonical_exists, canonical_is_pair, norm_law_5, norm_law_7}
 use Rattle.kepler_box.proofs.Steps.{in_range}
 use Rattle.orbit_place.proofs.Circle.{near_looser}
 use Rattle.orbit_place.specs.Rotations.{HasPairNearCircle}
-
--- the lower end of a box is an angle in it
-low_end_in : (b : Iv 56) → Holds b (of_scale 56 b.lo)
-low_end_in b = end_in 56 b.lo b.hi b.lo (omega (arith, ints)) b.ordered
 
 in_range_7 : (a : ℤ) → neg_ℤ (pos (2 ^ 62)) ≤ℤ a → a ≤ℤ pos (2 ^ 62) → InRange 7 (of_scale 56 a)
 in_range_7 a h k = omega (arith, ints)
@@ -24,7 +20,7 @@ near_circle_5 b cos sin r h =
     let x : Rational = of_scale 56 b.lo in
     let e = canonical_exists 5 x (in_range b.lo r.0 (below b.lo b.hi b.ordered r.1)) in
     let p = canonical_is_pair 5 x e.0 e.1 e.2 in
-    record { pair = record { cos = e.0; sin = e.1 }; held = h x e.0 e.1 (low_end_in b) p; near = norm_law_5 x e.0 e.1 p }
+    record { pair = record { cos = e.0; sin = e.1 }; held = h x e.0 e.1 (low_held b) p; near = norm_law_5 x e.0 e.1 p }
   where
     below : (a b : ℤ) → a ≤ℤ b → b ≤ℤ pos (2 ^ 60) → a ≤ℤ pos (2 ^ 60)
     below a b h k = omega (arith, ints)
@@ -38,7 +34,7 @@ near_circle_7 b cos sin h =
     let e = canonical_exists 7 x (in_range_7 b.lo b.low (below b.lo b.hi b.ordered b.high)) in
     let p = canonical_is_pair 7 x e.0 e.1 e.2 in
     let n = norm_law_7 x e.0 e.1 p in
-    record { pair = record { cos = e.0; sin = e.1 }; held = h x e.0 e.1 (low_end_in b) p; near = near_looser (two_to_minus 14) (of_scale 16 (pos 4)) (add_r (mul_r e.0 e.0) (mul_r e.1 e.1)) fourth n }
+    record { pair = record { cos = e.0; sin = e.1 }; held = h x e.0 e.1 (low_held b) p; near = near_looser (two_to_minus 14) (of_scale 16 (pos 4)) (add_r (mul_r e.0 e.0) (mul_r e.1 e.1)) fourth n }
   where
     below : (a b : ℤ) → a ≤ℤ b → b ≤ℤ pos (2 ^ 62) → a ≤ℤ pos (2 ^ 62)
     below a b h k = omega (arith, ints)

@@ -2,7 +2,7 @@
 use Rattle.std.proofs.Common.{ℕ, ◌+◌, ◌≤◌, List, [], ◌∷◌, ℤ, pos, ◌*ℤ◌, ◌≤ℤ◌, arith, refl, lit≤}
 use Rattle.std.proofs.lemmas.Int.{ints}
 use Rattle.whole_math.proofs.Ring.{va, ko, ◌⊕◌, ◌⊖◌, ◌⊗◌, ng}
-use Rattle.whole_math.proofs.Order.{le_pos}
+use Rattle.whole_math.proofs.Order.{le_pos, mul_nn}
 use Rattle.whole_math.proofs.Inequalities.{same_by, pos_nn, nat}
 use Rattle.whole_math.proofs.Certificates.{Hy, cert, square_root, ◌≼◌, hy, nm, ◌⊞◌, ◌⊠◌}
 use Rattle.rational.specs.Rational.{Rational, ◌≈◌, ◌≤ʳ◌, of_whole, of_scale, add_r, neg_r, sub_r, mul_r, AreWithin, IsAtMostInSize}
@@ -69,11 +69,8 @@ double_near a c p h i n =
 -- ---- the parts of a pair
 -- r² ≤ b² with b not negative
 root_order : (p b : Rational) → pos 0 ≤ℤ b.num → mul_r p p ≤ʳ mul_r b b → p ≤ʳ b
-root_order p b h k = square_root (p.num *ℤ pos b.den) (b.num *ℤ pos p.den) (nonneg b.num (pos p.den) h (pos_nn p.den)) (step p.num (pos p.den) b.num (pos b.den) k)
+root_order p b h k = square_root (p.num *ℤ pos b.den) (b.num *ℤ pos p.den) (mul_nn b.num (pos p.den) h (pos_nn p.den)) (step p.num (pos p.den) b.num (pos b.den) k)
   where
-    nonneg : (a d : ℤ) → pos 0 ≤ℤ a → pos 0 ≤ℤ d → pos 0 ≤ℤ (a *ℤ d)
-    nonneg a d h k = cert (a ∷ d ∷ []) ((ko (pos 0) ≼ va 0) ∷ (ko (pos 0) ≼ va 1) ∷ []) (ko (pos 0)) (va 0 ⊗ va 1) (hy 0 ⊠ hy 1) refl (h, (k, tt))
-
     step : (a d b e : ℤ) → (a *ℤ a *ℤ (e *ℤ e)) ≤ℤ (b *ℤ b *ℤ (d *ℤ d)) → (a *ℤ e *ℤ (a *ℤ e)) ≤ℤ (b *ℤ d *ℤ (b *ℤ d))
     step a d b e h = cert (a ∷ d ∷ b ∷ e ∷ []) ((va 0 ⊗ va 0 ⊗ (va 3 ⊗ va 3) ≼ va 2 ⊗ va 2 ⊗ (va 1 ⊗ va 1)) ∷ []) (va 0 ⊗ va 3 ⊗ (va 0 ⊗ va 3)) (va 2 ⊗ va 1 ⊗ (va 2 ⊗ va 1)) (hy 0) refl (h, tt)
 

@@ -8,10 +8,10 @@ use Rattle.whole_math.proofs.Order.{le_pos}
 use Rattle.whole_math.proofs.Inequalities.{nat}
 use Rattle.whole_math.proofs.Certificates.{Hy, Ce, ◌≼◌, hy, nm, sq, ◌⊞◌, ◌⊠◌}
 use Rattle.rational.specs.Rational.{Rational, ◌≤ʳ◌, of_whole, of_scale, sub_r, mul_r, AreWithin}
-use Rattle.rational.proofs.Boxes.{end_in}
 use Rattle.rational.proofs.Orders.{order_r, cancel_r, AreGiven}
 use Rattle.iv_core.specs.declared.Iv.{Iv}
 use Rattle.iv_core.specs.Intervals.{Holds, width_of, IsWithin}
+use Rattle.iv_core.proofs.BoxLaws.{low_held}
 use Rattle.orbit_model.specs.Solution.{one}
 use Rattle.orbit_model.specs.Places.{squared_distance, IsBetweenDistances}
 use Rattle.orbit_place.specs.Directions.{Point, IsNearSphere, HasPointNearSphere, HoldsPoint}
@@ -94,7 +94,7 @@ pub away : (radius : Iv 36) (dx dy dz : Iv 60) (a b c : Iv 36) → pos (19590000
     ((r : Rational) (d : Point) → Holds radius r → HoldsPoint dx dy dz d → Holds a (mul_r r d.x) × Holds b (mul_r r d.y) × Holds c (mul_r r d.z)) → IsBetweenDistances 19000000 38000000 a b c
 away radius dx dy dz a b c least most has an bn cn holds = λ x y z hx hy hz. ∥∥₁_elim has (hlevel props) (λ p.
     let r : Rational = of_scale 36 radius.lo in
-    let q = holds r p.point (low_in radius) p.held in
+    let q = holds r p.point (low_held radius) p.held in
     between r x y z p.point (record {
       near_sphere = p.near;
       low = up radius.lo least;
@@ -104,9 +104,6 @@ away radius dx dy dz a b c least most has an bn cn holds = λ x y z hx hy hz. �
       z_near = both_ways c z (mul_r r p.point.z) cn hz q.2;
     }))
   where
-    low_in : (b : Iv 36) → Holds b (of_scale 36 b.lo)
-    low_in b = end_in 36 b.lo b.hi b.lo (omega (arith, ints)) b.ordered
-
     up : (l : ℤ) → pos (19590000 * 2 ^ 36) ≤ℤ l → of_whole (pos 19590000) ≤ʳ of_scale 36 l
     up l h = omega (arith, ints)
 

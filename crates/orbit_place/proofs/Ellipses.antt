@@ -1,44 +1,25 @@
 -- The boxes of the pair of the true anomaly hold every one, and one near the circle.
-use Rattle.std.proofs.Common.{◌≡◌, ◌-◌, ◌*◌, ◌^◌, ◌<◌, [], ◌∷◌, ℤ, pos, ◌*ℤ◌, ◌≤ℤ◌, ◌<ℤ◌, arith, ap, sym, refl, List, ◌∙◌, lit≤, mul-pos, unsigned_abs}
+use Rattle.std.proofs.Common.{◌≡◌, ◌-◌, ◌*◌, ◌^◌, [], ◌∷◌, ℤ, pos, ◌*ℤ◌, ◌≤ℤ◌, ◌<ℤ◌, arith, refl, List, lit≤}
 use Rattle.std.proofs.lemmas.Int.{ints}
 use Rattle.std.proofs.Math.Logic.{∥∥₁_map}
 use Rattle.whole_math.proofs.Ring.{Ex, va, ◌⊕◌, ◌⊖◌, ◌⊗◌, ng}
 use Rattle.whole_math.proofs.Order.{le_pos}
-use Rattle.whole_math.proofs.Inequalities.{nat, same_by}
+use Rattle.whole_math.proofs.Inequalities.{nat}
 use Rattle.whole_math.proofs.Certificates.{Hy, Ce, mul_positive, ◌≼◌, hy, nm, sq, ◌⊞◌, ◌⊠◌}
 use Rattle.rational.specs.Rational.{Rational, ◌≈◌, ◌≤ʳ◌, of_whole, of_scale, two_to_minus, add_r, neg_r, sub_r, mul_r, AreWithin}
 use Rattle.rational.proofs.Laws.{≤ʳ_trans}
-use Rattle.rational.proofs.Boxes.{end_in}
 use Rattle.rational.proofs.Orders.{order_r, cancel_r, AreGiven, Equation, ◌≐◌}
 use Rattle.rational.proofs.Sizes.{positive_above}
 use Rattle.rational.proofs.Ends.{size_of_box}
+use Rattle.rational.proofs.Quotients.{HasQuotient, quotient_exists}
 use Rattle.iv_core.specs.declared.Iv.{Iv}
 use Rattle.iv_core.specs.Intervals.{Holds, IsWithin}
+use Rattle.iv_core.proofs.BoxLaws.{low_held}
 use Rattle.trig_box.specs.AnglePairs.{Pair}
 use Rattle.orbit_model.specs.Solution.{one}
 use Rattle.orbit_place.specs.Rotations.{HasPairNearCircle, HoldsBoth, IsNearCircle}
 use Rattle.orbit_place.proofs.Turns.{both_along}
 use Rattle.orbit_place.specs.Ellipses.{IsTrueAnomaly}
-
--- ---- x / y, for y above 0
-pub record HasQuotient (x y : Rational) : Type 0 where
-  pub value : Rational
-  pub is : mul_r value y ≈ x
-
-pub quotient : (x y : Rational) → pos 0 <ℤ y.num → HasQuotient x y
-quotient x y h = record {
-  value = record { num = x.num *ℤ pos y.den; den = x.den * unsigned_abs y.num; positive = mul-pos x.positive (size h) };
-  is = laid x.num (pos x.den) (pos y.den) y.num (pos (unsigned_abs y.num)) (same y.num h);
-}
-  where
-    size : {a : ℤ} → pos 0 <ℤ a → 0 < unsigned_abs a
-    size h = omega (arith, ints)
-
-    same : (a : ℤ) → pos 0 <ℤ a → pos (unsigned_abs a) ≡ a
-    same a h = omega (arith, ints)
-
-    laid : (a d e b c : ℤ) → c ≡ b → a *ℤ e *ℤ b *ℤ d ≡ a *ℤ (d *ℤ c *ℤ e)
-    laid a d e b c f = same_by (a ∷ d ∷ e ∷ b ∷ []) (λ a d e b. (a ⊗ e ⊗ b ⊗ d, a ⊗ (d ⊗ b ⊗ e))) refl ∙ ap (λ z. a *ℤ (d *ℤ z *ℤ e)) (sym f)
 
 -- ---- the norm: with q = 1 - e c, q² (N - 1) = (c² + s² - 1)(1 - e²) + (w² - 1 + e²) s²
 abbrev pub radius_at : Rational → Pair → Rational
@@ -161,9 +142,6 @@ pub record IsEllipseBox (ecc c s root radius cos sin : Iv 60) : Type 0 where
 far_out : (lo : ℤ) → pos (2 ^ 60 - 1025 * 2 ^ 45) ≤ℤ lo → least_radius ≤ʳ of_scale 60 lo
 far_out lo h = omega (arith, ints)
 
-low_in : (b : Iv 60) → Holds b (of_scale 60 b.lo)
-low_in b = end_in 60 b.lo b.hi b.lo (omega (arith, ints)) b.ordered
-
 pub has_true_pair : (ecc c s root radius cos sin : Iv 60) → IsEllipseBox ecc c s root radius cos sin → ∥ HasPairNearCircle 1 c s ∥₁ → ∥ HasPairNearCircle 2 cos sin ∥₁
 has_true_pair ecc c s root radius cos sin b has = ∥∥₁_map has go
   where
@@ -172,22 +150,22 @@ has_true_pair ecc c s root radius cos sin b has = ∥∥₁_map has go
         let e : Rational = of_scale 60 ecc.lo in
         let w : Rational = of_scale 60 root.lo in
         let p : Pair = x.pair in
-        let far : least_radius ≤ʳ radius_at e p = ≤ʳ_trans least_radius (of_scale 60 radius.lo) (radius_at e p) (far_out radius.lo b.radius_least) (b.radius_holds e p (low_in ecc) x.held).0 in
+        let far : least_radius ≤ʳ radius_at e p = ≤ʳ_trans least_radius (of_scale 60 radius.lo) (radius_at e p) (far_out radius.lo b.radius_least) (b.radius_holds e p (low_held ecc) x.held).0 in
         let above : pos 0 <ℤ (radius_at e p).num = positive_above least_radius (radius_at e p) (omega (arith, ints)) far in
-        let k : HasQuotient (sub_r p.cos e) (radius_at e p) = quotient (sub_r p.cos e) (radius_at e p) above in
-        let l : HasQuotient (mul_r w p.sin) (radius_at e p) = quotient (mul_r w p.sin) (radius_at e p) above in
-        let v : Pair = record { cos = k.value; sin = l.value } in
-        let n = size_of_box 60 (2 ^ 55) ecc.lo ecc.hi e b.small.0 b.small.1 (low_in ecc) in
+        let k : HasQuotient (sub_r p.cos e) (radius_at e p) = quotient_exists (sub_r p.cos e) (radius_at e p) above in
+        let l : HasQuotient (mul_r w p.sin) (radius_at e p) = quotient_exists (mul_r w p.sin) (radius_at e p) above in
+        let v : Pair = record { cos = k.quotient; sin = l.quotient } in
+        let n = size_of_box 60 (2 ^ 55) ecc.lo ecc.hi e b.small.0 b.small.1 (low_held ecc) in
         record {
           pair = v;
-          held = b.quotients e w p v (low_in ecc) x.held (low_in root) (k.is, l.is);
+          held = b.quotients e w p v (low_held ecc) x.held (low_held root) (k.is_quotient, l.is_quotient);
           near = true_near e w p v (record {
             near_circle = x.near;
-            near_root = b.root_near e (low_in ecc);
+            near_root = b.root_near e (low_held ecc);
             high = ≤ʳ_trans e limit one n.0 under_one;
             low = ≤ʳ_trans (neg_r e) limit one n.1 under_one;
             far = far;
-            anomaly = (k.is, l.is);
+            anomaly = (k.is_quotient, l.is_quotient);
           });
         }
       where

@@ -1,25 +1,22 @@
 -- How large the radius is at least, from one radius in its box.
-use Rattle.std.proofs.Common.{ℕ, ◌-◌, ◌*◌, ◌^◌, [], ◌∷◌, ℤ, pos, ◌-ℤ◌, ◌≤ℤ◌, arith, refl, lit≤}
+use Rattle.std.proofs.Common.{◌-◌, ◌*◌, ◌^◌, [], ◌∷◌, ℤ, pos, ◌-ℤ◌, ◌≤ℤ◌, arith, refl, lit≤}
 use Rattle.std.proofs.lemmas.Int.{ints}
 use Rattle.whole_math.proofs.Ring.{va, ◌⊕◌, ◌⊗◌, ng}
 use Rattle.whole_math.proofs.Order.{le_pos}
 use Rattle.whole_math.proofs.Inequalities.{nat}
 use Rattle.whole_math.proofs.Certificates.{◌≼◌, hy, ◌⊞◌, ◌⊠◌}
 use Rattle.rational.specs.Rational.{Rational, ◌≤ʳ◌, of_whole, of_scale, add_r, mul_r}
-use Rattle.rational.proofs.Boxes.{end_in}
 use Rattle.rational.proofs.Orders.{order_r}
 use Rattle.rational.proofs.Ends.{size_of_box, low_end}
 use Rattle.iv_core.specs.declared.Iv.{Iv}
 use Rattle.iv_core.specs.Intervals.{Holds, width_of, IsWithin}
-
-low_in : {k : ℕ} (b : Iv k) → Holds b (of_scale k b.lo)
-low_in {k} b = end_in k b.lo b.hi b.lo (omega (arith, ints)) b.ordered
+use Rattle.iv_core.proofs.BoxLaws.{low_held}
 
 -- A of at least 20249999 m times a share of at least 1 - 1025/32768, less a correction of at most 20020 m
 pub radius_least : (axis : Iv 36) (share : Iv 60) (change radius : Iv 36) → pos (20249999 * 2 ^ 36) ≤ℤ axis.lo → pos (2 ^ 60 - 1025 * 2 ^ 45) ≤ℤ share.lo → IsWithin (20020 * 2 ^ 36) change →
     width_of radius ≤ℤ pos 143 → ((x y z : Rational) → Holds axis x → Holds share y → Holds change z → Holds radius (add_r (mul_r x y) z)) → pos (19590000 * 2 ^ 36) ≤ℤ radius.lo
 radius_least axis share change radius h k s w holds = down radius.lo (low_end 36 radius.lo radius.hi (pos 143)
-    (pos (19590001 * 2 ^ 36)) (add_r (mul_r x y) z) w above (holds x y z (low_in axis) (low_in share) (low_in change)))
+    (pos (19590001 * 2 ^ 36)) (add_r (mul_r x y) z) w above (holds x y z (low_held axis) (low_held share) (low_held change)))
   where
     x : Rational
     x = of_scale 36 axis.lo
@@ -57,7 +54,7 @@ radius_least axis share change radius h k s w holds = down radius.lo (low_end 36
           (
             share_high share.lo k,
             (
-              (size_of_box 36 (20020 * 2 ^ 36) change.lo change.hi z s.0 s.1 (low_in change)).1,
+              (size_of_box 36 (20020 * 2 ^ 36) change.lo change.hi z s.0 s.1 (low_held change)).1,
               (le_pos _ _ (lit≤ tt), (le_pos _ _ (lit≤ tt), (le_pos _ _ (lit≤ tt), tt))),
             ),
           ),

@@ -3,7 +3,7 @@ use Rattle.std.proofs.Common.{◌≡◌, ⊎_elim, ℕ, ◌^◌, ◌<◌, List, 
 use Rattle.std.proofs.lemmas.Int.{by_lt_z}
 use Rattle.whole_math.proofs.Ring.{◌⊕◌, ◌⊖◌, ◌⊗◌}
 use Rattle.whole_math.proofs.Order.{lins, square_nn, mul_lt_cancel}
-use Rattle.whole_math.proofs.Inequalities.{le_by, both_nn, prod_nn, less_nn, pos_nn, pos_one, one_nn, later, strict, nat}
+use Rattle.whole_math.proofs.Inequalities.{le_by, both_nn, prod_nn, less_nn, pos_nn, pos_one, one_nn, later, strict, nat, weak, le_eq}
 use Rattle.quadratic_form.proofs.Bound.{bound}
 use Rattle.quadratic_form.proofs.UpperSum.{upper, share_nonneg}
 use Rattle.quadratic_form.specs.Forms.{Column}
@@ -15,14 +15,8 @@ use Rattle.whole_math.proofs.Rounding.{ceil_close}
 use Rattle.whole_math.proofs.Vectors.{len_is}
 use Rattle.whole_math.specs.Vectors.{len}
 
-less_value : (p : List Column) (v w : List ℤ) → Less p v w → value p v ≤ℤ value p w
-less_value p v w h = ⊎_elim (below (value p v) (value p w)) (λ (q : (value p v ≡ value p w) × Before v w). same (value p v) (value p w) q.0) h
-  where
-    below : (a b : ℤ) → a <ℤ b → a ≤ℤ b
-    below a b h = omega (arith, lins)
-
-    same : (a b : ℤ) → a ≡ b → a ≤ℤ b
-    same a b e = omega (arith, lins)
+pub less_value : (p : List Column) (v w : List ℤ) → Less p v w → value p v ≤ℤ value p w
+less_value p v w h = ⊎_elim (λ (l : value p v <ℤ value p w). weak l) (λ (q : (value p v ≡ value p w) × Before v w). le_eq q.0) h
 
 -- every vector but the first has at least the value of the second
 pub second_value : (p : List Column) (n : ℤ) (z1 z2 v : List ℤ) → TwoLeast p n z1 z2 → len v ≡ n → (v ≡ z1 → ⊥) → value p z2 ≤ℤ value p v

@@ -81,14 +81,14 @@ d_range a h k = (low_end a (ceil_div (pos a) (2 ^ 20)) h (ceil_near (pos a) (2 ^
     high_end a c h k = omega (arith, ints)
 
 -- ---- the second best is small
+pub dot_nil : (r : List ℤ) → dot r [] ≡ pos 0
+dot_nil [] = refl
+dot_nil (x ∷ r) = refl
+
 unit_at : (n : ℕ) (r : List ℤ) → len r ≡ len (zeros n ++ (pos 1 ∷ [])) → SmallList r → Small (dot r (zeros n ++ (pos 1 ∷ [])))
 unit_at zero [] e s = (omega (arith, lins), omega (arith, lins))
-unit_at zero (x ∷ r) e s = go x (dot r []) (none r) s.0
+unit_at zero (x ∷ r) e s = go x (dot r []) (dot_nil r) s.0
   where
-    none : (r : List ℤ) → dot r [] ≡ pos 0
-    none [] = refl
-    none (x ∷ r) = refl
-
     go : (x t : ℤ) → t ≡ pos 0 → Small x → Small (x *ℤ pos 1 +ℤ t)
     go x t e s = subst (λ (z : ℤ). Small z) (same_by (x ∷ []) (λ x. (x, x ⊗ nat 1 ⊕ nat 0)) refl ∙ ap (λ z. (x *ℤ pos 1) +ℤ z) (sym e)) s
 unit_at (suc n) [] e s = (omega (arith, lins), omega (arith, lins))
@@ -100,12 +100,8 @@ unit_at (suc n) (x ∷ r) e s = subst (λ (z : ℤ). Small z) (go x (dot r (zero
 -- the value at 0, .., 0, 1
 zero_value : (n : ℕ) (p : List Column) → SmallForm p → len p ≡ len (zeros n ++ (pos 1 ∷ [])) → quad p (zeros n ++ (pos 1 ∷ [])) <ℤ pos (2 ^ 52)
 zero_value n [] s e = omega (arith, lins)
-zero_value zero (c ∷ p) s e = go c.own (dot c.others []) (quad p []) (none c.others) (last p) s.0
+zero_value zero (c ∷ p) s e = go c.own (dot c.others []) (quad p []) (dot_nil c.others) (last p) s.0
   where
-    none : (r : List ℤ) → dot r [] ≡ pos 0
-    none [] = refl
-    none (x ∷ r) = refl
-
     last : (p : List Column) → quad p [] ≡ pos 0
     last [] = refl
     last (c ∷ p) = refl

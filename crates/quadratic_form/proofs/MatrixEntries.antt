@@ -6,6 +6,7 @@ use Rattle.whole_math.proofs.Ring.{ko, ◌⊕◌, ◌⊖◌, ◌⊗◌}
 use Rattle.whole_math.proofs.Inequalities.{same_by, nat}
 use Rattle.whole_math.proofs.Vectors.{len_is}
 use Rattle.whole_math.specs.Vectors.{len, added, zeros}
+use Rattle.whole_math.proofs.IntLaws.{mul_comm_ℤ}
 use Rattle.quadratic_form.specs.Forms.{Column, plus, times, outer}
 use Rattle.quadratic_form.specs.Rows.{SignalRow, SignalGroup, share, coefficients, columns, diagonal, sum_coefficients, sum_outer, group_matrix, matrix, RowsOf, GroupsOf}
 use Rattle.quadratic_form.specs.Places.{list_from, form_from}
@@ -22,7 +23,7 @@ list_zeros : (j k : ℕ) → list_from (λ c. pos 0) j k ≡ zeros k
 list_zeros j zero = refl
 list_zeros j (suc k) = ap (λ s. pos 0 ∷ s) (list_zeros (suc j) k)
 
-length_zeros : (k : ℕ) → length (zeros k) ≡ k
+pub length_zeros : (k : ℕ) → length (zeros k) ≡ k
 length_zeros zero = refl
 length_zeros (suc k) = ap (λ n. suc n) (length_zeros k)
 
@@ -99,10 +100,7 @@ matrix_past n (g ∷ gs) i j h k = ap₂ (λ s t. s +ℤ t) (group_past n g i j 
 
 product_turned : (rs : List SignalRow) (i j : ℕ) → product_sum rs i j ≡ product_sum rs j i
 product_turned [] i j = refl
-product_turned (r ∷ rs) i j = ap₂ (λ s t. s +ℤ t) (swap (coefficient r i) (coefficient r j)) (product_turned rs i j)
-  where
-    swap : (x y : ℤ) → x *ℤ y ≡ y *ℤ x
-    swap x y = same_by (x ∷ y ∷ []) (λ x y. (x ⊗ y, y ⊗ x)) refl
+product_turned (r ∷ rs) i j = ap₂ (λ s t. s +ℤ t) (mul_comm_ℤ (coefficient r i) (coefficient r j)) (product_turned rs i j)
 
 group_turned : (g : SignalGroup) (i j : ℕ) → group_entry g i j ≡ group_entry g j i
 group_turned g i j = ap (λ p. share g *ℤ ((len g.rows *ℤ p) -ℤ (coefficient_sum g.rows i *ℤ coefficient_sum g.rows j))) (product_turned g.rows i j)

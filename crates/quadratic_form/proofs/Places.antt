@@ -6,6 +6,10 @@ use Rattle.quadratic_form.specs.Elimination.{nearest_each, rounded, factors, oth
 use Rattle.quadratic_form.specs.Places.{list_from, form_from}
 use Rattle.whole_math.specs.Vectors.{len, scaled, added}
 
+-- the place after j, k further on
+pub later : (j k : ℕ) → suc j + k ≡ j + suc k
+later j k = omega arith
+
 pub list_same : (f g : ℕ → ℤ) (j k : ℕ) → ((c : ℕ) → j ≤ c → c < j + k → f c ≡ g c) → list_from f j k ≡ list_from g j k
 list_same f g j zero h = refl
 list_same f g j (suc k) h = ap₂ (λ x s. x ∷ s) (h j (omega arith) (omega arith)) (list_same f g (suc j) k (λ c a b. h c (omega arith) (omega arith)))

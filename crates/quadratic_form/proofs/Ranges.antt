@@ -1,18 +1,15 @@
 -- What an answer of the elimination keeps.
-use Rattle.std.proofs.Common.{◌≡◌, ℕ, zero, suc, ◌^◌, ◌-◌, ◌<◌, ◌≤◌, Bool, true, false, ◌&&◌, nat_lt, List, [], ◌∷◌, ℤ, pos, negsuc, ◌≤ℤ◌, ◌<ℤ◌, Result, Ok, Err, unsigned_abs, arith, sym, refl, subst}
+use Rattle.std.proofs.Common.{◌≡◌, ℕ, zero, suc, ◌^◌, ◌-◌, ◌<◌, ◌≤◌, true, ◌&&◌, nat_lt, List, [], ◌∷◌, ℤ, pos, negsuc, ◌≤ℤ◌, ◌<ℤ◌, Ok, Err, unsigned_abs, arith, sym, refl, subst}
 use Rattle.std.proofs.lemmas.Int.{ints}
 use borrow.Author.Tests.{ltb-true}
+use Rattle.std.proofs.lemmas.Bool.{and_parts}
 use Rattle.quadratic_form.specs.Forms.{Column}
-use Rattle.quadratic_form.specs.Elimination.{kept, Factor, Refusal, all_small, form_small, step, with_factor, steps}
+use Rattle.quadratic_form.specs.Elimination.{kept, Factor, all_small, form_small, step, with_factor, steps, StepAnswer, StepsAnswer}
 use Rattle.quadratic_form.specs.LowerSums.{Small, SmallList, SmallForm}
 use Rattle.quadratic_form.proofs.LowerSums.{d_range}
 use Rattle.quadratic_form.proofs.StepsBelow.{Taken, step_taken}
 
 -- ---- the tests
-both : (a b : Bool) → (a && b) ≡ true → (a ≡ true) × (b ≡ true)
-both true true e = (refl, refl)
-both true false e = absurd cc
-both false b e = absurd cc
 
 small_is : (x : ℤ) → nat_lt (unsigned_abs x) (2 ^ 52) ≡ true → Small x
 small_is (pos a) e = (omega (arith, ints, ltb-true), omega (arith, ints, ltb-true))
@@ -20,13 +17,13 @@ small_is (negsuc a) e = (omega (arith, ints, ltb-true), omega (arith, ints, ltb-
 
 list_is : (s : List ℤ) → all_small s ≡ true → SmallList s
 list_is [] e = tt
-list_is (x ∷ s) e = let p : (nat_lt (unsigned_abs x) (2 ^ 52) ≡ true) × (all_small s ≡ true) = both _ _ e in (small_is x p.0, list_is s p.1)
+list_is (x ∷ s) e = let p : (nat_lt (unsigned_abs x) (2 ^ 52) ≡ true) × (all_small s ≡ true) = and_parts _ _ e in (small_is x p.0, list_is s p.1)
 
 pub form_is : (a : List Column) → form_small a ≡ true → SmallForm a
 form_is [] e = tt
 form_is (c ∷ a) e =
-    let p : (nat_lt (unsigned_abs c.own) (2 ^ 52) ≡ true) × ((all_small c.others && form_small a) ≡ true) = both _ _ e in
-    let q : (all_small c.others ≡ true) × (form_small a ≡ true) = both _ _ p.1 in
+    let p : (nat_lt (unsigned_abs c.own) (2 ^ 52) ≡ true) × ((all_small c.others && form_small a) ≡ true) = and_parts _ _ e in
+    let q : (all_small c.others ≡ true) × (form_small a ≡ true) = and_parts _ _ p.1 in
     (small_is c.own p.0, list_is c.others q.0, form_is a q.1)
 
 -- ---- the ranges of an answer
@@ -62,7 +59,7 @@ steps_range j (suc k) [] p e s =
     subst (λ (z : List Factor × List Column). AllInRange z.0 × SmallForm z.1) i (tt, tt)
 steps_range j (suc k) (c ∷ m) p e s = first (step j c m) refl (λ b q. steps_range (suc j) k b q) e
   where
-    second : (u : Factor × List Column) → Taken c m u → (r : Result (List Factor × List Column) Refusal) →
+    second : (u : Factor × List Column) → Taken c m u → (r : StepsAnswer) →
         ((q : List Factor × List Column) → r ≡ Ok q → AllInRange q.0 × SmallForm q.1) → with_factor u.0 r ≡ Ok p → AllInRange p.0 × SmallForm p.1
     second u t (Err i) ih e = absurd cc
     second u t (Ok q) ih e =
@@ -71,9 +68,9 @@ steps_range j (suc k) (c ∷ m) p e s = first (step j c m) refl (λ b q. steps_r
         let h : AllInRange q.0 × SmallForm q.1 = ih q refl in
         subst (λ (z : List Factor × List Column). AllInRange z.0 × SmallForm z.1) i ((taken_range c m u t s.0, h.0), h.1)
 
-    first : (r : Result (Factor × List Column) Refusal) → step j c m ≡ r →
+    first : (r : StepAnswer) → step j c m ≡ r →
         ((b : List Column) (q : List Factor × List Column) → steps (suc j) k b ≡ Ok q → SmallForm b → AllInRange q.0 × SmallForm q.1) →
-        elim r as (λ t. Result (List Factor × List Column) Refusal) [ Ok u ↦ with_factor u.0 (steps (suc j) k u.1) | Err i ↦ Err i ] ≡ Ok p → AllInRange p.0 × SmallForm p.1
+        elim r as (λ t. StepsAnswer) [ Ok u ↦ with_factor u.0 (steps (suc j) k u.1) | Err i ↦ Err i ] ≡ Ok p → AllInRange p.0 × SmallForm p.1
     first (Err i) o ih e = absurd cc
     first (Ok u) o ih e =
         let t : Taken c m u = step_taken j c m u o in

@@ -16,6 +16,7 @@ use Rattle.quadratic_form.specs.TwoLeast.{TwoLeast}
 use Rattle.rational.specs.Rational.{Rational, ◌≤ʳ◌, ◌<ʳ◌, of_whole, add_r, sub_r, mul_r}
 use Rattle.quadratic_form.specs.RationalData.{RowData, Baseline, Fits, FitsAll, residual, residuals, sum_of_rationals, squared_norm_of_rationals, spread_of_rationals, sum_of_squares, moved, IsBest}
 use Rattle.whole_math.specs.Vectors.{len, sum, squared_norm, dot}
+use Rattle.rational.specs.Over.{AreOver}
 use Rattle.quadratic_form.specs.Spread.{spread}
 
 -- ---- data and baseline over one denominator
@@ -54,40 +55,33 @@ residual_over d e z c b r t q h k =
     s : Rational
     s = add_r (mul_r q.u1 b.b1) (add_r (mul_r q.u2 b.b2) (mul_r q.u3 b.b3))
 
--- a list over one denominator
-abbrev OverList : ℤ → List ℤ → List Rational → Type 0
-OverList k [] [] = Unit {0}
-OverList k [] (q ∷ s) = ⊥
-OverList k (n ∷ t) [] = ⊥
-OverList k (n ∷ t) (q ∷ s) = Over k n q × OverList k t s
-
 residuals_over : (d e : ℤ) (z : List ℤ) (c : WholeBaseline) (b : Baseline) (rs : List SignalRow) (ts : List WholeData) (qs : List RowData) → OverRows d ts qs → OverBase e c b →
-    OverList (d *ℤ e) (whole_residuals d e z c rs ts) (residuals z b rs qs)
+    AreOver (d *ℤ e) (whole_residuals d e z c rs ts) (residuals z b rs qs)
 residuals_over d e z c b [] ts qs h k = tt
 residuals_over d e z c b (r ∷ rs) [] [] h k = tt
 residuals_over d e z c b (r ∷ rs) [] (q ∷ qs) h k = absurd h
 residuals_over d e z c b (r ∷ rs) (t ∷ ts) [] h k = absurd h
 residuals_over d e z c b (r ∷ rs) (t ∷ ts) (q ∷ qs) h k = (residual_over d e z c b r t q h.0 k, residuals_over d e z c b rs ts qs h.1 k)
 
-list_len : (k : ℤ) (t : List ℤ) (s : List Rational) → OverList k t s → len t ≡ len s
+list_len : (k : ℤ) (t : List ℤ) (s : List Rational) → AreOver k t s → len t ≡ len s
 list_len k [] [] h = refl
 list_len k [] (q ∷ s) h = absurd h
 list_len k (n ∷ t) [] h = absurd h
 list_len k (n ∷ t) (q ∷ s) h = ap (λ m. pos 1 +ℤ m) (list_len k t s h.1)
 
-sum_over : (k : ℤ) (t : List ℤ) (s : List Rational) → OverList k t s → Over k (sum t) (sum_of_rationals s)
+sum_over : (k : ℤ) (t : List ℤ) (s : List Rational) → AreOver k t s → Over k (sum t) (sum_of_rationals s)
 sum_over k [] [] h = over_zero k
 sum_over k [] (q ∷ s) h = absurd h
 sum_over k (n ∷ t) [] h = absurd h
 sum_over k (n ∷ t) (q ∷ s) h = over_add k n (sum t) q (sum_of_rationals s) h.0 (sum_over k t s h.1)
 
-sumsq_over : (k : ℤ) (t : List ℤ) (s : List Rational) → OverList k t s → Over (k *ℤ k) (squared_norm t) (squared_norm_of_rationals s)
+sumsq_over : (k : ℤ) (t : List ℤ) (s : List Rational) → AreOver k t s → Over (k *ℤ k) (squared_norm t) (squared_norm_of_rationals s)
 sumsq_over k [] [] h = over_zero (k *ℤ k)
 sumsq_over k [] (q ∷ s) h = absurd h
 sumsq_over k (n ∷ t) [] h = absurd h
 sumsq_over k (n ∷ t) (q ∷ s) h = over_add (k *ℤ k) (n *ℤ n) (squared_norm t) (mul_r q q) (squared_norm_of_rationals s) (over_mul k k n n q q h.0 h.0) (sumsq_over k t s h.1)
 
-spread_over : (k : ℤ) (t : List ℤ) (s : List Rational) → OverList k t s → Over (k *ℤ k) (spread t) (spread_of_rationals s)
+pub spread_over : (k : ℤ) (t : List ℤ) (s : List Rational) → AreOver k t s → Over (k *ℤ k) (spread t) (spread_of_rationals s)
 spread_over k t s h = over_sub (k *ℤ k) (len t *ℤ squared_norm t) (sum t *ℤ sum t) (mul_r (of_whole (len s)) (squared_norm_of_rationals s)) (mul_r (sum_of_rationals s) (sum_of_rationals s))
     (subst (λ (n : ℤ). Over (k *ℤ k) (len t *ℤ squared_norm t) (mul_r (of_whole n) (squared_norm_of_rationals s))) (list_len k t s h)
     (over_times (k *ℤ k) (len t) (squared_norm t) (squared_norm_of_rationals s) (sumsq_over k t s h)))

@@ -1,5 +1,6 @@
 -- The spread of a list.
 use Rattle.std.proofs.Common.{◌≡◌, List, [], ◌∷◌, ℤ, pos, ◌+ℤ◌, ◌-ℤ◌, ◌*ℤ◌, ◌≤ℤ◌, arith, sym, ap, ap₂, ◌∙◌, refl, subst}
+use Rattle.std.proofs.Math.IntN.{+ℤ_idl}
 use Rattle.whole_math.proofs.Ring.{◌⊕◌, ◌⊖◌, ◌⊗◌}
 use Rattle.whole_math.proofs.Order.{lins, square_nn}
 use Rattle.whole_math.proofs.Inequalities.{le_by, both_nn, same_by, nat}
@@ -52,11 +53,8 @@ spread_scale k s = rw (len_scaled k s, sum_scale k s, sumsq_scale k s) (step k (
     step : (k n a q : ℤ) → n *ℤ (k *ℤ k *ℤ q) -ℤ k *ℤ a *ℤ (k *ℤ a) ≡ k *ℤ k *ℤ (n *ℤ q -ℤ a *ℤ a)
     step k n a q = same_by (n ∷ k ∷ q ∷ a ∷ []) (λ n k q a. (n ⊗ (k ⊗ k ⊗ q) ⊖ k ⊗ a ⊗ (k ⊗ a), k ⊗ k ⊗ (n ⊗ q ⊖ a ⊗ a))) refl
 
-    zeros : (a : ℤ) → pos 0 +ℤ a ≡ a
-    zeros a = same_by (a ∷ []) (λ a. (nat 0 ⊕ a, a)) refl
-
     sum_scale : (k : ℤ) (s : List ℤ) → sum (scaled k s) ≡ k *ℤ sum s
-    sum_scale k s = sum_shift k [] s ∙ zeros (k *ℤ sum s)
+    sum_scale k s = sum_shift k [] s ∙ +ℤ_idl (k *ℤ sum s)
 
     clear : (k a : ℤ) → pos 0 +ℤ pos 2 *ℤ k *ℤ pos 0 +ℤ k *ℤ k *ℤ a ≡ k *ℤ k *ℤ a
     clear k a = same_by (k ∷ a ∷ []) (λ k a. (nat 0 ⊕ nat 2 ⊗ k ⊗ nat 0 ⊕ k ⊗ k ⊗ a, k ⊗ k ⊗ a)) refl

@@ -1,12 +1,12 @@
 -- What the steps together give up.
-use Rattle.std.proofs.Common.{◌≡◌, ℕ, zero, suc, ◌^◌, ◌<◌, Bool, true, false, int_lt, List, [], ◌∷◌, drop, ℤ, pos, ◌+ℤ◌, ◌*ℤ◌, ◌≤ℤ◌, Result, Ok, Err, unsigned_abs, arith, sym, ap, ◌∙◌, refl, subst}
+use Rattle.std.proofs.Common.{◌≡◌, ℕ, zero, suc, ◌^◌, ◌<◌, Bool, true, false, int_lt, List, [], ◌∷◌, drop, ℤ, pos, ◌+ℤ◌, ◌*ℤ◌, ◌≤ℤ◌, Ok, Err, unsigned_abs, arith, sym, ap, ◌∙◌, refl, subst}
 use Rattle.std.proofs.lemmas.Int.{ints}
 use Rattle.whole_math.proofs.Ring.{◌⊕◌, ◌⊖◌, ◌⊗◌}
 use Rattle.whole_math.proofs.Order.{lins, square_nn, mul_le_cancel}
 use Rattle.whole_math.proofs.Inequalities.{le_by, both_nn, prod_nn, less_nn, nat}
 use Rattle.quadratic_form.proofs.EliminationStep.{step_below, kept_nonneg, next_len, next_shaped}
 use Rattle.quadratic_form.specs.Forms.{Column, Shaped, quad}
-use Rattle.quadratic_form.specs.Elimination.{factors, kept, next, Factor, squares, Refusal, all_small, form_small, step, with_factor, steps, weak, wide_factor, wide_entry}
+use Rattle.quadratic_form.specs.Elimination.{factors, kept, next, Factor, squares, all_small, form_small, step, with_factor, steps, weak, wide_factor, wide_entry, StepAnswer, StepsAnswer}
 use Rattle.whole_math.proofs.Vectors.{len_nonneg, len_tail, len_apart}
 use Rattle.whole_math.specs.Vectors.{len, dot}
 
@@ -37,7 +37,7 @@ step_taken j c m p e = first (int_lt c.own (pos (2 ^ 20))) refl e
     large x e = (omega (arith, ints), omega (arith, ints), omega (arith, ints))
 
     last : int_lt c.own (pos (2 ^ 20)) ≡ false → all_small l ≡ true → (t : Bool) → form_small rest ≡ t →
-        elim t as (λ b. Result (Factor × List Column) Refusal) [ false ↦ Err wide_entry | true ↦ Ok (record { d = kept a; l = l }, rest) ] ≡ Ok p → Taken c m p
+        elim t as (λ b. StepAnswer) [ false ↦ Err wide_entry | true ↦ Ok (record { d = kept a; l = l }, rest) ] ≡ Ok p → Taken c m p
     last o s false n e = absurd cc
     last o s true n e =
         let q : (Factor × List Column) = (record { d = kept a; l = l }, rest) in
@@ -46,7 +46,7 @@ step_taken j c m p e = first (int_lt c.own (pos (2 ^ 20))) refl e
         subst (λ (z : Factor × List Column). Taken c m z) i (record { pivot = g.0; positive = g.1; own = g.2; d = refl; l = refl; left = refl; small_factors = s; small_left = n })
 
     second : int_lt c.own (pos (2 ^ 20)) ≡ false → (t : Bool) → all_small l ≡ t →
-        elim t as (λ b. Result (Factor × List Column) Refusal) [
+        elim t as (λ b. StepAnswer) [
           | false ↦ Err wide_factor
           | true ↦ elim (form_small rest) [ false ↦ Err wide_entry | true ↦ Ok (record { d = kept a; l = l }, rest) ]
         ] ≡ Ok p → Taken c m p
@@ -54,7 +54,7 @@ step_taken j c m p e = first (int_lt c.own (pos (2 ^ 20))) refl e
     second o true s e = last o s (form_small rest) refl e
 
     first : (t : Bool) → int_lt c.own (pos (2 ^ 20)) ≡ t →
-        elim t as (λ b. Result (Factor × List Column) Refusal) [
+        elim t as (λ b. StepAnswer) [
           | true ↦ Err (weak j c.own)
           | false ↦ elim (all_small l)
               [ false ↦ Err wide_factor | true ↦ elim (form_small rest) [ false ↦ Err wide_entry | true ↦ Ok (record { d = kept a; l = l }, rest) ] ]
@@ -109,7 +109,7 @@ steps_below j (suc k) (c ∷ m) (x ∷ v) p e s f =
     done u q t ih = both u.0.d (pos (2 ^ 30) *ℤ x +ℤ dot u.0.l v) (quad u.1 v) (quad q.1 (drop k v)) (squares q.0 v) (pos (2 ^ 60) *ℤ quad (c ∷ m) (x ∷ v))
         (taken_below c m u x v t s g) (subst (λ (z : ℤ). pos 0 ≤ℤ z) (sym t.d) (kept_nonneg (unsigned_abs c.own))) ih.0 ih.1
 
-    second : (u : Factor × List Column) → Taken c m u → (r : Result (List Factor × List Column) Refusal) →
+    second : (u : Factor × List Column) → Taken c m u → (r : StepsAnswer) →
         ((q : List Factor × List Column) → r ≡ Ok q → Covered u.1 k v q) → with_factor u.0 r ≡ Ok p → Covered (c ∷ m) (suc k) (x ∷ v) p
     second u t (Err i) ih e = absurd cc
     second u t (Ok q) ih e =
@@ -117,9 +117,9 @@ steps_below j (suc k) (c ∷ m) (x ∷ v) p e s f =
         let i : w ≡ p = cc in
         subst (λ (z : List Factor × List Column). Covered (c ∷ m) (suc k) (x ∷ v) z) i (done u q t (ih q refl))
 
-    first : (r : Result (Factor × List Column) Refusal) → step j c m ≡ r →
+    first : (r : StepAnswer) → step j c m ≡ r →
         ((b : List Column) (q : List Factor × List Column) → steps (suc j) k b ≡ Ok q → Shaped b → len b ≡ len v → Covered b k v q) →
-        elim r as (λ t. Result (List Factor × List Column) Refusal) [ Ok u ↦ with_factor u.0 (steps (suc j) k u.1) | Err i ↦ Err i ] ≡ Ok p → Covered (c ∷ m) (suc k) (x ∷ v) p
+        elim r as (λ t. StepsAnswer) [ Ok u ↦ with_factor u.0 (steps (suc j) k u.1) | Err i ↦ Err i ] ≡ Ok p → Covered (c ∷ m) (suc k) (x ∷ v) p
     first (Err i) o ih e = absurd cc
     first (Ok u) o ih e =
         let t : Taken c m u = step_taken j c m u o in

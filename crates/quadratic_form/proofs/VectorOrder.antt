@@ -8,10 +8,10 @@ use Rattle.quadratic_form.specs.TwoLeast.{Before, Less, TwoLeast}
 use Rattle.whole_math.proofs.Vectors.{len_nonneg, len_tail, len_apart}
 use Rattle.whole_math.specs.Vectors.{len}
 
-never : (a : ℤ) → a <ℤ a → ⊥
+pub never : (a : ℤ) → a <ℤ a → ⊥
 never a h = omega (arith, lins)
 
-chain : (a b c : ℤ) → a <ℤ b → b <ℤ c → a <ℤ c
+pub chain : (a b c : ℤ) → a <ℤ b → b <ℤ c → a <ℤ c
 chain a b c h k = omega (arith, lins)
 
 pub before_never : (v : List ℤ) → Before v v → ⊥

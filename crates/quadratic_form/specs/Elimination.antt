@@ -51,6 +51,14 @@ pub data Refusal : Type 0 where
   wide_factor : Refusal
   wide_entry : Refusal
 
+-- what one step gives: its factor and the form that is left, or why it is refused
+abbrev pub StepAnswer : Type 0
+StepAnswer = Result (Factor × List Column) Refusal
+
+-- what steps give: their factors in order and the form that is left, or why the first that is refused is
+abbrev pub StepsAnswer : Type 0
+StepsAnswer = Result (List Factor × List Column) Refusal
+
 abbrev pub all_small : List ℤ → Bool
 all_small [] = true
 all_small (y ∷ r) = nat_lt (unsigned_abs y) (2 ^ 52) && all_small r
@@ -60,7 +68,7 @@ form_small [] = true
 form_small (c ∷ a) = nat_lt (unsigned_abs c.own) (2 ^ 52) && (all_small c.others && form_small a)
 
 -- one step takes the first column, the j-th of all
-abbrev pub step : ℕ → Column → List Column → Result (Factor × List Column) Refusal
+abbrev pub step : ℕ → Column → List Column → StepAnswer
 step j c m =
     let a : ℕ = unsigned_abs c.own in
     let l : List ℤ = factors a c.others in
@@ -73,12 +81,12 @@ step j c m =
       ]
     ]
 
-abbrev pub with_factor : Factor → Result (List Factor × List Column) Refusal → Result (List Factor × List Column) Refusal
+abbrev pub with_factor : Factor → StepsAnswer → StepsAnswer
 with_factor f (Ok p) = Ok (f ∷ p.0, p.1)
 with_factor f (Err e) = Err e
 
 -- k steps: the factors in order and the form that is left, or the first refusal
-abbrev pub steps : ℕ → ℕ → List Column → Result (List Factor × List Column) Refusal
+abbrev pub steps : ℕ → ℕ → List Column → StepsAnswer
 steps j zero a = Ok ([], a)
 steps j (suc k) [] = Ok ([], [])
 steps j (suc k) (c ∷ m) = elim (step j c m) [ Ok p ↦ with_factor p.0 (steps (suc j) k p.1) | Err e ↦ Err e ]

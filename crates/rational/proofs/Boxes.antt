@@ -1,8 +1,8 @@
 -- Boxes: equal rationals lie in the same ones, and a box in a wider one.
-use Rattle.std.proofs.Common.{ℕ, ◌^◌, ℤ, pos, ◌+ℤ◌, ◌-ℤ◌, ◌*ℤ◌, neg_ℤ, ◌≤ℤ◌, arith, pow_pos}
+use Rattle.std.proofs.Common.{ℕ, ◌^◌, ℤ, pos, ◌+ℤ◌, ◌-ℤ◌, ◌*ℤ◌, neg_ℤ, ◌≤ℤ◌, arith, pow_pos, sym, ◌≡◌}
 use Rattle.whole_math.proofs.IntLaws.{neg_mul_ℤ}
 use Rattle.whole_math.proofs.Order.{lins, mul_le_right, mul_le_cancel}
-use Rattle.whole_math.proofs.Inequalities.{pos_nn}
+use Rattle.whole_math.proofs.Inequalities.{pos_nn, le_eq}
 use Rattle.rational.specs.Rational.{Rational, ◌≈◌, of_whole, neg_r, InBox, Near, of_scale}
 use Rattle.rational.proofs.Laws.{≈_sym, ≤ʳ_trans, ≤ʳ_from_same}
 
@@ -17,6 +17,9 @@ Near-along c r p q e h = (≤ʳ_trans (of_whole (c -ℤ r)) p q h.0 (≤ʳ_from_
 -- a number between the ends, at the scale of the box, is in it
 pub end_in : (k : ℕ) (lo hi u : ℤ) → lo ≤ℤ u → u ≤ℤ hi → InBox k lo hi (of_scale k u)
 end_in k lo hi u h g = (mul_le_right (pos (2 ^ k)) lo u (pos_nn (2 ^ k)) h, mul_le_right (pos (2 ^ k)) u hi (pos_nn (2 ^ k)) g)
+
+pub point_in : (k : ℕ) (x lo hi : ℤ) → lo ≡ x → hi ≡ x → InBox k lo hi (of_scale k x)
+point_in k x lo hi low high = end_in k lo hi x (le_eq low) (le_eq (sym high))
 
 pub ordered_ends : (k : ℕ) (lo hi : ℤ) (q : Rational) → InBox k lo hi q → lo ≤ℤ hi
 ordered_ends k lo hi q h = mul_le_cancel lo hi q.den q.positive (omega (arith, lins, h.0, h.1))

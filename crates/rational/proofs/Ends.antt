@@ -3,7 +3,7 @@ use Rattle.std.proofs.Common.{◌≡◌, ℕ, ◌^◌, List, [], ◌∷◌, ℤ,
 use Rattle.whole_math.proofs.IntLaws.{neg_mul_ℤ}
 use Rattle.whole_math.proofs.Ring.{va, ◌⊕◌, ◌⊖◌, ◌⊗◌}
 use Rattle.whole_math.proofs.Order.{lins, mul_le_cancel}
-use Rattle.whole_math.proofs.Inequalities.{same_by}
+use Rattle.whole_math.proofs.Inequalities.{same_by, le_trans_ℤ}
 use Rattle.whole_math.proofs.Certificates.{◌≼◌, hy, ◌⊞◌}
 use Rattle.rational.specs.Rational.{Rational, ◌≤ʳ◌, of_scale, add_r, sub_r, IsAtMostInSize, InBox, IsNearBox}
 use Rattle.rational.proofs.Boxes.{wider}
@@ -46,19 +46,13 @@ box_of_near k lo hi p d q l n =
 
 -- ---- a narrow box that holds a number has ends near it
 pub low_end : (k : ℕ) (lo hi w l : ℤ) (q : Rational) → (hi -ℤ lo) ≤ℤ w → of_scale k l ≤ʳ q → InBox k lo hi q → (l -ℤ w) ≤ℤ lo
-low_end k lo hi w l q n h i = step (mul_le_cancel l hi q.den q.positive (through (l *ℤ pos q.den) (q.num *ℤ pos (2 ^ k)) (hi *ℤ pos q.den) h i.1))
+low_end k lo hi w l q n h i = step (mul_le_cancel l hi q.den q.positive (le_trans_ℤ h i.1))
   where
-    through : (a b c : ℤ) → a ≤ℤ b → b ≤ℤ c → a ≤ℤ c
-    through a b c h g = omega (arith, lins)
-
     step : l ≤ℤ hi → (l -ℤ w) ≤ℤ lo
     step g = omega (arith, lins)
 
 pub high_end : (k : ℕ) (lo hi w h : ℤ) (q : Rational) → (hi -ℤ lo) ≤ℤ w → q ≤ʳ of_scale k h → InBox k lo hi q → hi ≤ℤ (h +ℤ w)
-high_end k lo hi w h q n g i = step (mul_le_cancel lo h q.den q.positive (through (lo *ℤ pos q.den) (q.num *ℤ pos (2 ^ k)) (h *ℤ pos q.den) i.0 g))
+high_end k lo hi w h q n g i = step (mul_le_cancel lo h q.den q.positive (le_trans_ℤ i.0 g))
   where
-    through : (a b c : ℤ) → a ≤ℤ b → b ≤ℤ c → a ≤ℤ c
-    through a b c h g = omega (arith, lins)
-
     step : lo ≤ℤ h → hi ≤ℤ (h +ℤ w)
     step g = omega (arith, lins)

@@ -6,6 +6,7 @@ use Rattle.std.proofs.Math.Nat.{pow-succ', pow-zero, one-le-pow}
 use Rattle.whole_math.proofs.Ring.{Ex, va, ko, ◌⊕◌, ◌⊖◌, ◌⊗◌, ng, look, ev, norm, ring}
 use Rattle.whole_math.proofs.Order.{mul_eq_cancel}
 use Rattle.whole_math.proofs.Inequalities.{same_by}
+use Rattle.whole_math.proofs.IntLaws.{neg_mul_ℤ}
 use Rattle.rational.specs.Rational.{Rational, ◌≈◌, of_whole, add_r, neg_r, sub_r, mul_r}
 use Rattle.rational.specs.Over.{Over, AreOver, HasCommonDenominator}
 use Rattle.rational.proofs.Over.{over_add, over_sub, over_mul, over_wide, common}
@@ -80,11 +81,8 @@ variable_is k ms (n ∷ ns) (q ∷ qs) j (suc i) f h =
     (λ m. let e : j + suc m ≡ suc j + m = omega arith in subst (λ (i : ℕ). look (pos k ∷ ms) i ≡ look ns m) e (f (suc m))) h.1
 
 over_neg : (k n : ℤ) (q : Rational) → Over k n q → Over k (neg_ℤ n) (neg_r q)
-over_neg k n q h = first k q.num ∙ ap neg_ℤ h ∙ last n (pos q.den)
+over_neg k n q h = neg_mul_ℤ q.num k ∙ ap neg_ℤ h ∙ last n (pos q.den)
   where
-    first : (k a : ℤ) → neg_ℤ a *ℤ k ≡ neg_ℤ (a *ℤ k)
-    first k a = same_by (k ∷ a ∷ []) (λ k a. (ng a ⊗ k, ng (a ⊗ k))) refl
-
     last : (n d : ℤ) → neg_ℤ (n *ℤ d) ≡ neg_ℤ n *ℤ d
     last n d = same_by (n ∷ d ∷ []) (λ n d. (ng (n ⊗ d), ng n ⊗ d)) refl
 

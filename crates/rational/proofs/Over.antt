@@ -6,6 +6,7 @@ use Rattle.whole_math.proofs.Inequalities.{le_by, both_nn, prod_nn, less_nn, pos
 use Rattle.rational.specs.Rational.{Rational, ◌≤ʳ◌, ◌<ʳ◌, of_whole, Near, add_r, sub_r, mul_r}
 use Rattle.whole_math.specs.Bounds.{Within}
 use Rattle.whole_math.specs.Vectors.{scaled}
+use Rattle.whole_math.proofs.IntLaws.{mul_comm_ℤ}
 use Rattle.rational.specs.Over.{AreOver, HasCommonDenominator}
 pub use Rattle.rational.specs.Over.{Over}
 
@@ -106,10 +107,7 @@ all_wide : (j k : ℤ) (ns : List ℤ) (qs : List Rational) → AreOver j ns qs 
 all_wide j k [] [] h = tt
 all_wide j k [] (q ∷ qs) h = absurd h
 all_wide j k (n ∷ ns) [] h = absurd h
-all_wide j k (n ∷ ns) (q ∷ qs) h = (subst (λ (m : ℤ). Over (j *ℤ k) m q) (turned n k) (over_wide j k n q h.0), all_wide j k ns qs h.1)
-  where
-    turned : (n k : ℤ) → n *ℤ k ≡ k *ℤ n
-    turned n k = same_by (n ∷ k ∷ []) (λ n k. (n ⊗ k, k ⊗ n)) refl
+all_wide j k (n ∷ ns) (q ∷ qs) h = (subst (λ (m : ℤ). Over (j *ℤ k) m q) (mul_comm_ℤ n k) (over_wide j k n q h.0), all_wide j k ns qs h.1)
 
 pub common : (qs : List Rational) → HasCommonDenominator qs
 common [] = record { denominator = 1; positive = lit< tt; numerators = []; are = tt }

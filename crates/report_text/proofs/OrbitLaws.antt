@@ -1,5 +1,5 @@
 -- The printed numbers hold what the box holds, and lie near each other.
-use Rattle.std.proofs.Common.{◌≡◌, ℕ, ◌^◌, ◌<◌, List, [], ◌∷◌, length, get_or, ℤ, pos, ◌+ℤ◌, ◌-ℤ◌, ◌*ℤ◌, ◌≤ℤ◌, ◌<ℤ◌, arith, refl, sym, subst, All, pow_pos}
+use Rattle.std.proofs.Common.{◌≡◌, ℕ, ◌^◌, ◌<◌, List, [], ◌∷◌, ℤ, pos, ◌+ℤ◌, ◌-ℤ◌, ◌*ℤ◌, ◌≤ℤ◌, ◌<ℤ◌, arith, refl, sym, subst, All, pow_pos}
 use Rattle.std.proofs.lemmas.Int.{ints}
 use Rattle.whole_math.specs.Rounding.{floor_div, ceil_div}
 use Rattle.whole_math.proofs.Ring.{◌⊗◌}
@@ -14,13 +14,6 @@ use Rattle.orbit_place.specs.Held.{HoldsPlace}
 use Rattle.sv_orbit.specs.declared.place.SvBox.{SvBox}
 use Rattle.sv_orbit.specs.Solutions.{HoldsSolution}
 use Rattle.report_text.specs.Orbit.{Ends, ends_of, IsBetweenEnds, AreApart, OrbitNumbers, HoldsQuantities, AreNarrow, AreNumbersOf}
-
-pub three_is : {A : Type 0} (s : List A) (d e f : A) → length s ≡ 3 → s ≡ get_or s 0 d ∷ get_or s 1 e ∷ get_or s 2 f ∷ []
-three_is [] d e f h = absurd (omega arith)
-three_is (a ∷ []) d e f h = absurd (omega arith)
-three_is (a ∷ b ∷ []) d e f h = absurd (omega arith)
-three_is (a ∷ b ∷ c ∷ []) d e f h = refl
-three_is (a ∷ b ∷ c ∷ x ∷ s) d e f h = absurd (omega arith)
 
 -- l / s ≤ n / d, and f is ⌊l·u / s⌋; so f / u ≤ n / d
 low_between : (l n : ℤ) (d s u : ℕ) → 0 < s → (l *ℤ pos d) ≤ℤ (n *ℤ pos s) → (floor_div (l *ℤ pos u) s *ℤ pos d) ≤ℤ (n *ℤ pos u)

@@ -1,7 +1,7 @@
 -- A count of three columns is at most 999.
-use Rattle.std.proofs.Common.{◌≡◌, ◌≤◌, ◌-◌, ◌&&◌, ◌==◌, ℕ, Bool, true, false, List, [], ◌∷◌, length, Ok, IfOk, refl, arith, unwrap_or}
-use Rattle.std.proofs.lemmas.Bool.Decides.{nat_tests}
-use Rattle.decimal_text.specs.Whole.{is_digit, are_digits, number_from}
+use Rattle.std.proofs.Common.{◌≡◌, ◌≤◌, ◌==◌, ℕ, Bool, true, false, List, [], ◌∷◌, length, Ok, IfOk, refl, arith, unwrap_or}
+use Rattle.decimal_text.specs.Whole.{are_digits, number_from}
+use Rattle.decimal_text.proofs.Numbers.{first_digit}
 use Rattle.rinex_head.specs.Columns.{columns}
 use Rattle.rinex_head.specs.Fields.{without_blanks, digits_of}
 use Rattle.rinex_head.specs.Places.{and_then}
@@ -9,25 +9,17 @@ use Rattle.rinex_head.proofs.ColumnLaws.{length-padded}
 use Rattle.obs_fields.specs.declared.layout.Layout.TheVariants.{Rinex2}
 use Rattle.obs_fields.specs.EpochFields.{count_in}
 
--- a digit, and those after it
-digit_first : (b : ℕ) (bs : List ℕ) → are_digits (b ∷ bs) ≡ true → (b - 48 ≤ 9) × (are_digits bs ≡ true)
-digit_first b bs are = by_digit (is_digit b) refl are
-  where
-    by_digit : (t : Bool) → is_digit b ≡ t → (t && are_digits bs) ≡ true → (b - 48 ≤ 9) × (are_digits bs ≡ true)
-    by_digit true is are = (grind (arith, nat_tests), are)
-    by_digit false is are = absurd cc
-
 three_digits : (ds : List ℕ) → length ds ≤ 3 → are_digits ds ≡ true → number_from 0 ds ≤ 999
 three_digits [] few are = omega arith
-three_digits (a ∷ []) few are = let first = digit_first a [] are in omega (arith, first.0)
+three_digits (a ∷ []) few are = let first = first_digit a [] are in omega (arith, first.0)
 three_digits (a ∷ b ∷ []) few are =
-    let first = digit_first a (b ∷ []) are in
-    let second = digit_first b [] first.1 in
+    let first = first_digit a (b ∷ []) are in
+    let second = first_digit b [] first.1 in
     omega (arith, first.0, second.0)
 three_digits (a ∷ b ∷ c ∷ []) few are =
-    let first = digit_first a (b ∷ c ∷ []) are in
-    let second = digit_first b (c ∷ []) first.1 in
-    let third = digit_first c [] second.1 in
+    let first = first_digit a (b ∷ c ∷ []) are in
+    let second = first_digit b (c ∷ []) first.1 in
+    let third = first_digit c [] second.1 in
     omega (arith, first.0, second.0, third.0)
 three_digits (a ∷ b ∷ c ∷ d ∷ ds) few are = absurd (omega (arith, few))
 

@@ -7,7 +7,7 @@ use Rattle.std.specs.Str.Lines.{strip_carriage_return}
 use Rattle.line_source.specs.Lines.{lines_from, lines_of}
 use Rattle.rinex_head.specs.FirstFailing.{IsLine}
 
-abbrev IsByte : ℕ → Type 0
+abbrev pub IsByte : ℕ → Type 0
 IsByte b = b < 256
 
 abbrev spelled : List (List ℕ) → List ℕ

@@ -1,24 +1,16 @@
 -- The records of a list determine the usable ones.
 use mathlib.Core.HLevel.{is_prop→PathP}
-use Rattle.std.proofs.Common.{◌≡◌, ◌≤◌, ◌<◌, ◌+◌, ◌*◌, ◌/◌, ◌⊎◌, inl, inr, ℕ, ℤ, pos, List, [], ◌∷◌, refl, sym, ap, ◌∙◌, subst}
+use Rattle.std.proofs.Common.{◌≡◌, ◌≤◌, ◌<◌, ◌+◌, ◌*◌, ◌/◌, inl, inr, ℕ, ℤ, pos, List, [], ◌∷◌, refl, sym, ap, ◌∙◌}
 use Rattle.std.proofs.Props.{props}
+use Rattle.std.proofs.Math.Bridge.{le_prop}
+use Rattle.std.proofs.Math.Nat.{ℕ_set}
 use Rattle.decimal_text.specs.declared.exponent.Dec.{Dec}
-use Rattle.gps_time.specs.declared.Tick.{Tick}
 use Rattle.eph_store.specs.Decimals.{IsFromTo, IsWithin}
 use Rattle.eph_store.specs.Profile.{toe_tick}
 use Rattle.eph_store.specs.Records.{IsEphOf, AreFit}
 use Rattle.eph_store.specs.declared.record.Raw.{Raw}
 use Rattle.eph_store.specs.declared.ephemeris.Eph.{Eph}
 use Rattle.eph_store.proofs.ProfileLaws.{whole_once}
-
-le_prop : (m n : ℕ) → IsProp (m ≤ n)
-le_prop m n = Prim.hlevel props
-
-lt_prop : (m n : ℕ) → IsProp (m < n)
-lt_prop m n = Prim.hlevel props
-
-same_prop : (m n : ℕ) → IsProp (m ≡ n)
-same_prop m n = Prim.hlevel props
 
 range_prop : (least most : ℤ) (places : ℕ) (d : Dec) → IsProp (IsFromTo least most places d)
 range_prop least most places d = Prim.hlevel props
@@ -51,11 +43,11 @@ eph_same e f sat toc toe toe_second af0 af1 af2 crs dn m0 cuc ecc cus root_a cic
   peri = peri i;
   node_rate = node_rate i;
   incl_rate = incl_rate i;
-  second_in = is_prop→PathP (λ j. toe_second j ≤ 604_799) (λ j. le_prop (toe_second j) 604_799) e.second_in f.second_in i;
-  toe_in = is_prop→PathP (λ j. (toe j).0 < 60_480_000_000_000_000) (λ j. lt_prop ((toe j).0) 60_480_000_000_000_000) e.toe_in f.toe_in i;
-  second_of_week = is_prop→PathP (λ j. (toe j).0 ≡ ((toe j).0 / 6_048_000_000_000 * 604_800 + toe_second j) * 10_000_000) (λ j. same_prop ((toe j).0) (((toe j).0 / 6_048_000_000_000 * 604_800 + toe_second j) * 10_000_000)) e.second_of_week f.second_of_week i;
-  toc_late_enough = is_prop→PathP (λ j. (toe j).0 ≤ (toc j).0 + 72_000_000_000) (λ j. le_prop ((toe j).0) ((toc j).0 + 72_000_000_000)) e.toc_late_enough f.toc_late_enough i;
-  toc_early_enough = is_prop→PathP (λ j. (toc j).0 ≤ (toe j).0 + 72_000_000_000) (λ j. le_prop ((toc j).0) ((toe j).0 + 72_000_000_000)) e.toc_early_enough f.toc_early_enough i;
+  second_in = is_prop→PathP (λ j. toe_second j ≤ 604_799) (λ j. le_prop) e.second_in f.second_in i;
+  toe_in = is_prop→PathP (λ j. (toe j).0 < 60_480_000_000_000_000) (λ j. le_prop) e.toe_in f.toe_in i;
+  second_of_week = is_prop→PathP (λ j. (toe j).0 ≡ ((toe j).0 / 6_048_000_000_000 * 604_800 + toe_second j) * 10_000_000) (λ j. ℕ_set ((toe j).0) (((toe j).0 / 6_048_000_000_000 * 604_800 + toe_second j) * 10_000_000)) e.second_of_week f.second_of_week i;
+  toc_late_enough = is_prop→PathP (λ j. (toe j).0 ≤ (toc j).0 + 72_000_000_000) (λ j. le_prop) e.toc_late_enough f.toc_late_enough i;
+  toc_early_enough = is_prop→PathP (λ j. (toc j).0 ≤ (toe j).0 + 72_000_000_000) (λ j. le_prop) e.toc_early_enough f.toc_early_enough i;
   root_a_in = is_prop→PathP (λ j. IsFromTo (pos 4500) (pos 6000) 0 (root_a j)) (λ j. range_prop (pos 4500) (pos 6000) 0 (root_a j)) e.root_a_in f.root_a_in i;
   ecc_in = is_prop→PathP (λ j. IsFromTo (pos 0) (pos 3125) 5 (ecc j)) (λ j. range_prop (pos 0) (pos 3125) 5 (ecc j)) e.ecc_in f.ecc_in i;
   m0_in = is_prop→PathP (λ j. IsWithin 65 1 (m0 j)) (λ j. within_prop 65 1 (m0 j)) e.m0_in f.m0_in i;

@@ -1,7 +1,7 @@
 -- Where no integers are counted, the front of a normal matrix is the whole elimination, and its baseline is the float point.
-use Rattle.std.proofs.Common.{◌≡◌, ℕ, zero, suc, ◌+◌, ◌-◌, ◌^◌, ◌<◌, ◌≤◌, List, [], ◌∷◌, ℤ, pos, take, Bool, true, false, Result, Ok, Err, slice_index_or, arith, refl, sym, ap, subst, ◌∙◌}
+use Rattle.std.proofs.Common.{◌≡◌, ℕ, zero, suc, ◌-◌, ◌≤◌, List, [], ◌∷◌, ℤ, pos, Bool, true, false, Ok, Err, slice_index_or, arith, refl, sym, ap, subst, ◌∙◌}
 use Rattle.quadratic_form.specs.Forms.{Column}
-use Rattle.quadratic_form.specs.Elimination.{Factor, Refusal, wide_entry, form_small, steps}
+use Rattle.quadratic_form.specs.Elimination.{Factor, wide_entry, form_small, steps, StepsAnswer}
 use Rattle.quadratic_form.specs.Lowering.{IsExponent}
 use Rattle.form_tables.specs.Tables.{entry}
 use Rattle.normal_sum.specs.declared.normal.Normal.{Normal}
@@ -9,7 +9,7 @@ use Rattle.integer_form.specs.declared.front_form.FrontForm.{FrontForm}
 use Rattle.integer_form.specs.declared.form.Form.{Form}
 use Rattle.integer_form.specs.Factors.{stored}
 use Rattle.integer_form.specs.Kept.{AreKept, IsZeroFrom, IsEliminated, form_of_table, constant_form}
-use Rattle.integer_form.specs.FloatPoint.{item, solved, float_point, baseline_at}
+use Rattle.integer_form.specs.FloatPoint.{solved, float_point, baseline_at}
 use Rattle.integer_form.specs.declared.faults.LowerFault.{LowerFault}
 use Rattle.integer_form.specs.Told.{IsToldAs}
 use Rattle.normal_sum.specs.Values.{form_of}
@@ -17,10 +17,7 @@ use Rattle.lower_form.specs.FirstRounding.{first_form}
 use Rattle.lower_form.specs.Fronts.{front_of}
 use Rattle.lower_form.specs.Forms.{IsFrontOf, IsLowerOf, elimination_of}
 
-abbrev Answer : Type 0
-Answer = Result (List Factor × List Column) Refusal
-
-abbrev answer_of : List Factor → List Column → Answer
+abbrev answer_of : List Factor → List Column → StepsAnswer
 answer_of s m = Ok (s, m)
 
 -- what is kept of the three pivots, and no more
@@ -69,7 +66,7 @@ whole r e = record {
 three_columns : (n : ℕ) → n ≡ 4 → n - 1 ≡ 3
 three_columns n e = omega arith
 
-abbrev answer : Bool → Answer → Answer
+abbrev answer : Bool → StepsAnswer → StepsAnswer
 answer b a = elim b [ true ↦ a | false ↦ Err wide_entry ]
 
 -- the front is the whole

@@ -1,10 +1,9 @@
 -- Shifts of bands that don't count stay 0 where shifts grow.
-use Rattle.std.proofs.Common.{◌≡◌, ℕ, zero, suc, ◌+◌, ◌*◌, ◌<◌, Bool, true, false, Option, Some, None, List, [], ◌∷◌, length, map, get_or, All, cond, nat_eq, ℤ, pos, ◌+ℤ◌, arith, sym, ap, ap₂, ◌∙◌, refl, subst}
+use Rattle.std.proofs.Common.{◌≡◌, ℕ, zero, suc, ◌+◌, ◌*◌, ◌<◌, Bool, true, false, Option, Some, None, List, [], ◌∷◌, length, map, get_or, All, cond, ℤ, pos, ◌+ℤ◌, arith, sym, ap, ap₂, ◌∙◌, refl, subst}
 use Rattle.std.specs.Prelude.{slice_get, position, ◌==◌}
 use Rattle.std.specs.List.{list_any}
 use Rattle.std.specs.Option.{option_map}
-use Rattle.std.proofs.lemmas.Bool.{false≢true}
-use Rattle.std.proofs.lemmas.Bool.Decides.{nat_tests}
+use Rattle.std.proofs.lemmas.Bool.{false≢true, eqb-true, eq-eqb}
 use Rattle.std.proofs.lemmas.List.{length-map}
 use Rattle.std.proofs.lemmas.List.Folds.{list_any-from_Any}
 use Rattle.std.proofs.lemmas.List.Quantifiers.{position-Some}
@@ -18,12 +17,6 @@ use Rattle.obs_rows.specs.Unused.{HasUsedShifts}
 use Rattle.integer_form.specs.FloatPoint.{item}
 use Rattle.round_steps.specs.Shifts.{growth, integers, grown_shift, grown_arc, AreGrown}
 
-same_number : (m n : ℕ) → nat_eq m n ≡ true → m ≡ n
-same_number m n e = grind (arith, nat_tests)
-
-number_is : (n : ℕ) → nat_eq n n ≡ true
-number_is n = grind (arith, nat_tests)
-
 -- a phase whose band isn't among the bands of these phases isn't among them
 no_place : (ps : List ℕ) (s : ℕ) → list_any (λ b. b == band s) (map band ps) ≡ false → position (λ t. t == s) ps ≡ None
 no_place ps s off = by_place (position (λ t. t == s) ps) refl
@@ -32,11 +25,11 @@ no_place ps s off = by_place (position (λ t. t == s) ps) refl
     by_place None e = refl
     by_place (Some j) e =
         let q = position-Some (λ t. t == s) ps j 0 e in
-        let same : get_or ps j 0 ≡ s = same_number (get_or ps j 0) s q.1 in
+        let same : get_or ps j 0 ≡ s = eqb-true (get_or ps j 0) s q.1 in
         let at : get_or (map band ps) j (band 0) ≡ band s = get_or-map band ps j 0 ∙ ap band same in
         let inside : j < length (map band ps) = subst (λ (n : ℕ). j < n) (sym (length-map ps band)) q.0 in
         let found : list_any (λ b. b == band s) (map band ps) ≡ true =
-        list_any-from_Any (λ b. b == band s) (map band ps) (j, band s, inside, there (map band ps) j (band 0) (band s) inside at, number_is (band s)) in
+        list_any-from_Any (λ b. b == band s) (map band ps) (j, band s, inside, there (map band ps) j (band 0) (band s) inside at, eq-eqb (band s) (band s) refl) in
         absurd (false≢true (sym off ∙ found))
       where
         there : (xs : List ℕ) (j d x : ℕ) → j < length xs → get_or xs j d ≡ x → get_or xs j x ≡ x

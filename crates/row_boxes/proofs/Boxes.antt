@@ -7,7 +7,7 @@ use Rattle.whole_math.proofs.Rounding.{floor_is, ceil_is, floor_le_ceil}
 use Rattle.whole_math.proofs.IntLaws.{mul_one_ℤ}
 use Rattle.whole_math.proofs.Ring.{◌⊗◌}
 use Rattle.whole_math.proofs.Order.{lins, mul_le_right}
-use Rattle.whole_math.proofs.Inequalities.{same_by, pos_nn, le_refl_ℤ}
+use Rattle.whole_math.proofs.Inequalities.{same_by, pos_nn, le_refl_ℤ, le_eq}
 use Rattle.rational.specs.Rational.{Rational, of_whole, sub_r, mul_r, divided, InBox, Near}
 use Rattle.rational.proofs.Boxes.{wider}
 use Rattle.iv_core.proofs.SumLaws.{sub_holds}
@@ -122,13 +122,10 @@ y_holds s lo hi w c r q a h =
     let l : ℤ = lo -ℤ (w *ℤ pos 32768) in
     let u : ℤ = hi -ℤ (w *ℤ pos 32768) in
     let x : Rational = sub_r q (of_whole w) in
-    wider 0 (floor_div l e) (ceil_div u e) (c -ℤ r) (c +ℤ r) (in_row_unit s x) a.bottom (same_le _ _ (sym a.top))
+    wider 0 (floor_div l e) (ceil_div u e) (c -ℤ r) (c +ℤ r) (in_row_unit s x) a.bottom (le_eq (sym a.top))
     (scaled_box 15 0 l u (pos 1) (floor_div l e) (ceil_div u e) e (row_unit s) x (pow_pos (s + 2)) (pos_nn 1) (unit_is s a.scale)
     (rw (mul_one_ℤ l) (floor_is l e (pow_pos (s + 2)))) (rw (mul_one_ℤ u) (ceil_is u e (pow_pos (s + 2))))
     (sub_holds 15 lo hi (w *ℤ pos 32768) (w *ℤ pos 32768) q (of_whole w) h (whole_at w)))
-  where
-    same_le : (x y : ℤ) → x ≡ y → x ≤ℤ y
-    same_le x y e = omega (arith, lins)
 
 -- how the ends are rounded, over e
 record Rounded (e : ℕ) (l u f g : ℤ) : Type 0 where

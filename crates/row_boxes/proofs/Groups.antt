@@ -4,6 +4,7 @@ use Rattle.std.proofs.lemmas.Int.{ints}
 use Rattle.whole_math.proofs.Ring.{va, ko, ng, ◌⊕◌, ◌⊖◌, ◌⊗◌}
 use Rattle.whole_math.proofs.Order.{mul_le_right, mul_le_cancel}
 use Rattle.whole_math.proofs.Inequalities.{same_by, pos_nn}
+use Rattle.whole_math.proofs.IntLaws.{neg_mul_ℤ, mul_comm_ℤ}
 use Rattle.rational.specs.Rational.{Rational, ◌≈◌, of_whole, sub_r, Near}
 use Rattle.rational.proofs.Laws.{≤ʳ_along}
 use Rattle.rational.proofs.Boxes.{Near-along}
@@ -43,13 +44,10 @@ high_meets y n e d h i j = mul_le_cancel (neg_ℤ (pos 16384)) (pos 4 *ℤ (y *�
 
 pub meets_one : (scale : ℕ) (c r : ℤ) (q : Rational) → IsWithinHalf (pos 1) q → Near c r (in_row_unit scale q) → MeetsOne scale c r
 meets_one scale c r q h n = (
-  low (pos (2 ^ scale) *ℤ (c -ℤ r)) ((c -ℤ r) *ℤ pos (2 ^ scale)) (turned (c -ℤ r) (pos (2 ^ scale))) (low_meets (c -ℤ r) q.num (2 ^ scale) q.den q.positive n.0 h.1),
-  high (pos (2 ^ scale) *ℤ (c +ℤ r)) ((c +ℤ r) *ℤ pos (2 ^ scale)) (turned (c +ℤ r) (pos (2 ^ scale))) (high_meets (c +ℤ r) q.num (2 ^ scale) q.den q.positive n.1 h.0),
+  low (pos (2 ^ scale) *ℤ (c -ℤ r)) ((c -ℤ r) *ℤ pos (2 ^ scale)) (mul_comm_ℤ (pos (2 ^ scale)) (c -ℤ r)) (low_meets (c -ℤ r) q.num (2 ^ scale) q.den q.positive n.0 h.1),
+  high (pos (2 ^ scale) *ℤ (c +ℤ r)) ((c +ℤ r) *ℤ pos (2 ^ scale)) (mul_comm_ℤ (pos (2 ^ scale)) (c +ℤ r)) (high_meets (c +ℤ r) q.num (2 ^ scale) q.den q.positive n.1 h.0),
 )
   where
-    turned : (x e : ℤ) → e *ℤ x ≡ x *ℤ e
-    turned x e = same_by (x ∷ e ∷ []) (λ x e. (e ⊗ x, x ⊗ e)) refl
-
     low : (x z : ℤ) → x ≡ z → (pos 4 *ℤ z) ≤ℤ half_more → x ≤ℤ pos (2 ^ 13)
     low x z e h = omega (arith, ints)
 
@@ -125,13 +123,10 @@ within l n k d least k0 k1 lo hi =
     let y0 : (neg_ℤ (pos 2) *ℤ pos d) ≤ℤ (k *ℤ pos d) = mul_le_right (pos d) (neg_ℤ (pos 2)) k (pos_nn d) k0 in
     let y1 : (k *ℤ pos d) ≤ℤ (pos 2 *ℤ pos d) = mul_le_right (pos d) k (pos 2) (pos_nn d) k1 in
     let d0 : pos 0 ≤ℤ pos d = pos_nn d in
-    rw (one d) (low (l *ℤ pos d) n (k *ℤ pos d) (pos d) _ _ x0 y1 d0 (neg_of l (pos d)) (neg_half l (pos d)) lo, high (l *ℤ pos d) n (k *ℤ pos d) (pos d) _ x0 y0 d0 (half l (pos d)) hi)
+    rw (one d) (low (l *ℤ pos d) n (k *ℤ pos d) (pos d) _ _ x0 y1 d0 (neg_mul_ℤ l (pos d)) (neg_half l (pos d)) lo, high (l *ℤ pos d) n (k *ℤ pos d) (pos d) _ x0 y0 d0 (half l (pos d)) hi)
   where
     one : (d : ℕ) → d * 1 ≡ d
     one d = omega arith
-
-    neg_of : (l d : ℤ) → neg_ℤ l *ℤ d ≡ neg_ℤ (l *ℤ d)
-    neg_of l d = same_by (l ∷ d ∷ []) (λ l d. (ng l ⊗ d, ng (l ⊗ d))) refl
 
     neg_half : (l d : ℤ) → neg_ℤ (l *ℤ pos 16384) *ℤ d ≡ neg_ℤ (pos 16384 *ℤ (l *ℤ d))
     neg_half l d = same_by (l ∷ d ∷ []) (λ l d. (ng (l ⊗ ko (pos 16384)) ⊗ d, ng (ko (pos 16384) ⊗ (l ⊗ d)))) refl

@@ -6,7 +6,7 @@ use Rattle.std.proofs.lemmas.List.{get_or-set_same, get_or-set_other}
 use Rattle.whole_math.specs.Rounding.{IsNearest}
 use Rattle.whole_math.proofs.Ring.{va, ko, ng, ◌⊕◌, ◌⊖◌, ◌⊗◌}
 use Rattle.whole_math.proofs.Order.{lins, mul_le_right}
-use Rattle.whole_math.proofs.Inequalities.{same_by, pos_nn}
+use Rattle.whole_math.proofs.Inequalities.{same_by, pos_nn, pos_one}
 use Rattle.rational.specs.Rational.{Rational, ◌≈◌, ◌<ʳ◌, of_whole, add_r, sub_r, InBox, Near}
 use Rattle.rational.proofs.Boxes.{wider}
 use Rattle.rational.proofs.Orders.{equal_r, ◌≐◌}
@@ -101,12 +101,9 @@ near_less a b n d d1 h i d0 = step (a *ℤ d) (b *ℤ d) n d ((b +ℤ pos 1) *�
 
 pub far_from : (c r : ℤ) (q : Rational) → 2 ^ 34 < unsigned_abs c → r ≤ℤ most_radius 0 → Near c r q → IsFar q
 far_from c r q h k n = by_lt_z (pos 0) c
-    (λ (up : pos 0 <ℤ c). inr_left (near_more (pos (2 ^ 34 - 2 ^ 12)) (c -ℤ r) (q.num *ℤ pos 1) (pos q.den) (one q.den q.positive) (above c r h k up) n.0 (pos_nn q.den)))
-    (λ (down : c ≤ℤ pos 0). inr_right (near_less (neg_ℤ (pos (2 ^ 34 - 2 ^ 12))) (c +ℤ r) (q.num *ℤ pos 1) (pos q.den) (one q.den q.positive) (below c r h k down) n.1 (pos_nn q.den)))
+    (λ (up : pos 0 <ℤ c). inr_left (near_more (pos (2 ^ 34 - 2 ^ 12)) (c -ℤ r) (q.num *ℤ pos 1) (pos q.den) (pos_one q.den q.positive) (above c r h k up) n.0 (pos_nn q.den)))
+    (λ (down : c ≤ℤ pos 0). inr_right (near_less (neg_ℤ (pos (2 ^ 34 - 2 ^ 12))) (c +ℤ r) (q.num *ℤ pos 1) (pos q.den) (pos_one q.den q.positive) (below c r h k down) n.1 (pos_nn q.den)))
   where
-    one : (d : ℕ) → 0 < d → pos 1 ≤ℤ pos d
-    one d h = omega (arith, ints)
-
     above : (c r : ℤ) → 2 ^ 34 < unsigned_abs c → r ≤ℤ most_radius 0 → pos 0 <ℤ c → (pos (2 ^ 34 - 2 ^ 12) +ℤ pos 1) ≤ℤ (c -ℤ r)
     above c r h k l = omega (arith, ints)
 
@@ -153,8 +150,8 @@ y_looser p scale s amount group shift centre r ry l h = λ b q a. near_looser ce
 abbrev pub HoldsAt : Pairing → ℕ → List ℤ → ℤ → List ℤ → List ℤ → ℤ → ℕ → Type 0
 HoldsAt p scale amounts group shift y ry s = HoldsY p scale s (number_at amounts s) group (number_at shift (band s)) (number_at y s) ry
 
-earlier : (k i : ℕ) → k < i + 1 → (k ≡ i → ⊥) → k < i
-earlier k i h n = omega arith
+pub before_last : (k i : ℕ) → k < i + 1 → (k ≡ i → ⊥) → k < i
+before_last k i h n = omega arith
 
 -- the signals before place i and that at it
 pub one_more : (p : Pairing) (scale : ℕ) (amounts : List ℤ) (group : ℤ) (shift y : List ℤ) (ss : List ℕ) (i : ℕ) (c r q z : ℤ) → get_or ss i 0 < length y → q ≤ℤ z → r ≤ℤ z →
@@ -169,7 +166,7 @@ one_more p scale amounts group shift y ss i c r q z inside hq hr h hs k hk = ⊎
     subst (λ (x : ℤ). HoldsY p scale (get_or ss k 0) (number_at amounts (get_or ss k 0)) group (number_at shift (band (get_or ss k 0))) x z)
     (sym (get_or-set_other y (get_or ss i 0) (get_or ss k 0) c (pos 0) n))
     (y_looser p scale (get_or ss k 0) (number_at amounts (get_or ss k 0)) group (number_at shift (band (get_or ss k 0))) (number_at y (get_or ss k 0)) q z hq
-    (hs k (earlier k i hk (λ (e : k ≡ i). n (subst (λ (j : ℕ). get_or ss k 0 ≡ get_or ss j 0) e refl))))))
+    (hs k (before_last k i hk (λ (e : k ≡ i). n (subst (λ (j : ℕ). get_or ss k 0 ≡ get_or ss j 0) e refl))))))
     (cases_eq (get_or ss k 0) (get_or ss i 0))
 
 pub zero_off : (y : List ℤ) (s t : ℕ) (c : ℤ) → (s ≡ t → ⊥) → number_at y t ≡ pos 0 → number_at (set y s c) t ≡ pos 0

@@ -1,15 +1,13 @@
 -- Rows of what was screened stand for the files.
-use Rattle.std.proofs.Common.{◌≡◌, ℕ, All, Some, List, [], ◌∷◌, map, length, get_or, ℤ, refl, sym, subst, ap, ◌∙◌}
+use Rattle.std.proofs.Common.{◌≡◌, ℕ, All, Some, List, map, length, get_or, ℤ, refl, sym, subst, ap, ◌∙◌}
 use Rattle.std.specs.Prelude.{slice_get}
 use Rattle.std.proofs.lemmas.Option.{same_Some, slice_get_within, get_or_from_slice_get}
-use Rattle.iv_core.specs.declared.Iv.{Iv}
 use Rattle.iv_core.specs.Intervals.{Holds}
 use Rattle.rational.specs.Rational.{Rational, Near}
 use Rattle.orbit_model.specs.Solution.{Quantities}
-use Rattle.orbit_place.specs.Held.{HoldsPlace as HoldsCoordinates}
 use Rattle.sv_orbit.specs.declared.place.SvBox.{SvBox}
 use Rattle.sv_orbit.specs.Solutions.{HoldsSolution}
-use Rattle.orbit_model.specs.SeenPlaces.{Place}
+use Rattle.orbit_model.specs.SeenPlaces.{Place, sent_place}
 use Rattle.signal_travel.specs.Boxes.{HoldsPlace}
 use Rattle.eph_store.specs.declared.ephemeris.Eph.{Eph}
 use Rattle.obs_store.specs.declared.series.Epoch.{Epoch}
@@ -25,8 +23,9 @@ use Rattle.obs_rows.specs.declared.used.UsedPair.{UsedPair}
 use Rattle.slip_arcs.specs.Runs.{AreKept}
 use Rattle.slip_arcs.specs.Linked.{HaveDatums}
 use Rattle.screening.specs.declared.sv_pair.SvPair.{SvPair}
-use Rattle.screening.specs.Sightings.{Setting, Sent, WasSent, place_of, code_of}
+use Rattle.screening.specs.Sightings.{Setting, Sent, WasSent, code_of}
 use Rattle.screening.specs.Screening.{AreEpochsOf, AreUsedPairs, IsSvPair}
+use Rattle.screening.proofs.SightLaws.{place_held}
 use Rattle.row_boxes.specs.Sightings.{Sighting, IsSighting, HasSighting, y_in_rows}
 use Rattle.row_build.specs.Entries.{IsEntry}
 use Rattle.row_build.specs.Rows.{setting, IsRow}
@@ -36,19 +35,13 @@ use Rattle.row_build.specs.HeldArcs.{arcs_at}
 use Rattle.row_build.specs.Stands.{IsSolved, HasSolved, StandsForRow, StandsForPair, StandsForFiles}
 
 -- ---- a solution lies in the boxes that hold it
-held_place : (s : List (Iv 36)) (q : Quantities) → HoldsCoordinates s q → HoldsPlace s (place_of q)
-held_place [] q h = absurd h
-held_place (a ∷ []) q h = absurd h
-held_place (a ∷ b ∷ []) q h = absurd h
-held_place (a ∷ b ∷ c ∷ []) q h = (h.0, (h.1, (h.2, tt)))
-held_place (a ∷ b ∷ c ∷ d ∷ more) q h = absurd h
 
 solved : (t : Setting) (eph : Eph) (tag : ℕ) (code : ℤ) (point : List ℤ) (b : SvBox) (s : Sighting) → ((q : Quantities) → Sent t eph tag code q → HoldsSolution b q) →
     IsSolved t eph tag code point s → IsSighting b point s
 solved t eph tag code point b s holds h =
     let k : HoldsSolution b h.solution = holds h.solution h.sent in
     record {
-      sent_in = subst (λ (p : Place). HoldsPlace b.place p) (sym h.place) (held_place b.place h.solution k.place);
+      sent_in = subst (λ (p : Place). HoldsPlace b.place p) (sym h.place) (place_held b.place h.solution k.place);
       clock_in = subst (λ (c : Rational). Holds b.clock c) (sym h.clock) k.clock;
       seen_is = h.seen;
     }
@@ -58,9 +51,9 @@ has_solved : (t : Setting) (eph : Eph) (tag : ℕ) (code : ℤ) (point : List �
     HasSighting b point → HasSolved t eph tag code point
 has_solved t eph tag code point b holds was seen =
     let q : Quantities = was.quantities in
-    let there = seen.every (place_of q) (held_place b.place q (holds q was.is).place) in
+    let there = seen.every (sent_place q) (place_held b.place q (holds q was.is).place) in
     record {
-      sighting = record { sent = place_of q; clock = q.clock; seen = there.seen; travel = there.travel };
+      sighting = record { sent = sent_place q; clock = q.clock; seen = there.seen; travel = there.travel };
       is = record { solution = q; sent = was.is; place = refl; clock = refl; seen = there.is_seen };
     }
 

@@ -2,7 +2,7 @@
 use Rattle.std.proofs.Common.{◌≡◌, ℕ, zero, suc, Bool, true, false, cond, IsTrue, All, List, [], ◌∷◌, map, get_or, ℤ, pos, refl, ap, ◌∙◌}
 use Rattle.std.specs.Prelude.{◌==◌, ◌||◌}
 use Rattle.std.specs.List.{list_any, filter}
-use Rattle.std.proofs.lemmas.Bool.{both_ways, eqb-true, eq-eqb, false_from_ne_true}
+use Rattle.std.proofs.lemmas.Bool.{both_ways, eqb-true, eq-eqb, false_from_ne_true, or_parts}
 use Rattle.std.proofs.lemmas.List.Elements.{All-from_recursion}
 use Rattle.std.proofs.lemmas.List.Folds.{list_any_none, list_any_at}
 use Rattle.obs_rows.specs.declared.bands.Signals.{Signals}
@@ -24,16 +24,12 @@ not_counted (x ∷ ss) s phase none = step (x == s) (is_phase x) (counts ss s) (
     same : (x == s) ≡ true → (is_phase x ≡ true) × ((band x == band s) ≡ true)
     same e = let f : x ≡ s = eqb-true x s e in (ap is_phase f ∙ phase, eq-eqb (band x) (band s) (ap band f))
 
-    second : (a b : Bool) → (a || b) ≡ false → b ≡ false
-    second true b h = absurd (both_ways true h refl)
-    second false b h = h
-
     step : (e h rest : Bool) (ps : List ℕ) → (e ≡ true → (h ≡ true) × ((band x == band s) ≡ true)) → list_any (λ (b : ℕ). b == band s) (map band (cond h (x ∷ ps) ps)) ≡ false →
         (list_any (λ (b : ℕ). b == band s) (map band ps) ≡ false → rest ≡ false) → (e || rest) ≡ false
     step true true rest ps f none later = absurd (both_ways (list_any (λ (b : ℕ). b == band s) (map band (x ∷ ps))) none
         (ap (λ (t : Bool). t || list_any (λ (b : ℕ). b == band s) (map band ps)) (f refl).1))
     step true false rest ps f none later = absurd (both_ways false refl (f refl).0)
-    step false true rest ps f none later = later (second (band x == band s) (list_any (λ (b : ℕ). b == band s) (map band ps)) none)
+    step false true rest ps f none later = later (or_parts (band x == band s) (list_any (λ (b : ℕ). b == band s) (map band ps)) none).1
     step false false rest ps f none later = later none
 
 -- the shifts of L1, L2 and L5, each 0 where its phase doesn't count

@@ -2,7 +2,7 @@
 use Rattle.std.specs.Prelude.{◌≡◌, ℕ, Some, List, length, map, All, slice_get, ℤ, pos, ◌≤ℤ◌}
 use Rattle.rational.specs.Rational.{Near}
 use Rattle.orbit_model.specs.Solution.{Quantities}
-use Rattle.orbit_model.specs.SeenPlaces.{Place, IsSeenPlace, IsDisplacement, IsMeanDirection}
+use Rattle.orbit_model.specs.SeenPlaces.{Place, IsSeenPlace, IsDisplacement, IsMeanDirection, sent_place}
 use Rattle.eph_store.specs.declared.ephemeris.Eph.{Eph}
 use Rattle.obs_store.specs.declared.series.Epoch.{Epoch}
 use Rattle.epoch_pair.specs.declared.pairs.PairOf.{PairOf}
@@ -18,7 +18,7 @@ use Rattle.obs_rows.specs.declared.used.UsedPair.{UsedPair}
 use Rattle.slip_arcs.specs.Runs.{AreKept}
 use Rattle.slip_arcs.specs.Linked.{HaveDatums}
 use Rattle.screening.specs.Amounts.{differences}
-use Rattle.screening.specs.Sightings.{Setting, Sent, place_of, code_of}
+use Rattle.screening.specs.Sightings.{Setting, Sent, code_of}
 use Rattle.screening.specs.Sightings.{Sighting as Observed, IsSighting as AreObserved}
 use Rattle.screening.specs.Screening.{AreEpochsOf, AreUsedPairs}
 use Rattle.row_boxes.specs.Sightings.{Sighting, place_at, y_in_rows}
@@ -31,7 +31,7 @@ use Rattle.row_build.specs.SessionRows.{pairs_held}
 pub record IsSolved (setting : Setting) (eph : Eph) (tag : ℕ) (code : ℤ) (point : List ℤ) (s : Sighting) : Type 0 where
   pub solution : Quantities
   pub sent : Sent setting eph tag code solution
-  pub place : s.sent ≡ place_of solution
+  pub place : s.sent ≡ sent_place solution
   pub clock : s.clock ≡ solution.clock
   pub seen : IsSeenPlace s.sent (place_at point) s.travel s.seen
 

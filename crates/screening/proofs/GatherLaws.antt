@@ -1,6 +1,6 @@
 -- The used satellites of a pair, one number more.
-use Rattle.std.proofs.Common.{◌≡◌, ℕ, zero, suc, ◌+◌, ◌<◌, ◌≤◌, ◌⊎◌, inl, inr, ⊎_elim, Bool, true, false, true≢false, ◌||◌, ◌==◌, List, [], ◌∷◌, ◌++◌, length, refl, sym, ap, ap₂, ◌∙◌, subst, arith, append_assoc}
-use Rattle.std.proofs.lemmas.Bool.{eqb-false}
+use Rattle.std.proofs.Common.{◌≡◌, ℕ, zero, suc, ◌+◌, ◌<◌, ◌≤◌, ◌⊎◌, inl, inr, ⊎_elim, Bool, false, ◌||◌, ◌==◌, List, [], ◌∷◌, ◌++◌, length, refl, sym, ap, ap₂, ◌∙◌, subst, arith, append_assoc}
+use Rattle.std.proofs.lemmas.Bool.{eqb-false, or_parts}
 use Rattle.std.proofs.lemmas.List.{append-nil, map-append, length_push}
 use Rattle.std.proofs.lemmas.List.Elements.{All-push}
 use Rattle.std.proofs.lemmas.List.Folds.{list_any-append}
@@ -87,14 +87,6 @@ passed_over s base rover epochs pair n before sats boxes reason g = record {
         inr (whole, λ k d inside. let h = g.below k d inside in omega (arith, h, here))
     at_n sat seen here is (inr out) = inl (out seen (subst (λ (m : ℕ). IsSighting s base rover m seen) here is))
 
-left_false : (a b : Bool) → (a || b) ≡ false → a ≡ false
-left_false true b h = h
-left_false false b h = refl
-
-right_false : (a b : Bool) → (a || b) ≡ false → b ≡ false
-right_false true b h = absurd (true≢false h)
-right_false false b h = h
-
 added_one : (s : Setting) (base rover : Epoch) (epochs : Passed) (pair n : ℕ) (before : List SvPair) (sats : List UsedSat) (boxes : List SvPair) (u : UsedSat) (b : SvPair)
     → length sats < MOST_SATELLITES → u.sat ≡ n →
     IsUsedSat s base rover epochs u → IsSmall u → IsEntryAt s base rover pair n b → AreGathered s base rover epochs pair n before sats boxes → AreGathered s base rover epochs pair
@@ -107,8 +99,8 @@ added_one s base rover epochs pair n before sats boxes u b room named used small
   small = All-push IsSmall sats u g.small small;
   others = λ sat seen less is none.
       let split : (is_among sat sats || ((u.sat == sat) || false)) ≡ false = sym (list_any-append (λ (v : UsedSat). v.sat == sat) sats (u ∷ [])) ∙ none in
-      let apart : u.sat ≡ sat → ⊥ = eqb-false u.sat sat (left_false (u.sat == sat) false (right_false (is_among sat sats) ((u.sat == sat) || false) split)) in
-      ⊎_elim (λ (lower : sat < n). inl (earlier sat seen lower is (left_false (is_among sat sats) ((u.sat == sat) || false) split)))
+      let apart : u.sat ≡ sat → ⊥ = eqb-false u.sat sat (or_parts (u.sat == sat) false (or_parts (is_among sat sats) ((u.sat == sat) || false) split).1).0 in
+      ⊎_elim (λ (lower : sat < n). inl (earlier sat seen lower is (or_parts (is_among sat sats) ((u.sat == sat) || false) split).0))
       (λ (here : sat ≡ n). absurd (apart (named ∙ sym here))) (below_or_at sat n less);
   added = g.added ++ b ∷ [];
   boxes_are = ap (λ (xs : List SvPair). xs ++ b ∷ []) g.boxes_are ∙ append_assoc before g.added (b ∷ []);

@@ -1,5 +1,5 @@
 -- At most 54,000 arcs are kept: at most fifteen begin in each pair.
-use Rattle.std.proofs.Common.{◌≡◌, ℕ, zero, suc, ◌+◌, ◌*◌, ◌<◌, ◌≤◌, true, false, Bool, cond, List, [], ◌∷◌, length, get_or, All, arith, refl}
+use Rattle.std.proofs.Common.{◌≡◌, ℕ, zero, suc, ◌+◌, ◌*◌, ◌<◌, ◌≤◌, true, false, Bool, cond, List, [], ◌∷◌, length, get_or, All, arith, refl, zero-add, sym}
 use Rattle.std.specs.Prelude.{nat_le, nat_lt, ◌&&◌, count_by}
 use Rattle.std.proofs.lemmas.Bool.Decides.{nat_tests}
 use Rattle.std.proofs.lemmas.List.Elements.{All-head, All-tail}
@@ -38,10 +38,7 @@ longer true m xs = after (length xs)
   where
     after : (n : ℕ) → suc n ≡ 1 + n
     after n = omega arith
-longer false m xs = same (length xs)
-  where
-    same : (n : ℕ) → n ≡ 0 + n
-    same n = omega arith
+longer false m xs = sym (zero-add (length xs))
 
 more_begin : (arcs : List Arc) (n m : ℕ) → All IsOrdered arcs → count_by (begins_before (suc n)) arcs ≤ count_by (begins_before n) arcs + length (arcs_from m arcs n)
 more_begin [] n m h = omega arith

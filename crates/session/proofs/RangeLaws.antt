@@ -3,7 +3,7 @@ use Rattle.std.proofs.Common.{◌≡◌, ℕ, zero, suc, ◌+◌, ◌<◌, ◌�
 use Rattle.std.specs.Prelude.{slice_get, is_some, find, ◌==◌, ◌&&◌, nat_le, pos}
 use Rattle.std.proofs.lemmas.Option.{slice_get-get_or, slice_get_within, get_or_from_slice_get}
 use Rattle.std.proofs.lemmas.Bool.Decides.{nat_tests}
-use Rattle.std.proofs.lemmas.Bool.{false≢true, and_from, le-leb}
+use Rattle.std.proofs.lemmas.Bool.{false≢true, and_from, le-leb, eqb-true}
 use Rattle.std.proofs.lemmas.List.Sums.{sum_by-cons}
 use Rattle.obs_rows.specs.declared.arcs.Arc.{Arc}
 use Rattle.obs_rows.specs.Ranges.{IsBelow}
@@ -31,11 +31,8 @@ sat_numbered : (sats : List UsedSat) (sat : ℕ) → All (λ u. IsSatNumber u.sa
 sat_numbered [] sat h e = absurd (false≢true e)
 sat_numbered (u ∷ us) sat h e = go (nat_eq u.sat sat) refl (λ r. sat_numbered us sat (λ k d i. h (suc k) d (omega arith)) r) e
   where
-    same : (a b : ℕ) → nat_eq a b ≡ true → a ≡ b
-    same a b e = grind (arith, nat_tests)
-
     go : (b : Bool) → nat_eq u.sat sat ≡ b → (is_some (entry_in us sat) ≡ true → IsSatNumber sat) → is_some (cond b (Some u) (find (λ (v : UsedSat). v.sat == sat) us)) ≡ true → IsSatNumber sat
-    go true q ih r = subst IsSatNumber (same u.sat sat q) (h 0 u (omega arith))
+    go true q ih r = subst IsSatNumber (eqb-true _ _ q) (h 0 u (omega arith))
     go false q ih r = ih r
 
 record IsUsedWell (used : List UsedPair) (sat i : ℕ) : Type 0 where

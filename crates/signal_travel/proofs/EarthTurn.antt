@@ -3,13 +3,14 @@ use Rattle.std.proofs.Common.{◌≡◌, ◌+◌, ◌*◌, ◌^◌, ◌≤◌, [
 use Rattle.std.proofs.lemmas.Int.{ints}
 use Rattle.std.specs.Int.{w64}
 use Rattle.whole_math.proofs.Ring.{va, ko, ◌⊕◌, ◌⊖◌, ◌⊗◌, ng}
-use Rattle.whole_math.proofs.Order.{lins, mul_le_cancel, le_pos, lt_pos}
+use Rattle.whole_math.proofs.Order.{le_pos, lt_pos}
 use Rattle.whole_math.proofs.Certificates.{cert, weak, ◌≼◌, hy}
-use Rattle.whole_math.proofs.Inequalities.{same_by}
+use Rattle.whole_math.proofs.Inequalities.{same_by, le_refl_ℤ, less_nn}
 use Rattle.whole_math.specs.Rounding.{floor_div}
 use Rattle.whole_math.proofs.Rounding.{floor_le, lt_floor}
 use Rattle.rational.specs.Rational.{Rational, ◌≈◌, ◌≤ʳ◌, of_whole, of_scale, add_r, sub_r, mul_r, neg_r, times, two_to_minus, AreWithin, InBox}
 use Rattle.rational.proofs.Laws.{≤ʳ_trans, ≤ʳ_from_same}
+use Rattle.rational.proofs.Ends.{low_end, high_end}
 use Rattle.trig_box.specs.AnglePairs.{Pair, doubled, taylor_pair, part, IsAnglePair, IsCanonicalPair}
 use Rattle.trig_box.proofs.PairLaws.{canonical_exists, canonical_is_pair, canonical_law, sharp_law, size_law_5}
 use Rattle.orbit_model.specs.Elements.{earth_rate}
@@ -79,37 +80,14 @@ pub turn_holds : (tl th m a p cl ch sl sh cl' ch' sl' sh' : ℤ) → IsTurn tl t
     (t c s : Rational) → InBox 60 tl th t → IsAnglePair 5 (mul_r earth_rate t) c s → InBox 60 cl' ch' c × InBox 60 sl' sh' s
 turn_holds tl th m a p cl ch sl sh cl' ch' sl' sh' k e f g h t c s b q =
     let x = canonical a k.angle_low k.angle_high in
-    let w = within t tl th m (th -ℤ m) a p b k.below (same (th -ℤ m)) k.angle k.least (nn m th k.middle_high) in
+    let w = within t tl th m (th -ℤ m) a p b k.below (le_refl_ℤ (th -ℤ m)) k.angle k.least (less_nn k.middle_high) in
     let v = canonical_is_pair 5 (of_scale 56 a) x.0 x.1 x.2 in
     let law = sharp_law 5 (of_scale 61 (p -ℤ pos 1)) (mul_r earth_rate t) (of_scale 56 a) c s x.0 x.1 (lit≤ tt) q v w in
     let held = k.pairs x.0 x.1 v in
     let d : Rational = add_r (times 2 (of_scale 61 (p -ℤ pos 1))) (two_to_minus 67) in
     (padded_holds cl ch cl' ch' p c x.0 d e f held.0 law.0 (pad_most p), padded_holds sl sh sl' sh' p s x.1 d g h held.1 law.1 (pad_most p))
-  where
-    same : (z : ℤ) → z ≤ℤ z
-    same z = omega (arith, lins)
-
-    nn : (m h : ℤ) → m ≤ℤ h → pos 0 ≤ℤ (h -ℤ m)
-    nn m h l = omega (arith, lins)
 
 -- ---- sizes: the pair of so small an angle is near (1, 0)
-high_end : (l h w m : ℤ) (q : Rational) → (h -ℤ l) ≤ℤ w → InBox 60 l h q → q ≤ʳ of_scale 60 m → h ≤ℤ (m +ℤ w)
-high_end l h w m q n b k = step (mul_le_cancel l m q.den q.positive (through (l *ℤ pos q.den) (q.num *ℤ pos (2 ^ 60)) (m *ℤ pos q.den) b.0 k))
-  where
-    through : (a b c : ℤ) → a ≤ℤ b → b ≤ℤ c → a ≤ℤ c
-    through a b c h k = omega (arith, lins)
-
-    step : l ≤ℤ m → h ≤ℤ (m +ℤ w)
-    step k = omega (arith, lins)
-
-low_end : (l h w m : ℤ) (q : Rational) → (h -ℤ l) ≤ℤ w → InBox 60 l h q → of_scale 60 m ≤ʳ q → (m -ℤ w) ≤ℤ l
-low_end l h w m q n b k = step (mul_le_cancel m h q.den q.positive (through (m *ℤ pos q.den) (q.num *ℤ pos (2 ^ 60)) (h *ℤ pos q.den) k b.1))
-  where
-    through : (a b c : ℤ) → a ≤ℤ b → b ≤ℤ c → a ≤ℤ c
-    through a b c h k = omega (arith, lins)
-
-    step : m ≤ℤ h → (m -ℤ w) ≤ℤ l
-    step k = omega (arith, lins)
 
 -- from a bound of the negative
 low_of : (m : ℤ) (q : Rational) → neg_r q ≤ʳ of_scale 60 m → of_scale 60 (neg_ℤ m) ≤ʳ q
@@ -129,8 +107,8 @@ cos_ends a cl ch sl sh k =
     let b = (k.pairs x.0 x.1 v).0 in
     let u : Rational = add_r (of_whole (pos 1)) (two_to_minus 16) in
     let q : Rational = x.0 in (
-      low_end cl ch (pos 512) (neg_ℤ (pos 1152939096792891392)) q k.cos_narrow b (low_of (pos 1152939096792891392) q (≤ʳ_trans (neg_r q) u (of_scale 60 (pos 1152939096792891392)) n.1 one_most)),
-      high_end cl ch (pos 512) (pos 1152939096792891392) q k.cos_narrow b (≤ʳ_trans q u (of_scale 60 (pos 1152939096792891392)) n.0 one_most),
+      low_end 60 cl ch (pos 512) (neg_ℤ (pos 1152939096792891392)) q k.cos_narrow (low_of (pos 1152939096792891392) q (≤ʳ_trans (neg_r q) u (of_scale 60 (pos 1152939096792891392)) n.1 one_most)) b,
+      high_end 60 cl ch (pos 512) (pos 1152939096792891392) q k.cos_narrow (≤ʳ_trans q u (of_scale 60 (pos 1152939096792891392)) n.0 one_most) b,
     )
 
 first_sine : (taylor_pair (part 5 (of_scale 56 (pos 0)))).sin.num ≡ pos 0
@@ -164,8 +142,8 @@ sin_ends a cl ch sl sh k =
     let law = canonical_law 5 (of_scale 56 a) (of_scale 56 a) (of_scale 56 (pos 0)) x.0 q zero_pair.cos zero_pair.sin (lit≤ tt) x.2 zero_canonical (near a k.angle_low) in
     let z = at_zero (times 2 (of_scale 56 a)) q zero_pair.sin zero_is law.1 in
     let u = small a k.angle_high in (
-      low_end sl sh (pos 512) (neg_ℤ (pos 28024121222304)) q k.sin_narrow b (low_of (pos 28024121222304) q (≤ʳ_trans (neg_r q) (times 2 (of_scale 56 a)) (of_scale 60 (pos 28024121222304)) z.1 u)),
-      high_end sl sh (pos 512) (pos 28024121222304) q k.sin_narrow b (≤ʳ_trans q (times 2 (of_scale 56 a)) (of_scale 60 (pos 28024121222304)) z.0 u),
+      low_end 60 sl sh (pos 512) (neg_ℤ (pos 28024121222304)) q k.sin_narrow (low_of (pos 28024121222304) q (≤ʳ_trans (neg_r q) (times 2 (of_scale 56 a)) (of_scale 60 (pos 28024121222304)) z.1 u)) b,
+      high_end 60 sl sh (pos 512) (pos 28024121222304) q k.sin_narrow (≤ʳ_trans q (times 2 (of_scale 56 a)) (of_scale 60 (pos 28024121222304)) z.0 u) b,
     )
   where
     near : (a : ℤ) → pos 0 ≤ℤ a → AreWithin (of_scale 56 a) (of_scale 56 a) (of_scale 56 (pos 0))
@@ -185,9 +163,6 @@ padded_within l h l' h' p m n el eh ml mh k o = (omega (arith, ints), omega (ari
 pub padded_width : (l h l' h' p d t w : ℤ) → l' ≡ l -ℤ p → h' ≡ h +ℤ p → (h -ℤ l) ≤ℤ pos 512 → (pos 4096 *ℤ p) ≤ℤ (d +ℤ pos 139264)
     → (d +ℤ d) ≤ℤ (t +ℤ pos 1) → (t +ℤ pos (580 * 2 ^ 12 + 1)) ≤ℤ (pos (2 ^ 12) *ℤ w) → (h' -ℤ l') ≤ℤ w
 padded_width l h l' h' p d t w el eh n k j o = omega (arith, ints)
-
-pub point_holds : (x l h : ℤ) → l ≡ x → h ≡ x → InBox 56 l h (of_scale 56 x)
-point_holds x l h e f = (omega (arith, ints), omega (arith, ints))
 
 -- ---- from the values of the code, read with casts, to plain ones
 pub plain_radius : (m h : ℤ) → pos 0 ≤ℤ m → m ≤ℤ h → h ≤ℤ pos 192153584101141163 → to_z w64 (of_z w64 (to_z w64 (of_z w64 h) -ℤ to_z w64 (of_z w64 m))) ≡ h -ℤ m

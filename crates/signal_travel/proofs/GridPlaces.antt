@@ -7,6 +7,7 @@ use Rattle.whole_math.proofs.Order.{lins}
 use Rattle.whole_math.proofs.Inequalities.{same_by, le_by, both_nn, prod_nn, less_nn, pos_nn, nat}
 use Rattle.whole_math.proofs.Certificates.{cancel}
 use Rattle.whole_math.proofs.Rounding.{floor_le, lt_floor}
+use Rattle.whole_math.proofs.IntLaws.{mul_assoc_ℤ}
 use Rattle.rational.specs.Rational.{Rational, of_whole, of_scale, sub_r, mul_r, add_r, divided, two_to_minus, AreWithin, InBox}
 use Rattle.rational.specs.Over.{Over}
 use Rattle.rational.proofs.Over.{over_add, over_mul, over_times, over_zero, over_le, over_lt}
@@ -128,7 +129,7 @@ falls mask d s t seen point e h = inl (over_lt 819200000000 819200000000 d (pos 
 pub is_low : (mask : ℕ) (d s t : ℤ) (seen point : Place) → AreSides mask d s t seen point → ((pos 1000 *ℤ d) *ℤ (pos 1000 *ℤ d)) <ℤ ((pos (mask * mask) *ℤ s) *ℤ t) → IsBelowMask mask seen point
 is_low mask d s t seen point e h = inr (over_lt 671088640000000000000000 671088640000000000000000
     (pos 1000000 *ℤ (d *ℤ d)) (pos (mask * mask) *ℤ (s *ℤ t)) (height_side seen point) (mask_side mask seen point) (lit< tt) (lit< tt) e.height_is e.mask_is
-    (subst₂ (λ (u v : ℤ). (u *ℤ pos 671088640000000000000000) <ℤ (v *ℤ pos 671088640000000000000000)) (left d) (right (pos (mask * mask)) s t)
+    (subst₂ (λ (u v : ℤ). (u *ℤ pos 671088640000000000000000) <ℤ (v *ℤ pos 671088640000000000000000)) (left d) (mul_assoc_ℤ (pos (mask * mask)) s t)
     (wide ((pos 1000 *ℤ d) *ℤ (pos 1000 *ℤ d)) ((pos (mask * mask) *ℤ s) *ℤ t) h)))
   where
     wide : (u v : ℤ) → u <ℤ v → (u *ℤ pos 671088640000000000000000) <ℤ (v *ℤ pos 671088640000000000000000)
@@ -136,9 +137,6 @@ is_low mask d s t seen point e h = inr (over_lt 671088640000000000000000 6710886
 
     left : (d : ℤ) → (pos 1000 *ℤ d) *ℤ (pos 1000 *ℤ d) ≡ pos 1000000 *ℤ (d *ℤ d)
     left d = same_by (d ∷ []) (λ d. (nat 1000 ⊗ d ⊗ (nat 1000 ⊗ d), nat 1000000 ⊗ (d ⊗ d))) refl
-
-    right : (m s t : ℤ) → (m *ℤ s) *ℤ t ≡ m *ℤ (s *ℤ t)
-    right m s t = same_by (m ∷ s ∷ t ∷ []) (λ m s t. (m ⊗ s ⊗ t, m ⊗ (s ⊗ t))) refl
 
 -- one of the two
 pub decided_place : (T : Type 0) (mask : ℕ) (x y z p q r : ℤ) → (T → ⊥) → (IsAboveWhole mask (offset x p) (offset y q) (offset z r) p q r → T) → IsBelowMask mask (grid_place x y z) (point_of p q r)

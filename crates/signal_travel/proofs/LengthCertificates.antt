@@ -71,10 +71,6 @@ square_most n f h0 h1 h2 =
     cert (n ∷ f ∷ []) (((va 0) ≼ (va 1)) ∷ ((ko (pos 0)) ≼ (va 0)) ∷ ((va 1) ≼ (ko (pos 3106120348467200000))) ∷ []) ((va 1) ⊗ (va 1))
     (ko (pos 9647983619161999957389475840000000000)) ((hy 2) ⊠ (((hy 0) ⊞ (hy 1)) ⊞ (nm 3106120348467200000))) refl (h0, (h1, (h2, tt)))
 
-pub square_order : (n f : ℤ) → n ≤ℤ f → (pos 0) ≤ℤ n → (n *ℤ n) ≤ℤ (f *ℤ f)
-square_order n f h0 h1 =
-    cert (n ∷ f ∷ []) (((va 0) ≼ (va 1)) ∷ ((ko (pos 0)) ≼ (va 0)) ∷ []) ((va 0) ⊗ (va 0)) ((va 1) ⊗ (va 1)) ((hy 0) ⊠ ((hy 0) ⊞ ((nm 2) ⊠ (hy 1)))) refl (h0, (h1, tt))
-
 pub first : (x y z b : ℤ) → (((x *ℤ x) +ℤ (y *ℤ y)) +ℤ (z *ℤ z)) ≤ℤ (b *ℤ b) → (x *ℤ x) ≤ℤ (b *ℤ b)
 first x y z b h0 =
     cert (x ∷ y ∷ z ∷ b ∷ []) ((((((va 0) ⊗ (va 0)) ⊕ ((va 1) ⊗ (va 1))) ⊕ ((va 2) ⊗ (va 2))) ≼ ((va 3) ⊗ (va 3))) ∷ []) ((va 0) ⊗ (va 0))

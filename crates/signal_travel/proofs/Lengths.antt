@@ -4,13 +4,15 @@ use Rattle.std.proofs.lemmas.Int.{ints, clamps}
 use Rattle.whole_math.proofs.Ring.{va, ko, ◌⊗◌}
 use Rattle.whole_math.proofs.Order.{lins, mul_le_cancel}
 use Rattle.whole_math.proofs.Certificates.{cert, weak, square_root, ◌≼◌, hy, nm, ◌⊞◌, ◌⊠◌}
+use Rattle.whole_math.proofs.Inequalities.{le_refl_ℤ, le_trans_ℤ, pos_nn}
 use Rattle.rational.specs.Rational.{Rational, ◌≤ʳ◌, of_whole, InBox}
 use Rattle.iv_core.specs.declared.Iv.{Iv}
 use Rattle.iv_core.specs.Intervals.{width_of, IsWithin}
 use Rattle.iv_core.specs.Boxes.{near_end, far_end}
+use Rattle.trig_box.proofs.NormCertificates.{square_down}
 use Rattle.signal_travel.specs.declared.places.VectorBox.{VectorBox}
 use Rattle.signal_travel.specs.VectorBoxes.{IsVectorWithin, IsVectorAtMostWide, AreEndsWithin, near_square, far_square}
-use Rattle.signal_travel.proofs.LengthCertificates.{near_sum, far_square_most, far_root, near_root, square_gap, square_most, square_order, first, second, third}
+use Rattle.signal_travel.proofs.LengthCertificates.{near_sum, far_square_most, far_root, near_root, square_gap, square_most, first, second, third}
 
 -- ---- the ends of one coordinate: how far the far one is from the near one, their signs, and the size
 one : (x : Iv 36) (w : ℤ) → IsWithin (45200000 * 2 ^ 36) x → width_of x ≤ℤ w →
@@ -50,33 +52,27 @@ gap v w s n =
 -- the sum of the squares of the far ends, at their most
 far_most : (v : VectorBox) → IsVectorWithin (45200000 * 2 ^ 36) v → far_square v ≤ℤ pos 28943950857485999872168427520000000000
 far_most v s =
-    let x = one v.x (width_of v.x) s.0 (same (width_of v.x)) in
-    let y = one v.y (width_of v.y) s.1 (same (width_of v.y)) in
-    let z = one v.z (width_of v.z) s.2 (same (width_of v.z)) in
+    let x = one v.x (width_of v.x) s.0 (le_refl_ℤ (width_of v.x)) in
+    let y = one v.y (width_of v.y) s.1 (le_refl_ℤ (width_of v.y)) in
+    let z = one v.z (width_of v.z) s.2 (le_refl_ℤ (width_of v.z)) in
     sum (far_end v.x.lo v.x.hi *ℤ far_end v.x.lo v.x.hi) (far_end v.y.lo v.y.hi *ℤ far_end v.y.lo v.y.hi) (far_end v.z.lo v.z.hi *ℤ far_end v.z.lo v.z.hi)
     (square_most (near_end v.x.lo v.x.hi) (far_end v.x.lo v.x.hi) x.1 x.2 x.3) (square_most (near_end v.y.lo v.y.hi) (far_end v.y.lo v.y.hi) y.1 y.2 y.3)
     (square_most (near_end v.z.lo v.z.hi) (far_end v.z.lo v.z.hi) z.1 z.2 z.3)
   where
-    same : (w : ℤ) → w ≤ℤ w
-    same w = omega (arith, lins)
-
     sum : (a b c : ℤ) → a ≤ℤ pos 9647983619161999957389475840000000000 → b ≤ℤ pos 9647983619161999957389475840000000000
         → c ≤ℤ pos 9647983619161999957389475840000000000 → ((a +ℤ b) +ℤ c) ≤ℤ pos 28943950857485999872168427520000000000
     sum a b c h k l = omega (arith, ints)
 
 near_below_far : (v : VectorBox) → IsVectorWithin (45200000 * 2 ^ 36) v → near_square v ≤ℤ far_square v
 near_below_far v s =
-    let x = one v.x (width_of v.x) s.0 (same (width_of v.x)) in
-    let y = one v.y (width_of v.y) s.1 (same (width_of v.y)) in
-    let z = one v.z (width_of v.z) s.2 (same (width_of v.z)) in
+    let x = one v.x (width_of v.x) s.0 (le_refl_ℤ (width_of v.x)) in
+    let y = one v.y (width_of v.y) s.1 (le_refl_ℤ (width_of v.y)) in
+    let z = one v.z (width_of v.z) s.2 (le_refl_ℤ (width_of v.z)) in
     sum (far_end v.x.lo v.x.hi *ℤ far_end v.x.lo v.x.hi) (far_end v.y.lo v.y.hi *ℤ far_end v.y.lo v.y.hi) (far_end v.z.lo v.z.hi *ℤ far_end v.z.lo v.z.hi)
     (near_end v.x.lo v.x.hi *ℤ near_end v.x.lo v.x.hi) (near_end v.y.lo v.y.hi *ℤ near_end v.y.lo v.y.hi) (near_end v.z.lo v.z.hi *ℤ near_end v.z.lo v.z.hi)
-    (square_order (near_end v.x.lo v.x.hi) (far_end v.x.lo v.x.hi) x.1 x.2) (square_order (near_end v.y.lo v.y.hi) (far_end v.y.lo v.y.hi) y.1 y.2)
-    (square_order (near_end v.z.lo v.z.hi) (far_end v.z.lo v.z.hi) z.1 z.2)
+    (square_down (near_end v.x.lo v.x.hi) (far_end v.x.lo v.x.hi) x.2 x.1) (square_down (near_end v.y.lo v.y.hi) (far_end v.y.lo v.y.hi) y.2 y.1)
+    (square_down (near_end v.z.lo v.z.hi) (far_end v.z.lo v.z.hi) z.2 z.1)
   where
-    same : (w : ℤ) → w ≤ℤ w
-    same w = omega (arith, lins)
-
     sum : (a b c d e f : ℤ) → d ≤ℤ a → e ≤ℤ b → f ≤ℤ c → ((d +ℤ e) +ℤ f) ≤ℤ ((a +ℤ b) +ℤ c)
     sum a b c d e f h k l = omega (arith, lins)
 
@@ -129,11 +125,8 @@ pub root_most : (v : VectorBox) (q r l h : ℤ) → AreRoots v q r l h → h ≤
 root_most v q r l h a =
     let s = (square_ends v q r l h a).1 in
     let p = above_zero h (root_positive v q r l h a) in
-    last h (square_root (h -ℤ pos 1) (pos 776179999999999999) (le_nn 776179999999999999) (go r ((h -ℤ pos 1) *ℤ (h -ℤ pos 1)) s (a.high_root p)))
+    last h (square_root (h -ℤ pos 1) (pos 776179999999999999) (pos_nn 776179999999999999) (go r ((h -ℤ pos 1) *ℤ (h -ℤ pos 1)) s (a.high_root p)))
   where
-    le_nn : (n : ℕ) → pos 0 ≤ℤ pos n
-    le_nn n = omega (arith, ints)
-
     go : (r x : ℤ) → r ≤ℤ pos 1045048800000000000 → (x *ℤ pos 1152921504606846976) <ℤ ((r *ℤ pos 576460752303423488) *ℤ pos 1152921504606846977) → x ≤ℤ pos 602455392399999998447640000000000001
     go r x h k = omega (arith, ints)
 
@@ -150,10 +143,7 @@ far_below v q r l h a =
 near_above : (v : VectorBox) (q r l h : ℤ) → AreRoots v q r l h → near_square v ≤ℤ (((pos 4 *ℤ l) +ℤ pos 68) *ℤ ((pos 4 *ℤ l) +ℤ pos 68))
 near_above v q r l h a = near_root l q (near_square v)
     (weak ((q *ℤ pos (2 ^ 59)) *ℤ (pos (2 ^ 60) -ℤ pos 1)) (((l +ℤ pos 1) *ℤ (l +ℤ pos 1)) *ℤ pos (2 ^ 60)) a.low_root) a.near
-    (through (near_square v) (far_square v) (pos 28943950857485999872168427520000000000) (near_below_far v a.size) (far_most v a.size)) (root_least v q r l h a)
-  where
-    through : (a b c : ℤ) → a ≤ℤ b → b ≤ℤ c → a ≤ℤ c
-    through a b c h k = omega (arith, lins)
+    (le_trans_ℤ (near_below_far v a.size) (far_most v a.size)) (root_least v q r l h a)
 
 -- the width of the length, where the vector is at most w wide
 pub length_width : (v : VectorBox) (q r l h w : ℤ) → AreRoots v q r l h → IsVectorAtMostWide w v → (pos 4 *ℤ ((pos 4 *ℤ h) -ℤ (pos 4 *ℤ l))) ≤ℤ ((pos 7 *ℤ w) +ℤ pos 800)

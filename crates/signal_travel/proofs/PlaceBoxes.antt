@@ -3,23 +3,11 @@ use Rattle.std.proofs.Common.{ℕ, ◌*◌, ◌^◌, ℤ, pos, ◌*ℤ◌, neg_�
 use Rattle.std.proofs.lemmas.Int.{ints}
 use Rattle.rational.specs.Rational.{Rational, ◌≤ʳ◌, of_whole, of_scale, add_r, mul_r, neg_r}
 use Rattle.rational.proofs.Laws.{≤ʳ_trans}
-use Rattle.rational.proofs.Boxes.{end_in}
 use Rattle.iv_core.specs.declared.Iv.{Iv}
-use Rattle.iv_core.specs.Intervals.{Holds, IsWithin}
+use Rattle.iv_core.specs.Intervals.{IsWithin}
+use Rattle.iv_core.proofs.BoxLaws.{low_held, high_held}
 use Rattle.orbit_model.specs.Places.{IsBetweenDistances}
 use Rattle.orbit_model.proofs.Exists.{coordinates, turned_round, turned_about}
-
-pub low_held : (x : Iv 36) → Holds x (of_scale 36 x.lo)
-low_held x = end_in 36 x.lo x.hi x.lo (same x.lo) x.ordered
-  where
-    same : (z : ℤ) → z ≤ℤ z
-    same z = omega (arith, ints)
-
-high_held : (x : Iv 36) → Holds x (of_scale 36 x.hi)
-high_held x = end_in 36 x.lo x.hi x.hi x.ordered (same x.hi)
-  where
-    same : (z : ℤ) → z ≤ℤ z
-    same z = omega (arith, ints)
 
 ends : (x : Iv 36) (m : ℕ) → neg_r (of_scale 36 x.lo) ≤ʳ of_whole (pos m) → of_scale 36 x.hi ≤ʳ of_whole (pos m) → IsWithin (m * 2 ^ 36) x
 ends x m h k = go x.lo x.hi (pos m) h k

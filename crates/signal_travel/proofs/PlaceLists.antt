@@ -1,23 +1,17 @@
 -- Arrays of three as lists.
-use Rattle.std.proofs.Common.{◌≡◌, ℕ, ◌<◌, ◌≤◌, lit<, List, [], ◌∷◌, length, get_or, ℤ, pos, unsigned_abs, arith, refl, sym, to_z, of_z}
+use Rattle.std.proofs.Common.{◌≡◌, ℕ, ◌<◌, ◌≤◌, lit<, List, [], ◌∷◌, length, get_or, ℤ, pos, unsigned_abs, arith, sym, to_z, of_z}
 use Rattle.std.specs.Int.{w64}
+use Rattle.whole_math.proofs.Lists.{three_items}
 use Rattle.obs_rows.specs.ReceiverPoints.{IsReceiverPoint}
 use Rattle.obs_rows.specs.declared.limits.TheConstants.{MOST_COORDINATE}
 use Rattle.obs_rows.proofs.ReceiverPointLaws.{plain}
 use Rattle.signal_travel.specs.declared.places.Point.{Point}
 use Rattle.signal_travel.proofs.AboveLaws.{coordinate}
 
-pub three_is : {A : Type 0} (s : List A) (d e f : A) → length s ≡ 3 → s ≡ get_or s 0 d ∷ get_or s 1 e ∷ get_or s 2 f ∷ []
-three_is [] d e f h = absurd (omega arith)
-three_is (a ∷ []) d e f h = absurd (omega arith)
-three_is (a ∷ b ∷ []) d e f h = absurd (omega arith)
-three_is (a ∷ b ∷ c ∷ []) d e f h = refl
-three_is (a ∷ b ∷ c ∷ x ∷ s) d e f h = absurd (omega arith)
-
 -- a point as the code reads it
 pub read_point : (s : List ℤ) → length s ≡ 3 → IsReceiverPoint s →
     to_z w64 (of_z w64 (get_or s 0 (pos 0))) ∷ to_z w64 (of_z w64 (get_or s 1 (pos 0))) ∷ to_z w64 (of_z w64 (get_or s 2 (pos 0))) ∷ [] ≡ s
-read_point s three point = rw (read 0 (omega (arith, three)), read 1 (omega (arith, three)), read 2 (omega (arith, three))) (sym (three_is s (pos 0) (pos 0) (pos 0) three))
+read_point s three point = rw (read 0 (omega (arith, three)), read 1 (omega (arith, three)), read 2 (omega (arith, three))) (sym (three_items s (pos 0) (pos 0) (pos 0) three))
   where
     read : (i : ℕ) → i < length s → to_z w64 (of_z w64 (get_or s i (pos 0))) ≡ get_or s i (pos 0)
     read i inside = plain (get_or s i (pos 0)) (coordinate s i inside point)

@@ -3,12 +3,14 @@ use Rattle.std.proofs.Common.{◌*◌, ◌^◌, ◌≤◌, [], ◌∷◌, ℤ, p
 use Rattle.std.proofs.lemmas.Int.{ints}
 use Rattle.whole_math.proofs.Ring.{va, ko, ◌⊖◌}
 use Rattle.whole_math.proofs.Certificates.{◌≼◌, hy, ◌⊞◌}
+use Rattle.whole_math.proofs.Inequalities.{le_refl_ℤ}
 use Rattle.rational.specs.Rational.{Rational, ◌≤ʳ◌, of_whole, of_scale, mul_r, sub_r, InBox}
 use Rattle.rational.proofs.Boxes.{InBox-along, end_in}
 use Rattle.rational.proofs.Laws.{≈_sym}
 use Rattle.orbit_model.proofs.Orders.{cert_r}
 use Rattle.iv_core.specs.declared.Iv.{Iv}
 use Rattle.iv_core.specs.Intervals.{Holds, width_of}
+use Rattle.iv_core.proofs.BoxLaws.{low_held}
 use Rattle.trig_box.specs.AnglePairs.{Pair, IsAnglePair}
 use Rattle.trig_box.proofs.PairLaws.{canonical_exists, canonical_is_pair}
 use Rattle.orbit_model.specs.Elements.{earth_rate}
@@ -20,7 +22,6 @@ use Rattle.obs_rows.specs.ReceiverPoints.{IsReceiverPoint}
 use Rattle.signal_travel.specs.declared.places.VectorBox.{VectorBox}
 use Rattle.signal_travel.specs.declared.places.Point.{Point}
 use Rattle.signal_travel.specs.VectorBoxes.{HoldsVector, IsVectorAtMostWide, HasVectorBetween}
-use Rattle.signal_travel.proofs.PlaceBoxes.{low_held}
 
 -- equal places lie in the same boxes
 pub held_along : (b : VectorBox) (p q : Place) → AreSamePlace p q → HoldsVector b q → HoldsVector b p
@@ -81,13 +82,10 @@ turned_in sent b tl th away t0 o t1 holds =
     let p : Place = lowest sent in
     record {
       place = turned_back s.turn p;
-      held = holds (of_scale 60 tl) s.turn (end_in 60 tl th tl (same tl) o) s.is_pair p (lowest_held sent);
+      held = holds (of_scale 60 tl) s.turn (end_in 60 tl th tl (le_refl_ℤ tl) o) s.is_pair p (lowest_held sent);
       bounds = turned_square p (mul_r earth_rate (of_scale 60 tl)) s.turn (lowest_sent sent away) s.is_pair;
     }
   where
-    same : (z : ℤ) → z ≤ℤ z
-    same z = omega (arith, ints)
-
     through : (a b : ℤ) → a ≤ℤ b → b ≤ℤ pos 192153584101141163 → a ≤ℤ pos 192153584101141163
     through a b h k = omega (arith, ints)
 

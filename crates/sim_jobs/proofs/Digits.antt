@@ -8,7 +8,7 @@ use Rattle.std.proofs.lemmas.Str.Parse.{IsNumeralModel, numerals_by_fold}
 use Rattle.std.proofs.Math.Nat.{div-div-eq-div-mul, div-eq_of_lt, mul_assoc, mul_comm}
 use Rattle.decimal_text.specs.Whole.{is_digit, are_digits, number_from, digit_sum}
 use Rattle.decimal_text.specs.Write.{last_digits}
-use Rattle.decimal_text.proofs.Numbers.{digits_are, number_from-sum}
+use Rattle.decimal_text.proofs.Numbers.{digits_are, number_from-sum, number_from-append}
 use Rattle.sim_jobs.specs.Printed.{are_printed}
 
 own : IsNumeralModel (λ ds. are_digits ds ≡ true) (number_from 0)
@@ -63,10 +63,6 @@ digits_printed (d ∷ ds) is = rw (printed d (and_parts (is_digit d) (are_digits
   where
     printed : (d : ℕ) → is_digit d ≡ true → nat_le 32 d ≡ true
     printed d is = grind (arith, nat_tests)
-
-number_from-append : (n : ℕ) (xs ys : List ℕ) → number_from n (xs ++ ys) ≡ number_from (number_from n xs) ys
-number_from-append n [] ys = refl
-number_from-append n (x ∷ xs) ys = number_from-append (10 * n + (x - 48)) xs ys
 
 pub printed_digits : (k n : ℕ) → are_printed (last_digits k n) ≡ true
 printed_digits k n = digits_printed (last_digits k n) (last_digits-digits k n)

@@ -1,5 +1,5 @@
 -- The simulated texts are there, are files, and aren't refused together.
-use Rattle.std.proofs.Common.{◌≡◌, ◌∙◌, inl, ℕ, zero, suc, ◌+◌, ◌*◌, ◌^◌, ◌<◌, ◌≤◌, Bool, true, false, ◌==◌, if◌then◌else◌, pos, ◌≤ℤ◌, List, [], ◌∷◌, length, slice_index, Option, Some, IfSome, codes, refl, sym, ap, subst, arith}
+use Rattle.std.proofs.Common.{◌≡◌, ◌∙◌, inl, ℕ, zero, suc, ◌+◌, ◌*◌, ◌^◌, ◌<◌, ◌≤◌, Bool, true, false, ◌==◌, if◌then◌else◌, pos, ◌≤ℤ◌, List, [], ◌∷◌, length, slice_index, Option, Some, codes, refl, sym, ap, subst, arith}
 use Rattle.std.proofs.Math.Nat.{mul-add}
 use Rattle.std.proofs.lemmas.Bool.{eqb-true}
 use Rattle.std.proofs.lemmas.Int.{ints}
@@ -31,16 +31,15 @@ use Rattle.obs_rows.specs.Ranges.{IsSystem}
 use Rattle.obs_rows.specs.declared.units.TheConstants.{BANDS_12, BANDS_15, BANDS_125}
 use Rattle.obs_rows.specs.declared.bands.Signals.{Signals}
 use Rattle.obs_rows.specs.declared.limits.TheConstants.{MOST_PAIRS}
+use Rattle.run_options.specs.declared.defaults.TheConstants.{DEFAULT_GAP}
 use Rattle.epoch_pair.specs.Signals.{letter_on, letter_of, is_among, IsLetterFor}
 use Rattle.epoch_pair.specs.Beginnings.{HasPosition, HaveSignals, AreSparse}
-use Rattle.job_answers.specs.Endings.{IsTextOf}
 use Rattle.session_files.specs.SessionFiles.{IsObsOf}
 use Rattle.session_files.specs.Admitted.{AreAdmitted}
+use Rattle.session_files.proofs.ReadingLaws.{text_told}
 use Rattle.sim_jobs.specs.SimRunJobs.{AreOptionsOn}
 
 -- ---- what a text is
-text_told : (told : List ℕ → Option (List ℕ)) (name text other : List ℕ) → told name ≡ Some text → IsTextOf told name other → other ≡ text
-text_told told name text other is of = subst (λ (o : Option (List ℕ)). IfSome o (λ bytes. other ≡ bytes)) is of.told_is
 
 -- files of RINEX 3 are observation files
 observation_of : (system : System) (lines : List (List ℕ)) (file : ObsFile) → IsObsFile system lines file → IsObservation system lines file
@@ -144,7 +143,7 @@ tag_at t step i (sats ∷ values) zero inside = ap (λ (n : ℕ). 13_881_024_000
 tag_at t step i (sats ∷ values) (suc m) inside =
     tag_at t step (i + 1) values m (omega (arith, inside)) ∙ ap (λ (n : ℕ). 13_881_024_000_000_000 + n * 10_000_000) (one_later step i m)
 
-far_apart : (step m low high : ℕ) → 0 < step → low ≡ 13_881_024_000_000_000 + step * m * 10_000_000 → high ≡ 13_881_024_000_000_000 + step * (m + 1) * 10_000_000 → low + 2 * 100000 < high
+far_apart : (step m low high : ℕ) → 0 < step → low ≡ 13_881_024_000_000_000 + step * m * 10_000_000 → high ≡ 13_881_024_000_000_000 + step * (m + 1) * 10_000_000 → low + 2 * DEFAULT_GAP < high
 far_apart step m low high some at next =
     let later : step * (m + 1) ≡ step * m + step = omega (arith, mul-add step m 1) in
     omega (arith, some, at, next, later)
@@ -153,10 +152,10 @@ first_at : (t : Tracking) (step : ℕ) (values : List (List made.Signals)) (m : 
     → slice_index (tags_of (epochs_of t step 0 values)) m ≡ 13_881_024_000_000_000 + step * m * 10_000_000
 first_at t step values m inside = tag_at t step 0 values m inside ∙ ap (λ (n : ℕ). 13_881_024_000_000_000 + step * n * 10_000_000) (let e : 0 + m ≡ m = omega arith in e)
 
-apart : (t : Tracking) (step : ℕ) (values : List (List made.Signals)) → 0 < step → AreApart 100000 (tags_of (epochs_of t step 0 values))
+apart : (t : Tracking) (step : ℕ) (values : List (List made.Signals)) → 0 < step → AreApart DEFAULT_GAP (tags_of (epochs_of t step 0 values))
 apart t step values some = λ m inside. far_apart step m _ _ some (first_at t step values m (omega (arith, inside))) (first_at t step values (m + 1) inside)
 
-sparse : (t : Tracking) (epochs gap : ℕ) (base rover : List (List made.Signals)) → gap ≡ 100000 → AreSparse gap (file_of t (step_of epochs) base) (file_of t (step_of epochs) rover)
+sparse : (t : Tracking) (epochs gap : ℕ) (base rover : List (List made.Signals)) → gap ≡ DEFAULT_GAP → AreSparse gap (file_of t (step_of epochs) base) (file_of t (step_of epochs) rover)
 sparse t epochs gap base rover small = subst (λ (g : ℕ). AreSparse g (file_of t (step_of epochs) base) (file_of t (step_of epochs) rover)) (sym small)
     (apart t (step_of epochs) base (step_some epochs), apart t (step_of epochs) rover (step_some epochs))
 
@@ -171,7 +170,7 @@ system_on bands system o on = ap (λ (n : Numbers). n.system) on.numbers
 bands_on : (bands system : ℕ) (o : Options) → AreOptionsOn bands system o → o.bands ≡ bands
 bands_on bands system o on = ap (λ (n : Numbers). n.bands) on.numbers
 
-gap_on : (bands system : ℕ) (o : Options) → AreOptionsOn bands system o → o.gap ≡ 100000
+gap_on : (bands system : ℕ) (o : Options) → AreOptionsOn bands system o → o.gap ≡ DEFAULT_GAP
 gap_on bands system o on = ap (λ (n : Numbers). n.gap) on.numbers ∙ on.are_defaults.gap
 
 -- the three texts, where none has too many bytes

@@ -8,9 +8,10 @@ use Rattle.rational.specs.Rational.{◌≈◌}
 use Rattle.eph_store.specs.Decimals.{decimal, with_exponent, value_of}
 use Rattle.decimal_text.specs.Whole.{size_of}
 use Rattle.decimal_text.specs.declared.exponent.Dec.{Dec}
+use Rattle.decimal_text.proofs.Numbers.{size_is}
 use Rattle.sim_session.specs.Numbers.{IsNormal}
 use Rattle.sim_jobs.proofs.NavNumbers.{HasRoom}
-use Rattle.sim_jobs.proofs.OneSpelling.{size_is, ten, at_least}
+use Rattle.sim_jobs.proofs.OneSpelling.{ten, at_least}
 
 sized : (z : ℤ) → negsuc 98 ≤ℤ z → z ≤ℤ pos 99 → size_of z < 10 ^ 2
 sized (pos n) low high = omega (arith, ints)

@@ -1,5 +1,5 @@
 -- A number has one form with 13 digits.
-use Rattle.std.proofs.Common.{◌≡◌, ℕ, zero, ℤ, pos, negsuc, suc, ◌+◌, ◌-◌, ◌*◌, ◌^◌, ◌≤◌, ◌<◌, ◌*ℤ◌, ◌⊎◌, inl, inr, unsigned_abs, Bool, true, false, nat_lt, lit<, refl, sym, ap, subst, ◌∙◌, arith}
+use Rattle.std.proofs.Common.{◌≡◌, ℕ, ℤ, pos, negsuc, suc, ◌+◌, ◌-◌, ◌*◌, ◌^◌, ◌≤◌, ◌<◌, ◌*ℤ◌, ◌⊎◌, inl, inr, unsigned_abs, Bool, true, false, nat_lt, lit<, refl, sym, ap, subst, ◌∙◌, arith}
 use Rattle.std.proofs.lemmas.Int.{unsigned_abs-mul}
 use Rattle.std.proofs.lemmas.Nat.{pow-add}
 use Rattle.std.proofs.lemmas.Bool.Decides.{nat_tests}
@@ -10,11 +10,8 @@ use Rattle.rational.proofs.Laws.{≈_sym, ≈_trans}
 use Rattle.eph_store.specs.Decimals.{with_exponent, value_of}
 use Rattle.decimal_text.specs.Whole.{size_of}
 use Rattle.decimal_text.specs.declared.exponent.Dec.{Dec}
+use Rattle.decimal_text.proofs.Numbers.{size_is}
 use Rattle.sim_session.specs.Numbers.{IsNormal}
-
-pub size_is : (z : ℤ) → size_of z ≡ unsigned_abs z
-size_is (pos n) = refl
-size_is (negsuc n) = refl
 
 pub ten : (k : ℕ) → 1 ≤ 10 ^ k
 ten k = one-le-pow k 10 (lit< tt)

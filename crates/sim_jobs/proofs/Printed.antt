@@ -1,5 +1,5 @@
 -- Lines of printed texts.
-use Rattle.std.proofs.Common.{◌≡◌, ℕ, zero, suc, ◌-◌, ◌<◌, true, false, ◌==◌, nat_le, List, [], ◌∷◌, ◌++◌, length, get_or, refl, sym, ap, ◌∙◌, arith}
+use Rattle.std.proofs.Common.{◌≡◌, ℕ, zero, suc, ◌-◌, ◌<◌, true, false, ◌==◌, nat_le, List, [], ◌∷◌, ◌++◌, length, get_or, refl, sym, ap, ◌∙◌, arith, append-nil}
 use Rattle.std.proofs.lemmas.Bool.{and_parts}
 use Rattle.std.proofs.lemmas.Bool.Decides.{nat_tests}
 use Rattle.std.specs.Str.Lines.{strip_carriage_return}
@@ -19,11 +19,7 @@ not_return b is = grind (arith, nat_tests)
 
 -- printed bytes go into the line
 gathered : (text rest line : List ℕ) → are_printed text ≡ true → lines_from (text ++ rest) line ≡ lines_from rest (line ++ text)
-gathered [] rest line p = ap (lines_from rest) (sym (nil line))
-  where
-    nil : (line : List ℕ) → line ++ [] ≡ line
-    nil [] = refl
-    nil (x ∷ line) = ap (λ l. x ∷ l) (nil line)
+gathered [] rest line p = ap (lines_from rest) (sym (append-nil line))
 gathered (b ∷ text) rest line p =
     rw (not_feed b (and_parts (nat_le 32 b) (are_printed text) p).0)
     (gathered text rest (line ++ b ∷ []) (and_parts (nat_le 32 b) (are_printed text) p).1 ∙ ap (lines_from rest) (one_more line b text))

@@ -4,7 +4,7 @@ use Rattle.std.proofs.lemmas.Int.{ints}
 use Rattle.obs_rows.specs.declared.units.TheConstants.{LIGHT_SPEED}
 use Rattle.whole_math.specs.Rounding.{IsNearest}
 use Rattle.whole_math.proofs.Ring.{va, ko, ng, ◌⊕◌, ◌⊖◌, ◌⊗◌}
-use Rattle.whole_math.proofs.Inequalities.{same_by, nat}
+use Rattle.whole_math.proofs.Inequalities.{same_by, nat, weak, pos_nn, halve}
 use Rattle.whole_math.proofs.Certificates.{cert, ◌≼◌, hy, nm, ◌⊞◌, ◌⊠◌}
 use Rattle.rational.specs.Rational.{Rational, ◌≈◌, ◌≤ʳ◌, of_whole, of_scale, add_r, sub_r, mul_r, divided, AreWithin}
 use Rattle.rational.proofs.Orders.{order_r, cancel_r, ◌≐◌}
@@ -32,8 +32,6 @@ code_near d n clock code v e i h = (
 )
 
 -- ---- phases
-half : (a b : ℤ) → (pos 2 *ℤ a) ≤ℤ (pos 2 *ℤ b) → a ≤ℤ b
-half a b h = omega (arith, ints)
 
 -- the distance, the clock term and the frequency f, scaled
 abbrev pub scaled : ℤ → ℤ → ℤ → ℤ
@@ -41,7 +39,7 @@ scaled d clock f = ((pos 1000 *ℤ d) +ℤ (clock *ℤ pos (2 ^ 36))) *ℤ f
 
 phase_low : (f d n clock : ℤ) → f ≤ℤ pos 2000000000 → (pos 2 *ℤ (n *ℤ pos (unsigned_abs LIGHT_SPEED * 2 ^ 36))) ≤ℤ ((pos 2 *ℤ scaled d clock f) +ℤ pos (unsigned_abs LIGHT_SPEED * 2 ^ 36)) →
     mul_r (of_whole LIGHT_SPEED) (of_whole n) ≤ʳ add_r (mul_r (of_whole f) (add_r (mul_r (of_whole (pos 1000)) (of_scale 36 (d -ℤ pos 1))) (of_whole clock))) (of_whole LIGHT_SPEED)
-phase_low f d n clock small h = half _ _
+phase_low f d n clock small h = halve
     (cert (f ∷ d ∷ n ∷ clock ∷ []) ((va 0 ≼ ko (pos 2000000000)) ∷ (ko (pos 2) ⊗ (va 2 ⊗ ko (pos (unsigned_abs LIGHT_SPEED * 2 ^ 36)))
     ≼ ko (pos 2) ⊗ ((ko (pos 1000) ⊗ va 1 ⊕ va 3 ⊗ ko (pos (2 ^ 36))) ⊗ va 0) ⊕ ko (pos (unsigned_abs LIGHT_SPEED * 2 ^ 36))) ∷ [])
     (ko (pos 2) ⊗ ((ko LIGHT_SPEED ⊗ va 2) ⊗ ko (pos (2 ^ 36))))
@@ -51,15 +49,12 @@ phase_low f d n clock small h = half _ _
 phase_high : (f d n clock : ℤ) → f ≤ℤ pos 2000000000 →
     ((pos 2 *ℤ scaled d clock f) +ℤ pos (unsigned_abs LIGHT_SPEED * 2 ^ 36)) <ℤ ((pos 2 *ℤ (n *ℤ pos (unsigned_abs LIGHT_SPEED * 2 ^ 36))) +ℤ (pos 2 *ℤ pos (unsigned_abs LIGHT_SPEED * 2 ^ 36))) →
     mul_r (of_whole f) (add_r (mul_r (of_whole (pos 1000)) (of_scale 36 (d +ℤ pos (2 ^ 20)))) (of_whole clock)) ≤ʳ add_r (mul_r (of_whole LIGHT_SPEED) (of_whole n)) (of_whole LIGHT_SPEED)
-phase_high f d n clock small h = half _ _
+phase_high f d n clock small h = halve
     (cert (f ∷ d ∷ n ∷ clock ∷ []) ((va 0 ≼ ko (pos 2000000000)) ∷ (ko (pos 2) ⊗ ((ko (pos 1000) ⊗ va 1 ⊕ va 3 ⊗ ko (pos (2 ^ 36))) ⊗ va 0) ⊕ ko
     (pos (unsigned_abs LIGHT_SPEED * 2 ^ 36)) ≼ ko (pos 2) ⊗ (va 2 ⊗ ko (pos (unsigned_abs LIGHT_SPEED * 2 ^ 36))) ⊕ ko (pos 2) ⊗ ko (pos (unsigned_abs LIGHT_SPEED * 2 ^ 36))) ∷ [])
     (ko (pos 2) ⊗ ((va 0 ⊗ ((ko (pos 1000) ⊗ (va 1 ⊕ ko (pos (2 ^ 20)))) ⊗ ko (pos 1) ⊕ va 3 ⊗ ko (pos (2 ^ 36)))) ⊗ ko (pos 1)))
     (ko (pos 2) ⊗ (((ko LIGHT_SPEED ⊗ va 2) ⊗ ko (pos 1) ⊕ ko LIGHT_SPEED ⊗ ko (pos 1)) ⊗ ko (pos (2 ^ 36))))
-    (hy 1 ⊞ nm (2000 * 2 ^ 20) ⊠ hy 0 ⊞ nm 16407276843159257088) refl (small, (weaker _ _ h, tt)))
-  where
-    weaker : (a b : ℤ) → a <ℤ b → a ≤ℤ b
-    weaker a b h = omega (arith, ints)
+    (hy 1 ⊞ nm (2000 * 2 ^ 20) ⊠ hy 0 ⊞ nm 16407276843159257088) refl (small, (weak h, tt)))
 
 times_wavelength : (f : ℤ) (m : Rational) → mul_r (divided (mul_r (of_whole f) m) (unsigned_abs LIGHT_SPEED) (lit< tt)) (of_whole LIGHT_SPEED) ≈ mul_r (of_whole f) m
 times_wavelength f m = same_by (f ∷ m.num ∷ pos m.den ∷ []) (λ f a d. ((f ⊗ a) ⊗ nat (unsigned_abs LIGHT_SPEED) ⊗ (nat 1 ⊗ d), (f ⊗ a) ⊗ (nat (unsigned_abs LIGHT_SPEED) ⊗ (nat 1 ⊗ d) ⊗ nat 1))) refl
@@ -71,7 +66,7 @@ pub phase_near : (f : ℕ) (d n clock cycles phase : ℤ) (v : Rational) → f �
     IsNearest (scaled d clock (pos f)) (unsigned_abs LIGHT_SPEED * 2 ^ 36) n → IsDistance d v →
     AreWithin (of_whole (pos 2)) (of_whole phase) (add_r (thousandths f (measured clock v)) (of_whole (pos 1000 *ℤ cycles)))
 phase_near f d n clock cycles phase v small e i h =
-    let some : of_whole (pos 0) ≤ʳ of_whole (pos f) = nonnegative (pos f) (least f) in
+    let some : of_whole (pos 0) ≤ʳ of_whole (pos f) = nonnegative (pos f) (pos_nn f) in
     let few : pos f ≤ℤ pos 2000000000 = most f small in
     let w : Rational = thousandths f (measured clock v) in
     let whole : Rational = of_whole (pos 1000 *ℤ cycles) in (
@@ -89,9 +84,6 @@ phase_near f d n clock cycles phase v small e i h =
           (h.1, (phase_high (pos f) d n clock few i.1, (some, tt))) (sum_is phase n (pos 1000 *ℤ cycles) e, (times_wavelength (pos f) (measured clock v), tt))),
     )
   where
-    least : (f : ℕ) → pos 0 ≤ℤ pos f
-    least f = omega (arith, ints)
-
     most : (f : ℕ) → f ≤ 2000000000 → pos f ≤ℤ pos 2000000000
     most f h = omega (arith, ints)
 

@@ -7,9 +7,10 @@ use Rattle.iv_core.specs.declared.Iv.{Iv}
 use Rattle.eph_store.specs.declared.ephemeris.Eph.{Eph}
 use Rattle.orbit_model.specs.Elements.{Constants}
 use Rattle.orbit_model.specs.Solution.{Quantities}
+use Rattle.orbit_model.specs.SeenPlaces.{sent_place}
 use Rattle.orbit_place.specs.Held.{HoldsPlace as HoldsQuantities}
 use Rattle.signal_travel.specs.Boxes.{HoldsPlace}
-use Rattle.sim_session.specs.Observed.{sent_place, distance, ForSolutions, IsDistance, measured, thousandths, IsCodeAfter, IsPhase}
+use Rattle.sim_session.specs.Observed.{distance, ForSolutions, IsDistance, measured, thousandths, IsCodeAfter, IsPhase}
 
 -- the place of a solution lies in the boxes
 pub placed : (bs : List (Iv 36)) (q : Quantities) → HoldsQuantities bs q → HoldsPlace bs (sent_place q)

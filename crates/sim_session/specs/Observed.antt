@@ -9,11 +9,7 @@ use Rattle.orbit_model.specs.Elements.{Constants, sent_at}
 use Rattle.orbit_model.specs.Solution.{Quantities, IsNearSolution}
 use Rattle.orbit_clock.specs.Records.{elements_of}
 use Rattle.sim_session.specs.declared.signals.Signals.{Signals}
-use Rattle.orbit_model.specs.SeenPlaces.{Place, point_of, IsSeenPlace, range_of}
-
--- the place from which a solution's satellite sent
-abbrev pub sent_place : Quantities → Place
-sent_place q = record { x = q.x; y = q.y; z = q.z }
+use Rattle.orbit_model.specs.SeenPlaces.{Place, point_of, IsSeenPlace, range_of, sent_place}
 
 -- the range less c times what the satellite's clock is ahead, in metres
 abbrev pub distance : Rational → Rational → Rational

@@ -1,5 +1,5 @@
 -- The limits of sums, products and quotients follow from those of their operands.
-use Rattle.std.proofs.Common.{◌≡◌, ℕ, ◌+◌, ◌*◌, ◌≤◌, ◌<◌, ◌^◌, [], ◌∷◌, ℤ, pos, ◌+ℤ◌, ◌*ℤ◌, neg_ℤ, ◌≤ℤ◌, ◌<ℤ◌, arith, refl, IsOk, IsErr, Ok, Err, Result, inl, inr, unsigned_abs, ap}
+use Rattle.std.proofs.Common.{◌≡◌, ℕ, ◌+◌, ◌*◌, ◌≤◌, ◌<◌, ◌^◌, [], ◌∷◌, ℤ, pos, ◌+ℤ◌, ◌*ℤ◌, neg_ℤ, ◌≤ℤ◌, ◌<ℤ◌, arith, refl, IsOk, Ok, Err, Result, inl, inr, unsigned_abs, ap}
 use Rattle.std.proofs.lemmas.Int.{ints, clamps}
 use Rattle.whole_math.specs.Rounding.{floor_div, ceil_div}
 use Rattle.whole_math.proofs.Ring.{◌⊗◌, ng}
@@ -11,10 +11,6 @@ use Rattle.iv_core.specs.declared.DivFault.{DivFault}
 use Rattle.iv_core.specs.declared.DivFault.TheVariants.{ZeroInside, Overwidth}
 use Rattle.iv_core.specs.Boxes.{least_corner, most_corner, near_end, far_end, least_ratio, most_ratio, Past}
 use Rattle.iv_core.proofs.QuotientLaws.{positive_is}
-
-pub ok_of : {T E : Type 0} → (r : Result T E) → (IsErr r → ⊥) → IsOk r
-ok_of (Ok x) h = refl
-ok_of (Err x) h = absurd (h refl)
 
 -- a quotient is refused for one of two causes
 pub ok_of_quotient : {T : Type 0} → (r : Result T DivFault) → (r ≡ Err ZeroInside → ⊥) → (r ≡ Err Overwidth → ⊥) → IsOk r

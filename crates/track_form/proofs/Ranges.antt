@@ -1,56 +1,47 @@
 -- The ranges of the numbers of a track's decision.
-use Rattle.std.proofs.Common.{◌≡◌, ℕ, suc, ◌+◌, ◌-◌, ◌*◌, ◌^◌, ◌≤◌, List, length, map, get_or, All, ℤ, pos, neg_ℤ, ◌≤ℤ◌, ◌<ℤ◌, arith, sym, ◌∙◌, subst}
-use Rattle.std.proofs.lemmas.Int.{ints}
+use Rattle.std.proofs.Common.{◌≡◌, ℕ, ◌+◌, ◌-◌, ◌^◌, ◌≤◌, List, length, map, get_or, All, ℤ, pos, neg_ℤ, ◌≤ℤ◌, ◌<ℤ◌, sym, ◌∙◌, subst, mul-pos}
 use Rattle.std.proofs.lemmas.List.{length-map}
 use Rattle.std.proofs.lemmas.Slice.Zip.{AllZip-long}
+use Rattle.quadratic_form.proofs.Decision.{less_value}
 use Rattle.obs_rows.specs.declared.arcs.Arc.{Arc}
 use Rattle.obs_rows.specs.declared.bands.Signals.{Signals}
 use Rattle.obs_rows.specs.declared.pair_rows.PairRows.{PairRows}
 use Rattle.obs_rows.specs.Arcs.{free_count}
 use Rattle.obs_rows.specs.Integers.{integer_count}
-use Rattle.obs_rows.specs.Ranges.{IsBelow}
-use Rattle.obs_rows.specs.Signals.{fine_signals, phases}
+use Rattle.obs_rows.specs.Signals.{fine_signals}
 use Rattle.integer_form.specs.declared.front_form.FrontForm.{FrontForm}
 use Rattle.integer_form.specs.declared.form.Form.{Form}
 use Rattle.integer_form.specs.Forms.{integers_of, columns_of, value_of}
 use Rattle.int_search.specs.declared.answer.TwoBest.{TwoBest}
 use Rattle.int_search.specs.Answers.{IsTwoBest}
 use Rattle.fix_decide.specs.Decisions.{first_of, second_of}
-use Rattle.fix_decide.proofs.SessionForms.{some_phases, small_value, first_length, all_narrow}
-use Rattle.cert_check.proofs.DecidedLaws.{InRange, in_range, first_least}
+use Rattle.fix_decide.proofs.SessionForms.{some_phases, small_value, first_length, all_narrow, one_less}
+use Rattle.cert_check.proofs.DecidedLaws.{InRange, in_range, top_below}
 use Rattle.cert_data.specs.Tails.{IsMove}
 use Rattle.integer_form.specs.FloatPoint.{HasWide}
+use Rattle.lower_form.proofs.FrontLaws.{fewer}
 use Rattle.track_data.specs.TrackTails.{AreTrackVectors}
 use Rattle.track_sum.specs.PairFronts.{AreFronts, IsFrontOfPair, move_at}
 use Rattle.track_sum.specs.Decided.{IsTrackForm}
 
 -- ---- the integers
 pub some_integers : (arcs : List Arc) (signals : Signals) → 1 ≤ free_count arcs → 1 ≤ integer_count arcs (fine_signals signals)
-some_integers arcs signals some = product (length (phases (fine_signals signals))) (free_count arcs) (some_phases signals) some
-  where
-    product : (m n : ℕ) → 1 ≤ m → 1 ≤ n → 1 ≤ m * n
-    product m n h g = grind arith
+some_integers arcs signals some = mul-pos (some_phases signals) some
 
 pub columns_are : (arcs : List Arc) (ss : List ℕ) (pairs : List PairRows) (fs : List FrontForm) (f : Form) → IsTrackForm arcs ss pairs fs f → f.columns ≡ 4 + integer_count arcs ss
 columns_are arcs ss pairs fs f is = is.finished.columns ∙ is.of_fronts.columns
 
 pub integers_are : (arcs : List Arc) (ss : List ℕ) (pairs : List PairRows) (fs : List FrontForm) (f : Form) → IsTrackForm arcs ss pairs fs f → integers_of f ≡ integer_count arcs ss
 integers_are arcs ss pairs fs f is = fewer f.columns (integer_count arcs ss) (columns_are arcs ss pairs fs f is)
-  where
-    fewer : (a b : ℕ) → a ≡ 4 + b → a - 4 ≡ b
-    fewer a b e = omega (arith, e)
 
 -- ---- the values
 pub second_small : (f : Form) (b : TwoBest) → 1 ≤ integers_of f → IsTwoBest f b → b.p2 <ℤ pos (2 ^ 54)
 second_small f b some two = subst (λ (x : ℤ). x <ℤ pos (2 ^ 54)) (sym two.p2) (small_value f (integers_of f - 1) (first_of b) (second_of b) (one_less (integers_of f) some) two.least)
-  where
-    one_less : (n : ℕ) → 1 ≤ n → n ≡ suc (n - 1)
-    one_less n h = omega (arith, h)
 
 values_in_range : (f : Form) (best : TwoBest) → 1 ≤ integers_of f → IsTwoBest f best → ((z : List ℤ) → length z ≡ integers_of f → neg_ℤ (pos (2 ^ 63)) ≤ℤ value_of f z) → InRange best.p1 best.p2
 values_in_range f best some two from = in_range best.p1 best.p2
     (subst (λ (x : ℤ). neg_ℤ (pos (2 ^ 63)) ≤ℤ x) (sym two.p1) (from (first_of best) (first_length f best two ∙ two.size)))
-    (subst (λ (x : ℤ). x ≤ℤ best.p2) (sym two.p1) (subst (λ (x : ℤ). value_of f (first_of best) ≤ℤ x) (sym two.p2) (first_least (columns_of f) (first_of best) (second_of best) two.least.order)))
+    (subst (λ (x : ℤ). x ≤ℤ best.p2) (sym two.p1) (subst (λ (x : ℤ). value_of f (first_of best) ≤ℤ x) (sym two.p2) (less_value (columns_of f) (first_of best) (second_of best) two.least.order)))
     (second_small f best some two)
 
 -- ---- the moves
@@ -79,9 +70,6 @@ track_vectors_fit arcs signals pairs moves best top fs f some is two moves_are n
         second_in = two.second_small;
         p1_in = r.first;
         p2_in = r.second;
-        top_in = small top l g;
+        top_in = top_below top l g;
       };
     }
-  where
-    small : (t : ℤ) → pos 0 ≤ℤ t → t ≤ℤ pos (2 ^ 119) → IsBelow (2 ^ 126) t
-    small t l g = omega (arith, ints)

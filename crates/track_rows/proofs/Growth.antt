@@ -1,7 +1,7 @@
 -- How a track grows by one pair, tracked or lost: so a walk over the pairs makes one.
-use Rattle.std.proofs.Common.{◌≡◌, ◌≢◌, inl, inr, ⊎_elim, ℕ, ◌+◌, ◌<◌, true, false, Bool, Some, List, [], ◌∷◌, ◌++◌, length, get_or, All, Any, ℤ, arith, sym, ◌∙◌, refl, subst, ap}
+use Rattle.std.proofs.Common.{◌≡◌, ◌≢◌, inl, inr, ⊎_elim, ℕ, ◌+◌, ◌<◌, true, false, Some, List, [], ◌∷◌, ◌++◌, length, get_or, All, Any, ℤ, arith, sym, ◌∙◌, refl, subst, ap}
 use Rattle.std.specs.Prelude.{slice_get}
-use Rattle.std.proofs.lemmas.Bool.{cases_eq, cases_Bool}
+use Rattle.std.proofs.lemmas.Bool.{cases_eq, cases_Bool, false_from_ne_true}
 use Rattle.std.proofs.lemmas.List.Elements.{All-push}
 use Rattle.std.proofs.lemmas.List.Quantifiers.{Any-push, all_pairs_push}
 use Rattle.std.proofs.lemmas.Option.{none-some, same_Some, slice_get_within, get_or_from_slice_get}
@@ -20,6 +20,7 @@ use Rattle.track_rows.specs.Trials.{AreTried, KeepsOthers, IsTried, HasTriedRows
 use Rattle.track_rows.specs.Tracks.{no_shifts, HasRow, HasBegun, IsTrack}
 use Rattle.std.proofs.lemmas.List.{length_push}
 use Rattle.whole_math.proofs.Lists.{any_more, any_in, push_get}
+use Rattle.row_boxes.proofs.Ys.{before_last}
 use Rattle.track_rows.proofs.SameArcs.{held_in, held_back, agree_at}
 
 -- ---- which arcs have begun
@@ -151,8 +152,6 @@ no_pairs t none = record {
 }
 
 -- ---- a pair that is lost
-before : (count n : ℕ) → n < count + 1 → (n ≡ count → ⊥) → n < count
-before count n i e = omega (arith, i, e)
 
 later : (count n : ℕ) → n < count → n < count + 1
 later count n h = omega (arith, h)
@@ -174,7 +173,7 @@ lost_more t count arcs points tracked lost new is number cause = record {
       (λ (e : pair ≡ count). inr (Any-push (λ (l : Lost). l.pair ≡ pair) lost new (number ∙ sym e)))
       (λ (e : pair ≡ count → ⊥). ⊎_elim (λ (a : Any (λ (p : PairRows). p.number ≡ pair) tracked). inl a)
       (λ (b : Any (λ (l : Lost). l.pair ≡ pair) lost). inr (any_more (λ (l : Lost). l.pair ≡ pair) lost new b))
-      (is.each pair (before count pair inside e)))
+      (is.each pair (before_last pair count inside e)))
       (cases_eq pair count);
   apart = λ k d i. All-push (λ (l : Lost). l.pair ≢ (get_or tracked k d).number) lost new (is.apart k d i)
       (λ (e : new.pair ≡ (get_or tracked k d).number). apart_from count new.pair (get_or tracked k d).number number (is.tracked_in k d i) e);
@@ -221,7 +220,7 @@ tracked_more t count arcs next points tracked lost point new is by others = reco
       (λ (e : pair ≡ count). inl (Any-push (λ (p : PairRows). p.number ≡ pair) tracked new (number ∙ sym e)))
       (λ (e : pair ≡ count → ⊥). ⊎_elim (λ (a : Any (λ (p : PairRows). p.number ≡ pair) tracked). inl (any_more (λ (p : PairRows). p.number ≡ pair) tracked new a))
       (λ (b : Any (λ (l : Lost). l.pair ≡ pair) lost). inr b)
-      (is.each pair (before count pair inside e)))
+      (is.each pair (before_last pair count inside e)))
       (cases_eq pair count);
   apart = All-push (λ (p : PairRows). All (λ (l : Lost). l.pair ≢ p.number) lost) tracked new is.apart
       (λ k d i. λ (e : (get_or lost k d).pair ≡ new.number). apart_from count new.number (get_or lost k d).pair number (is.lost_in k d i) (sym e));
@@ -231,16 +230,12 @@ tracked_more t count arcs next points tracked lost point new is by others = reco
   lost_rise = is.lost_rise;
   untouched = λ k b is_b free.
       let l : Like arcs k b = like next arcs (n.same ∙ sym n.after) k b is_b in
-      let away : holds_pair l.arc count ≡ false = not_true (holds_pair l.arc count) (λ holds. free (Any-push (λ (p : PairRows). IsHeld t.kept p.number k) tracked new
+      let away : holds_pair l.arc count ≡ false = false_from_ne_true (holds_pair l.arc count) (λ holds. free (Any-push (λ (p : PairRows). IsHeld t.kept p.number k) tracked new
       (subst (λ (m : ℕ). IsHeld t.kept m k) (sym number) (held_in t.kept arcs count k l.arc n.same l.arc_is holds)))) in
       let e : b ≡ l.arc = others k l.arc b l.arc_is is_b away in
       ap (λ (x : Arc). x.shift) e ∙ is.untouched k l.arc l.arc_is (λ (some : HasRow t.kept tracked k). free (any_more (λ (p : PairRows). IsHeld t.kept p.number k) tracked new some));
 }
   where
-    not_true : (b : Bool) → (b ≡ true → ⊥) → b ≡ false
-    not_true true h = absurd (h refl)
-    not_true false h = refl
-
     number : new.number ≡ count
     number = by.rows_are.number
 

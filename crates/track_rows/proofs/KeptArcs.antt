@@ -7,6 +7,7 @@ use Rattle.obs_rows.specs.Arcs.{AreArcs, IsOfPair}
 use Rattle.obs_rows.specs.Pairs.{HasItsArcs}
 use Rattle.obs_rows.specs.Ranges.{IsBelow}
 use Rattle.row_build.specs.HeldArcs.{holds_pair, arcs_from, arcs_at}
+use Rattle.row_build.proofs.ArcLaws.{cons_nil}
 use Rattle.round_steps.specs.Counts.{holds, held}
 use Rattle.round_steps.specs.Shifts.{AreSameArcs, AreShiftsBelow, without_shifts}
 use Rattle.round_steps.proofs.ShiftLaws.{length_same, three_below}
@@ -27,9 +28,6 @@ none_held : (arcs : List Arc) (n pair : ℕ) → arcs_from n arcs pair ≡ [] �
 none_held [] n pair e = refl
 none_held (a ∷ arcs) n pair e = by_test (holds_pair a pair) refl (none_held arcs (n + 1) pair)
   where
-    cons_nil : (x : ℕ) (xs : List ℕ) → x ∷ xs ≡ [] → ⊥
-    cons_nil x xs e = cc
-
     zero_sum : (n m : ℕ) → n ≡ 0 + m → m ≡ 0 → n ≡ 0
     zero_sum n m e f = omega arith
 

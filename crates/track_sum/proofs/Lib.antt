@@ -9,6 +9,5 @@ pub mod TrackEntries
 pub mod FrontLists
 pub mod OneForm
 pub mod SumTables
-mod Results
 pub mod StrictlyBest
 pub mod RatioLaws

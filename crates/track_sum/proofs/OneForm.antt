@@ -1,9 +1,9 @@
 -- The rows of pairs have one sum of fronts, one form and one refusal.
-use Rattle.std.proofs.Common.{◌≡◌, ◌⊎◌, ⊎_elim, ℕ, zero, suc, ◌+◌, ◌-◌, ◌*◌, ◌^◌, ◌<◌, ◌≤◌, Result, Err, List, [], ◌∷◌, length, map, take, get_or, ℤ, pos, ◌+ℤ◌, arith, sym, ap, ap₂, ◌∙◌, refl, subst}
+use Rattle.std.proofs.Common.{◌≡◌, ◌⊎◌, ⊎_elim, ℕ, zero, suc, ◌+◌, ◌-◌, ◌*◌, ◌^◌, ◌<◌, ◌≤◌, Err, List, [], ◌∷◌, length, map, take, get_or, ℤ, pos, ◌+ℤ◌, arith, sym, ap, ap₂, ◌∙◌, refl, subst, le_antisymm}
 use Rattle.std.proofs.lemmas.List.{get_or_default}
 use Rattle.whole_math.specs.Vectors.{scaled}
 use Rattle.quadratic_form.specs.Forms.{Column}
-use Rattle.quadratic_form.specs.Elimination.{Factor, Refusal, steps}
+use Rattle.quadratic_form.specs.Elimination.{Factor, Refusal, steps, StepsAnswer}
 use Rattle.quadratic_form.proofs.Places.{form_same}
 use Rattle.obs_rows.specs.declared.arcs.Arc.{Arc}
 use Rattle.obs_rows.specs.declared.pair_rows.PairRows.{PairRows}
@@ -88,11 +88,8 @@ pub record SameSum (s t : FrontForm) : Type 0 where
 pub one_sum : (arcs : List Arc) (ss : List ℕ) (pairs : List PairRows) (fs gs : List FrontForm) (s t : FrontForm) → IsSumOfFronts arcs ss pairs fs s → IsSumOfFronts arcs ss pairs gs t → SameSum s t
 one_sum arcs ss pairs fs gs s t a b = record { h = height; columns = columns; form = form }
   where
-    both : (a b : ℕ) → a ≤ b → b ≤ a → a ≡ b
-    both a b h g = omega arith
-
     height : s.h ≡ t.h
-    height = both s.h t.h (exponent_least arcs ss pairs fs gs a.e s.h b.e t.h a.of_pairs b.of_pairs a.exponents b.exponents)
+    height = le_antisymm (exponent_least arcs ss pairs fs gs a.e s.h b.e t.h a.of_pairs b.of_pairs a.exponents b.exponents)
         (exponent_least arcs ss pairs gs fs b.e t.h a.e s.h b.of_pairs a.of_pairs b.exponents a.exponents)
 
     columns : s.columns ≡ t.columns
@@ -160,13 +157,10 @@ no_form arcs ss pairs why fs f a b =
     let same = same_finish a.sum b.sum (one_sum arcs ss pairs a.fronts fs a.sum b.sum a.of_fronts b.of_fronts) in
     absurd (cc (a.told.1.0, same, b.finished.taken))
 
-abbrev Answer : Type 0
-Answer = Result (List Factor × List Column) Refusal
-
-abbrev refused : Refusal → Answer
+abbrev refused : Refusal → StepsAnswer
 refused x = Err x
 
-one_told : (a b : LowerFault) (r s : Answer) → r ≡ s → IsToldAs a r → IsToldAs b s → a ≡ b
+one_told : (a b : LowerFault) (r s : StepsAnswer) → r ≡ s → IsToldAs a r → IsToldAs b s → a ≡ b
 one_told a b r s e t u = t.1.1 ∙ ap told (same_refusal t.0 u.0 (sym t.1.0 ∙ e ∙ u.1.0)) ∙ sym u.1.1
   where
     same_refusal : (x y : Refusal) → refused x ≡ refused y → x ≡ y

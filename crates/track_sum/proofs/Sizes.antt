@@ -1,5 +1,5 @@
 -- Each entry of the form of a track is below 2^52 in size.
-use Rattle.std.proofs.Common.{◌≡◌, ℕ, zero, suc, ◌+◌, ◌-◌, ◌*◌, ◌^◌, ◌<◌, ◌≤◌, Bool, List, [], ◌∷◌, length, map, All, get_or, Any, nat_eq, cond, true, false, ℤ, pos, ◌+ℤ◌, ◌-ℤ◌, ◌*ℤ◌, neg_ℤ, ◌≤ℤ◌, ◌<ℤ◌, unsigned_abs, arith, ◌∙◌, subst, pow_pos}
+use Rattle.std.proofs.Common.{◌≡◌, ℕ, zero, suc, ◌+◌, ◌-◌, ◌*◌, ◌^◌, ◌<◌, ◌≤◌, Bool, List, [], ◌∷◌, length, map, All, get_or, Any, nat_eq, cond, true, false, ℤ, pos, ◌+ℤ◌, ◌-ℤ◌, ◌*ℤ◌, neg_ℤ, ◌≤ℤ◌, ◌<ℤ◌, unsigned_abs, arith, ◌∙◌, subst, pow_pos, suc-mul, add-mul}
 use Rattle.std.proofs.Math.Nat.{mul-le-mul_left, mul-le-mul_right, mul_comm, le_of_mul-le-mul_right}
 use Rattle.std.proofs.Math.Pow.{pow_mono}
 use Rattle.std.proofs.lemmas.Int.{ints, unsigned_abs-mul}
@@ -8,6 +8,8 @@ use Rattle.whole_math.specs.Rounding.{floor_div, nearest_div}
 use Rattle.whole_math.specs.Vectors.{sum}
 use Rattle.whole_math.proofs.Order.{lins}
 use Rattle.whole_math.proofs.Rounding.{nearest_close, floor_close, floor_near}
+use Rattle.whole_math.proofs.Inequalities.{pos_nn}
+use Rattle.whole_math.proofs.Words.{size_add}
 use Rattle.track_sum.specs.Fronts.{Front, part, own_entry, other_entry, track_entry, AreExponents, IsSmallFront}
 use Rattle.obs_rows.specs.declared.limits.TheConstants.{MOST_PAIRS}
 
@@ -17,11 +19,8 @@ abbrev IsRounded : ℤ → ℕ → ℤ → Type 0
 IsRounded x m q = (neg_ℤ (pos m) ≤ℤ (x -ℤ (pos m *ℤ q))) × ((x -ℤ (pos m *ℤ q)) ≤ℤ pos m)
 
 nearest_rounded : (x : ℤ) (m : ℕ) → 0 < m → IsRounded x m (nearest_div x m)
-nearest_rounded x m h = let b = nearest_close x m h in (low (pos m) (x -ℤ (pos m *ℤ nearest_div x m)) (wide m) b.0, high (pos m) (x -ℤ (pos m *ℤ nearest_div x m)) (wide m) b.1)
+nearest_rounded x m h = let b = nearest_close x m h in (low (pos m) (x -ℤ (pos m *ℤ nearest_div x m)) (pos_nn m) b.0, high (pos m) (x -ℤ (pos m *ℤ nearest_div x m)) (pos_nn m) b.1)
   where
-    wide : (m : ℕ) → pos 0 ≤ℤ pos m
-    wide m = omega (arith, lins)
-
     low : (m d : ℤ) → pos 0 ≤ℤ m → neg_ℤ m ≤ℤ (pos 2 *ℤ d) → neg_ℤ m ≤ℤ d
     low m d k h = omega (arith, ints)
 
@@ -29,11 +28,8 @@ nearest_rounded x m h = let b = nearest_close x m h in (low (pos m) (x -ℤ (pos
     high m d k h = omega (arith, ints)
 
 floor_rounded : (x : ℤ) (m : ℕ) → 0 < m → IsRounded x m (floor_div x m)
-floor_rounded x m h = go x (pos m *ℤ floor_div x m) (pos m) (wide m) (floor_close x m h) (floor_near x m h)
+floor_rounded x m h = go x (pos m *ℤ floor_div x m) (pos m) (pos_nn m) (floor_close x m h) (floor_near x m h)
   where
-    wide : (m : ℕ) → pos 0 ≤ℤ pos m
-    wide m = omega (arith, lins)
-
     go : (x f m : ℤ) → pos 0 ≤ℤ m → f ≤ℤ x → x <ℤ (f +ℤ m) → (neg_ℤ m ≤ℤ (x -ℤ f)) × ((x -ℤ f) ≤ℤ m)
     go x f m k h g = (omega (arith, lins), omega (arith, lins))
 
@@ -51,35 +47,23 @@ rounded_size x q m k b is few small = by_size (unsigned_abs q) (whole (unsigned_
     by_size : (a : ℕ) → a * m ≤ b + m → a * k ≤ b + k
     by_size zero h = omega arith
     by_size (suc a) h =
-        let less : a * m ≤ b = omega (arith, one_more a m, h) in
+        let less : a * m ≤ b = omega (arith, suc-mul a m, h) in
         let fewer : a * k ≤ a * m = mul-le-mul_left a few in
-        omega (arith, one_more a k, less, fewer)
-      where
-        one_more : (a n : ℕ) → suc a * n ≡ a * n + n
-        one_more a n = omega arith
+        omega (arith, suc-mul a k, less, fewer)
 
 -- ---- all pairs
 -- k times the sum is at most the number of the fronts times b + k
 sum_size : (f : Front → ℤ) (k b : ℕ) (fs : List Front) → All (λ g. unsigned_abs (f g) * k ≤ b + k) fs → unsigned_abs (sum (map f fs)) * k ≤ length fs * (b + k)
 sum_size f k b [] all = omega arith
 sum_size f k b (g ∷ fs) all = step (unsigned_abs (f g)) (unsigned_abs (sum (map f fs))) (unsigned_abs (f g +ℤ sum (map f fs))) (length fs) (b + k)
-    (both (f g) (sum (map f fs))) (All-head (λ (g : Front). unsigned_abs (f g) * k ≤ b + k) g fs all) (sum_size f k b fs (All-tail (λ (g : Front). unsigned_abs (f g) * k ≤ b + k) g fs all))
+    (size_add (f g) (sum (map f fs))) (All-head (λ (g : Front). unsigned_abs (f g) * k ≤ b + k) g fs all) (sum_size f k b fs (All-tail (λ (g : Front). unsigned_abs (f g) * k ≤ b + k) g fs all))
   where
-    both : (x y : ℤ) → unsigned_abs (x +ℤ y) ≤ unsigned_abs x + unsigned_abs y
-    both x y = omega (arith, ints)
-
     step : (a s t l c : ℕ) → t ≤ a + s → a * k ≤ c → s * k ≤ l * c → t * k ≤ suc l * c
     step a s t l c h i j =
         let p : t * k ≤ (a + s) * k = mul-le-mul_right k h in
-        let q : (a + s) * k ≡ a * k + s * k = spread a s k in
-        let r : suc l * c ≡ l * c + c = more l c in
+        let q : (a + s) * k ≡ a * k + s * k = add-mul a s k in
+        let r : suc l * c ≡ l * c + c = suc-mul l c in
         omega (arith, p, q, r, i, j)
-      where
-        spread : (a s k : ℕ) → (a + s) * k ≡ a * k + s * k
-        spread a s k = omega arith
-
-        more : (l c : ℕ) → suc l * c ≡ l * c + c
-        more l c = omega arith
 
 -- what each pair is divided by is at least twice the number of pairs
 part_large : (e h : ℕ) (f : Front) (k : ℕ) → k ≤ 2 ^ e → f.h + e ≤ h → k ≤ part h f

@@ -1,12 +1,13 @@
 -- Where a track's second value is far enough above the upper sum, the least integers with the moves are best by the ratio.
-use Rattle.std.proofs.Common.{◌≡◌, ℕ, ◌+◌, ◌-◌, ◌≤◌, Bool, true, false, Result, Ok, Err, List, [], ◌∷◌, length, map, get_or, All, ℤ, pos, ◌+ℤ◌, ◌≤ℤ◌, arith, sym, ap, ap₂, ◌∙◌, subst}
+use Rattle.std.proofs.Common.{◌≡◌, ℕ, ◌+◌, ◌-◌, ◌≤◌, List, [], ◌∷◌, length, map, get_or, All, ℤ, pos, ◌+ℤ◌, ◌≤ℤ◌, arith, sym, ap, ap₂, ◌∙◌, subst}
 use Rattle.std.specs.List.{AllZip}
 use Rattle.std.proofs.lemmas.Slice.Zip.{AllZip-long}
+use Rattle.std.proofs.Math.IntN.{+ℤ_idr}
 use Rattle.whole_math.specs.Vectors.{len}
 use Rattle.whole_math.proofs.Vectors.{len_is}
-use Rattle.whole_math.proofs.Order.{lins}
+use Rattle.whole_math.proofs.Order.{lins, le_pos}
 use Rattle.quadratic_form.specs.Forms.{Column}
-use Rattle.quadratic_form.specs.Elimination.{Factor, Refusal, wide_entry, form_small, steps}
+use Rattle.quadratic_form.specs.Elimination.{form_small, steps}
 use Rattle.quadratic_form.specs.Rows.{value}
 use Rattle.quadratic_form.specs.TwoLeast.{TwoLeast}
 use Rattle.obs_rows.specs.declared.arcs.Arc.{Arc}
@@ -20,7 +21,7 @@ use Rattle.integer_form.specs.Forms.{integers_of, columns_of}
 use Rattle.integer_form.specs.Kept.{form_of_table}
 use Rattle.lower_form.specs.FirstRounding.{first_form}
 use Rattle.lower_form.specs.Fronts.{BoundsAllData}
-use Rattle.lower_form.proofs.FrontLaws.{bounds_all}
+use Rattle.lower_form.proofs.FrontLaws.{bounds_all, fewer}
 use Rattle.int_search.specs.declared.answer.TwoBest.{TwoBest}
 use Rattle.fix_decide.specs.Bounds.{StaysAtMost}
 use Rattle.fix_decide.specs.UpperSums.{pair_upper}
@@ -28,22 +29,12 @@ use Rattle.fix_decide.specs.Widths.{IsWide}
 use Rattle.fix_decide.specs.Decisions.{IsSeparated, first_of, second_of}
 use Rattle.fix_decide.proofs.UpperLaws.{stays_at_most}
 use Rattle.fix_decide.proofs.DecisionLaws.{room}
+use Rattle.fix_decide.proofs.SessionForms.{taken}
 use Rattle.track_sum.specs.Fronts.{Front, track_form, track_top}
 use Rattle.track_sum.specs.Best.{IsBoundedBy, AreBoundedAbove}
 use Rattle.track_sum.specs.PairFronts.{IsFrontOfPair, AreFronts, brief}
 use Rattle.track_sum.specs.Decided.{IsSumOfFronts, AreFound, pair_uppers, pair_sum, IsPairData, IsStrictlyBest, IsBestByRatio}
 use Rattle.track_sum.proofs.Best.{best_by_ratio, best_by_1000}
-
-abbrev Answer : Type 0
-Answer = Result (List Factor × List Column) Refusal
-
--- an answer that isn't refused is that of the steps
-taken : (r : Answer) (b : Bool) (p : List Factor × List Column) → elim b as (λ x. Answer) [ true ↦ r | false ↦ Err wide_entry ] ≡ Ok p → r ≡ Ok p
-taken r true p e = e
-taken r false p e = absurd (apart e)
-  where
-    apart : Err wide_entry ≡ Ok p → ⊥
-    apart e = cc
 
 -- ---- one pair
 pair_bounded : (arcs : List Arc) (ss : List ℕ) (p : PairRows) (f : FrontForm) → IsFrontOfPair arcs ss p f → BoundsAllData arcs ss (p ∷ []) f.h (form_of_table f.p (f.columns - 3))
@@ -78,11 +69,8 @@ above_each arcs ss z [] (m ∷ ms) entries are = absurd are
 above_each arcs ss z (p ∷ ps) [] entries are = absurd are
 above_each arcs ss z (p ∷ ps) (m ∷ ms) entries are = (λ d data_are. one.above (d ∷ []) data_are, above_each arcs ss z ps ms entries are.1)
   where
-    none_more : (x : ℤ) → x +ℤ pos 0 ≡ x
-    none_more x = omega (arith, lins)
-
     one : StaysAtMost arcs ss (p ∷ []) z m (pair_upper arcs ss z m p)
-    one = subst (λ (u : ℤ). StaysAtMost arcs ss (p ∷ []) z m u) (none_more (pair_upper arcs ss z m p)) (stays_at_most arcs ss (p ∷ []) z m entries)
+    one = subst (λ (u : ℤ). StaysAtMost arcs ss (p ∷ []) z m u) (+ℤ_idr (pair_upper arcs ss z m p)) (stays_at_most arcs ss (p ∷ []) z m entries)
 
 -- ---- the decision
 pub track_best_by_ratio : (arcs : List Arc) (ss : List ℕ) (pairs : List PairRows) (ratio budget h : ℕ) (moves : List (List ℤ)) (best : TwoBest) (top : ℤ) →
@@ -126,9 +114,6 @@ track_best_by_ratio arcs ss pairs ratio budget h moves best top found far = reco
 
     entries : length z1 ≡ integer_count arcs ss
     entries = whole (length z1) (integers_of form) (sym (len_is z1) ∙ found.best_is.least.first) ∙ fewer form.columns (integer_count arcs ss) columns
-      where
-        fewer : (a b : ℕ) → a ≡ 4 + b → a - 4 ≡ b
-        fewer a b e = omega arith
 
     one_more : pos 1 +ℤ len z1 ≡ pos n
     one_more = ap (λ (x : ℤ). pos 1 +ℤ x) found.best_is.least.first ∙ ap pos (more form.columns (integer_count arcs ss) columns)
@@ -159,8 +144,5 @@ pub track_strictly_best : (arcs : List Arc) (ss : List ℕ) (pairs : List PairRo
     1000 ≤ ratio → pos 0 ≤ℤ top → IsSeparated (pos ratio) top best.p2 → IsStrictlyBest arcs ss pairs (first_of best) moves
 track_strictly_best arcs ss pairs ratio budget h moves best top found large from far =
     let by_ratio : IsBestByRatio 1000 arcs ss pairs (first_of best) moves =
-    track_best_by_ratio arcs ss pairs 1000 budget h moves best top found (room top (pos ratio) best.p2 (at_least ratio large) from far) in
+    track_best_by_ratio arcs ss pairs 1000 budget h moves best top found (room top (pos ratio) best.p2 (le_pos 1000 ratio large) from far) in
     record { entries = by_ratio.entries; move_each = by_ratio.move_each; best = best_by_1000 (pair_sum arcs ss) (IsPairData ss) pairs (first_of best) (map moved moves) by_ratio.best }
-  where
-    at_least : (r : ℕ) → 1000 ≤ r → pos 1000 ≤ℤ pos r
-    at_least r l = omega (arith, lins)

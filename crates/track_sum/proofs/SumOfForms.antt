@@ -1,5 +1,5 @@
 -- The form of a track stays below the sum of the pairs' forms.
-use Rattle.std.proofs.Common.{◌≡◌, ℕ, zero, suc, ◌+◌, ◌-◌, ◌^◌, ◌<◌, ◌≤◌, Bool, List, [], ◌∷◌, length, map, All, nat_eq, cond, true, false, ℤ, pos, ◌+ℤ◌, ◌-ℤ◌, ◌*ℤ◌, ◌≤ℤ◌, arith, sym, ap, ◌∙◌, refl, pow_pos, pow-add}
+use Rattle.std.proofs.Common.{◌≡◌, ℕ, suc, ◌+◌, ◌-◌, ◌^◌, ◌<◌, ◌≤◌, Bool, List, [], ◌∷◌, length, map, All, nat_eq, cond, true, false, ℤ, pos, ◌+ℤ◌, ◌-ℤ◌, ◌*ℤ◌, ◌≤ℤ◌, arith, sym, ap, ◌∙◌, refl, pow_pos, pow-add}
 use Rattle.std.proofs.lemmas.Bool.Decides.{nat_tests}
 use Rattle.std.proofs.lemmas.List.Elements.{All-head, All-tail}
 use Rattle.whole_math.specs.Rounding.{floor_div, nearest_div}
@@ -7,12 +7,14 @@ use Rattle.whole_math.specs.Vectors.{len, sum}
 use Rattle.whole_math.proofs.Ring.{◌⊕◌, ◌⊖◌, ◌⊗◌}
 use Rattle.whole_math.proofs.Order.{lins}
 use Rattle.whole_math.proofs.Inequalities.{le_by, both_nn, prod_nn, less_nn, pos_nn, le_eq, same_by, nat}
+use Rattle.whole_math.proofs.IntLaws.{zero_mul_ℤ}
 use Rattle.quadratic_form.specs.Forms.{Column, quad}
 use Rattle.quadratic_form.specs.Elimination.{rounded}
 use Rattle.quadratic_form.specs.Places.{form_from}
 use Rattle.quadratic_form.proofs.Forms.{quad_plus, quad_times}
 use Rattle.quadratic_form.proofs.EliminationStep.{rounded_below}
 use Rattle.quadratic_form.proofs.Places.{form_same, form_plus, form_times, form_rounded}
+use Rattle.integer_form.proofs.FormShapes.{len_form}
 use Rattle.track_sum.specs.Fronts.{Front, front_form, part, own_entry, other_entry, track_entry, track_form, fronts_value}
 use Rattle.track_sum.specs.Parts.{part_at}
 
@@ -54,14 +56,6 @@ part_rounded n h f = form_rounded (part h f) (pos n) f.at (entry_part n h f) 0 n
     other r c true e l = absurd (grind (arith, nat_tests, e, l))
     other r c false e l = refl
 
--- a form has as many columns as places
-len_form : (e : ℕ → ℕ → ℤ) (j k : ℕ) → len (form_from e j k) ≡ pos k
-len_form e j zero = refl
-len_form e j (suc k) = ap (λ z. pos 1 +ℤ z) (len_form e (suc j) k) ∙ more k
-  where
-    more : (k : ℕ) → pos 1 +ℤ pos k ≡ pos (suc k)
-    more k = let e : 1 + k ≡ suc k = omega arith in ap pos e
-
 -- what a pair adds stays below its form
 one_below : (n h : ℕ) (f : Front) (v : List ℤ) → f.h ≤ h → len v ≡ pos n → (pos (2 ^ h) *ℤ quad (form_from (entry_part n h f) 0 n) v) ≤ℤ (pos (2 ^ f.h) *ℤ quad (front_form n f) v)
 one_below n h f v le e = rw (split, part_rounded n h f)
@@ -80,11 +74,8 @@ one_below n h f v le e = rw (split, part_rounded n h f)
 -- no pair, nothing
 none_value : (n h : ℕ) (v : List ℤ) → quad (track_form n h []) v ≡ pos 0
 none_value n h v = ap (λ (a : List Column). quad a v) (form_same (track_entry n h []) (λ i j. pos 0 *ℤ pos 0) 0 n (λ r c a b d. none (nat_eq r c)) ∙ form_times (pos 0) (λ i j. pos 0) 0 n)
-    ∙ quad_times (pos 0) (form_from (λ i j. pos 0) 0 n) v ∙ zero_times (quad (form_from (λ i j. pos 0) 0 n) v)
+    ∙ quad_times (pos 0) (form_from (λ i j. pos 0) 0 n) v ∙ zero_mul_ℤ (quad (form_from (λ i j. pos 0) 0 n) v)
   where
-    zero_times : (q : ℤ) → pos 0 *ℤ q ≡ pos 0
-    zero_times q = same_by (q ∷ []) (λ q. (nat 0 ⊗ q, nat 0)) refl
-
     none : (b : Bool) → cond b (pos 0 -ℤ (pos 0 *ℤ pos n)) (pos 0) ≡ pos 0 *ℤ pos 0
     none true = same_by (pos n ∷ []) (λ n. (nat 0 ⊖ nat 0 ⊗ n, nat 0 ⊗ nat 0)) refl
     none false = refl

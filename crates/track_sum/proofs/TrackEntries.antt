@@ -1,5 +1,5 @@
 -- The entries of a track's form: what each pair adds, and the table that holds the sums.
-use Rattle.std.proofs.Common.{◌≡◌, ◌⊎◌, ⊎_elim, ℕ, zero, suc, ◌+◌, ◌<◌, ◌≤◌, Bool, true, false, List, [], ◌∷◌, length, drop, get_or, All, nat_eq, cond, ℤ, pos, ◌-ℤ◌, arith, sym, ap, ap₂, ◌∙◌, refl, subst}
+use Rattle.std.proofs.Common.{◌≡◌, ⊎_elim, ℕ, zero, suc, ◌+◌, ◌<◌, ◌≤◌, Bool, true, false, List, [], ◌∷◌, length, drop, get_or, All, nat_eq, cond, ℤ, pos, ◌-ℤ◌, arith, sym, ap, ap₂, ◌∙◌, refl, subst, zero-add, eq-or-lt_of_le}
 use Rattle.whole_math.specs.Rounding.{floor_div, nearest_div}
 use Rattle.whole_math.proofs.Ring.{◌⊖◌, ◌⊗◌}
 use Rattle.whole_math.proofs.Inequalities.{same_by, nat}
@@ -16,18 +16,16 @@ use Rattle.track_sum.proofs.Sizes.{entry_small}
 use Rattle.obs_rows.specs.declared.limits.TheConstants.{MOST_PAIRS}
 
 -- ---- equal forms have equal entries
-order : (j c : ℕ) → j ≤ c → (j ≡ c) ⊎ (suc j ≤ c)
-order j c a = grind arith
 
 list_entry : (f g : ℕ → ℤ) (j k : ℕ) → list_from f j k ≡ list_from g j k → (c : ℕ) → j ≤ c → c < j + k → f c ≡ g c
 list_entry f g j zero e c a b = absurd (omega arith)
 list_entry f g j (suc k) e c a b = ⊎_elim (λ (i : j ≡ c). subst (λ (m : ℕ). f m ≡ g m) i (ap (λ (s : List ℤ). get_or s 0 (pos 0)) e))
-    (λ (i : suc j ≤ c). list_entry f g (suc j) k (ap (λ (s : List ℤ). drop 1 s) e) c i (omega arith)) (order j c a)
+    (λ (i : suc j ≤ c). list_entry f g (suc j) k (ap (λ (s : List ℤ). drop 1 s) e) c i (omega arith)) (eq-or-lt_of_le a)
 
 form_entry : (d e : ℕ → ℕ → ℤ) (j k : ℕ) → form_from d j k ≡ form_from e j k → (r c : ℕ) → j ≤ r → r ≤ c → c < j + k → d r c ≡ e r c
 form_entry d e j zero h r c a b l = absurd (omega arith)
 form_entry d e j (suc k) h r c a b l = ⊎_elim (λ (i : j ≡ r). subst (λ (m : ℕ). d m c ≡ e m c) i (first (subst (λ (m : ℕ). m ≤ c) (sym i) b)))
-    (λ (i : suc j ≤ r). form_entry d e (suc j) k (ap (λ (q : List Column). drop 1 q) h) r c i b (omega arith)) (order j r a)
+    (λ (i : suc j ≤ r). form_entry d e (suc j) k (ap (λ (q : List Column). drop 1 q) h) r c i b (omega arith)) (eq-or-lt_of_le a)
   where
     nothing : Column
     nothing = record { own = pos 0; others = [] }
@@ -39,7 +37,7 @@ form_entry d e j (suc k) h r c a b l = ⊎_elim (λ (i : j ≡ r). subst (λ (m 
     others = ap (λ (q : List Column). (get_or q 0 nothing).others) h
 
     first : j ≤ c → d j c ≡ e j c
-    first g = ⊎_elim (λ (i : j ≡ c). subst (λ (m : ℕ). d j m ≡ e j m) i own) (λ (i : suc j ≤ c). list_entry (d j) (e j) (suc j) k others c i (omega arith)) (order j c g)
+    first g = ⊎_elim (λ (i : j ≡ c). subst (λ (m : ℕ). d j m ≡ e j m) i own) (λ (i : suc j ≤ c). list_entry (d j) (e j) (suc j) k others c i (omega arith)) (eq-or-lt_of_le g)
 
 -- so the forms of two tables add the same
 pub part_same : (n m : ℕ) (p q : List (List ℤ)) → form_of_table p n ≡ form_of_table q n → (r c : ℕ) → r ≤ c → c < n → part_at n m (entry p) r c ≡ part_at n m (entry q) r c
@@ -57,10 +55,7 @@ none_entry n h r c = by_place (nat_eq r c)
 
 -- a table of the sums, after the baseline's columns
 pub summed_form : (n h : ℕ) (fs : List Front) (t : List (List ℤ)) → ((r c : ℕ) → r ≤ c → c < n → entry t (3 + r) (3 + c) ≡ track_entry n h fs r c) → form_from (entry t) 3 n ≡ track_form n h fs
-summed_form n h fs t same = form_moved (entry t) (track_entry n h fs) 3 0 n (λ r c l b. same r c l b ∙ sym (ap₂ (λ i j. track_entry n h fs i j) (nothing r) (nothing c)))
-  where
-    nothing : (r : ℕ) → 0 + r ≡ r
-    nothing r = omega arith
+summed_form n h fs t same = form_moved (entry t) (track_entry n h fs) 3 0 n (λ r c l b. same r c l b ∙ sym (ap₂ (λ i j. track_entry n h fs i j) (zero-add r) (zero-add c)))
 
 pub small_track : (n e h : ℕ) (fs : List Front) → 1 ≤ length fs → length fs ≤ MOST_PAIRS → n ≤ 61 → AreExponents fs e h → All IsSmallFront fs → SmallForm (track_form n h fs)
 small_track n e h fs some few columns exponents small = small_form (track_entry n h fs) 0 n (entry_small n e h fs some few columns exponents small)

@@ -70,11 +70,6 @@ plain_down n w c y k h0 h1 h2 h3 =
     cert (n ∷ w ∷ c ∷ y ∷ k ∷ []) (((va 0 ⊗ va 3) ≼ (va 2 ⊗ va 1)) ∷ (ko (pos 0) ≼ va 4) ∷ (ko (pos 0) ≼ va 1) ∷ (ko (pos 0) ≼ va 3) ∷ [])
     (((va 0 ⊗ va 3) ⊖ (va 2 ⊗ va 1)) ⊗ va 4) (ko (pos 1) ⊗ (va 1 ⊗ va 3)) ((hy 1 ⊠ hy 0) ⊞ (hy 2 ⊠ hy 3)) refl (h0, (h1, (h2, (h3, tt))))
 
-pub plain_up : (n w c y k : ℤ) → (c *ℤ w) ≤ℤ (n *ℤ y) → (pos 0) ≤ℤ k → (pos 0) ≤ℤ w → (pos 0) ≤ℤ y → (((c *ℤ w) -ℤ (n *ℤ y)) *ℤ k) ≤ℤ (pos 1 *ℤ (y *ℤ w))
-plain_up n w c y k h0 h1 h2 h3 =
-    cert (n ∷ w ∷ c ∷ y ∷ k ∷ []) (((va 2 ⊗ va 1) ≼ (va 0 ⊗ va 3)) ∷ (ko (pos 0) ≼ va 4) ∷ (ko (pos 0) ≼ va 1) ∷ (ko (pos 0) ≼ va 3) ∷ [])
-    (((va 2 ⊗ va 1) ⊖ (va 0 ⊗ va 3)) ⊗ va 4) (ko (pos 1) ⊗ (va 3 ⊗ va 1)) ((hy 1 ⊠ hy 0) ⊞ (hy 2 ⊠ hy 3)) refl (h0, (h1, (h2, (h3, tt))))
-
 pub closer : (g t k j : ℤ) → (g *ℤ k) ≤ℤ (pos 1 *ℤ t) → j ≤ℤ k → (pos 0) ≤ℤ t → (pos 0) ≤ℤ j → (pos 0) <ℤ k → (g *ℤ j) ≤ℤ (pos 1 *ℤ t)
 closer g t k j h0 h1 h2 h3 h4 =
     cancel k (g *ℤ j) (pos 1 *ℤ t) h4

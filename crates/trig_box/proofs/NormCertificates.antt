@@ -86,37 +86,21 @@ sin_low_nn a b h0 h1 =
     ⊞ ((nm 34113744 ⊠ (hy 0 ⊠ hy 0)) ⊠ (hy 1 ⊠ hy 1))) ⊞ ((nm 5745600 ⊠ hy 0) ⊠ ((hy 1 ⊠ hy 1) ⊠ hy 1))) ⊞ (nm 362880 ⊠ (((hy 1 ⊠ hy 1) ⊠ hy 1) ⊠ hy 1)))
     refl (h0, (h1, tt))
 
-pub through_low : (n w c y l d : ℤ) → (n *ℤ y) ≤ℤ (c *ℤ w) → (l *ℤ w) ≤ℤ (n *ℤ d) → (pos 0) ≤ℤ d → (pos 0) ≤ℤ y → (pos 0) <ℤ w → (l *ℤ y) ≤ℤ (c *ℤ d)
-through_low n w c y l d h0 h1 h2 h3 h4 =
+pub through : (n w c y l d : ℤ) → (n *ℤ y) ≤ℤ (c *ℤ w) → (l *ℤ w) ≤ℤ (n *ℤ d) → (pos 0) ≤ℤ d → (pos 0) ≤ℤ y → (pos 0) <ℤ w → (l *ℤ y) ≤ℤ (c *ℤ d)
+through n w c y l d h0 h1 h2 h3 h4 =
     cancel w (l *ℤ y) (c *ℤ d) h4 (cert (n ∷ w ∷ c ∷ y ∷ l ∷ d ∷ [])
     (((va 0 ⊗ va 3) ≼ (va 2 ⊗ va 1)) ∷ ((va 4 ⊗ va 1) ≼ (va 0 ⊗ va 5)) ∷ (ko (pos 0) ≼ va 5) ∷ (ko (pos 0) ≼ va 3) ∷ (ko (pos 0) ≼ va 1) ∷ [])
     (va 1 ⊗ (va 4 ⊗ va 3)) (va 1 ⊗ (va 2 ⊗ va 5)) ((hy 2 ⊠ hy 0) ⊞ (hy 3 ⊠ hy 1)) refl (h0, (h1, (h2, (h3, (weak (pos 0) w h4, tt))))))
 
-pub through_high : (n w c y l d : ℤ) → (c *ℤ w) ≤ℤ (n *ℤ y) → (n *ℤ d) ≤ℤ (l *ℤ w) → (pos 0) ≤ℤ d → (pos 0) ≤ℤ y → (pos 0) <ℤ w → (c *ℤ d) ≤ℤ (l *ℤ y)
-through_high n w c y l d h0 h1 h2 h3 h4 =
-    cancel w (c *ℤ d) (l *ℤ y) h4 (cert (n ∷ w ∷ c ∷ y ∷ l ∷ d ∷ [])
-    (((va 2 ⊗ va 1) ≼ (va 0 ⊗ va 3)) ∷ ((va 0 ⊗ va 5) ≼ (va 4 ⊗ va 1)) ∷ (ko (pos 0) ≼ va 5) ∷ (ko (pos 0) ≼ va 3) ∷ (ko (pos 0) ≼ va 1) ∷ [])
-    (va 1 ⊗ (va 2 ⊗ va 5)) (va 1 ⊗ (va 4 ⊗ va 3)) ((hy 2 ⊠ hy 0) ⊞ (hy 3 ⊠ hy 1)) refl (h0, (h1, (h2, (h3, (weak (pos 0) w h4, tt))))))
-
-pub scale_low : (p q l w n d : ℤ) → (pos 0) ≤ℤ p → (pos 0) ≤ℤ q → (l *ℤ w) ≤ℤ (n *ℤ d) → ((p *ℤ l) *ℤ (q *ℤ w)) ≤ℤ ((p *ℤ n) *ℤ (q *ℤ d))
-scale_low p q l w n d h0 h1 h2 =
+pub scale : (p q l w n d : ℤ) → (pos 0) ≤ℤ p → (pos 0) ≤ℤ q → (l *ℤ w) ≤ℤ (n *ℤ d) → ((p *ℤ l) *ℤ (q *ℤ w)) ≤ℤ ((p *ℤ n) *ℤ (q *ℤ d))
+scale p q l w n d h0 h1 h2 =
     cert (p ∷ q ∷ l ∷ w ∷ n ∷ d ∷ []) ((ko (pos 0) ≼ va 0) ∷ (ko (pos 0) ≼ va 1) ∷ ((va 2 ⊗ va 3) ≼ (va 4 ⊗ va 5)) ∷ []) ((va 0 ⊗ va 2) ⊗ (va 1 ⊗ va 3))
     ((va 0 ⊗ va 4) ⊗ (va 1 ⊗ va 5)) ((hy 0 ⊠ hy 1) ⊠ hy 2) refl (h0, (h1, (h2, tt)))
 
-pub scale_high : (p q l w n d : ℤ) → (pos 0) ≤ℤ p → (pos 0) ≤ℤ q → (n *ℤ d) ≤ℤ (l *ℤ w) → ((p *ℤ n) *ℤ (q *ℤ d)) ≤ℤ ((p *ℤ l) *ℤ (q *ℤ w))
-scale_high p q l w n d h0 h1 h2 =
-    cert (p ∷ q ∷ l ∷ w ∷ n ∷ d ∷ []) ((ko (pos 0) ≼ va 0) ∷ (ko (pos 0) ≼ va 1) ∷ ((va 4 ⊗ va 5) ≼ (va 2 ⊗ va 3)) ∷ []) ((va 0 ⊗ va 4) ⊗ (va 1 ⊗ va 5))
-    ((va 0 ⊗ va 2) ⊗ (va 1 ⊗ va 3)) ((hy 0 ⊠ hy 1) ⊠ hy 2) refl (h0, (h1, (h2, tt)))
-
-pub scale_low_neg : (p q l w n d : ℤ) → p ≤ℤ pos 0 → (pos 0) ≤ℤ q → (l *ℤ w) ≤ℤ (n *ℤ d) → ((p *ℤ n) *ℤ (q *ℤ d)) ≤ℤ ((p *ℤ l) *ℤ (q *ℤ w))
-scale_low_neg p q l w n d h0 h1 h2 =
+pub scale_neg : (p q l w n d : ℤ) → p ≤ℤ pos 0 → (pos 0) ≤ℤ q → (l *ℤ w) ≤ℤ (n *ℤ d) → ((p *ℤ n) *ℤ (q *ℤ d)) ≤ℤ ((p *ℤ l) *ℤ (q *ℤ w))
+scale_neg p q l w n d h0 h1 h2 =
     cert (p ∷ q ∷ l ∷ w ∷ n ∷ d ∷ []) ((va 0 ≼ ko (pos 0)) ∷ (ko (pos 0) ≼ va 1) ∷ ((va 2 ⊗ va 3) ≼ (va 4 ⊗ va 5)) ∷ []) ((va 0 ⊗ va 4) ⊗ (va 1 ⊗ va 5))
     ((va 0 ⊗ va 2) ⊗ (va 1 ⊗ va 3)) ((hy 0 ⊠ hy 1) ⊠ hy 2) refl (h0, (h1, (h2, tt)))
-
-pub scale_high_neg : (p q l w n d : ℤ) → p ≤ℤ pos 0 → (pos 0) ≤ℤ q → (n *ℤ d) ≤ℤ (l *ℤ w) → ((p *ℤ l) *ℤ (q *ℤ w)) ≤ℤ ((p *ℤ n) *ℤ (q *ℤ d))
-scale_high_neg p q l w n d h0 h1 h2 =
-    cert (p ∷ q ∷ l ∷ w ∷ n ∷ d ∷ []) ((va 0 ≼ ko (pos 0)) ∷ (ko (pos 0) ≼ va 1) ∷ ((va 4 ⊗ va 5) ≼ (va 2 ⊗ va 3)) ∷ []) ((va 0 ⊗ va 2) ⊗ (va 1 ⊗ va 3))
-    ((va 0 ⊗ va 4) ⊗ (va 1 ⊗ va 5)) ((hy 0 ⊠ hy 1) ⊠ hy 2) refl (h0, (h1, (h2, tt)))
 
 pub square_up : (l s u : ℤ) → (pos 0) ≤ℤ l → l ≤ℤ s → s ≤ℤ u → (s *ℤ s) ≤ℤ (u *ℤ u)
 square_up l s u h0 h1 h2 =

@@ -259,18 +259,6 @@ size_first x y d c s e h0 h1 h2 h3 h4 h5 h6 =
     ((ko (pos 12) ⊗ va 2) ⊗ ko (pos 6917529027641081856)) ((((nm 12 ⊠ hy 1) ⊞ (nm 12 ⊠ hy 2)) ⊞ (nm 4611686018427387904 ⊠ hy 4)) ⊞ (hy 6 ⊠ hy 5)) refl
     (h0, (h1, (h2, (h3, (h4, (h5, (weak (pos 0) d h6, tt))))))))
 
-pub size_second : (x y d c s e : ℤ) → ((pos 4611686018427387904 *ℤ x) -ℤ (c *ℤ d)) ≤ℤ (e *ℤ d) → ((c *ℤ d) -ℤ (pos 4611686018427387904 *ℤ x)) ≤ℤ (e *ℤ d)
-    → ((pos 4611686018427387904 *ℤ y) -ℤ (s *ℤ d)) ≤ℤ (e *ℤ d) → ((s *ℤ d) -ℤ (pos 4611686018427387904 *ℤ y)) ≤ℤ (e *ℤ d)
-    → (pos 12 *ℤ (y -ℤ x)) ≤ℤ (pos 17 *ℤ d) → (pos 24 *ℤ e) ≤ℤ pos 4611686018427387904 → (pos 0) <ℤ d → (s -ℤ c) ≤ℤ pos 6917529027641081856
-size_second x y d c s e h0 h1 h2 h3 h4 h5 h6 =
-    cancel (pos 12 *ℤ d) (s -ℤ c) (pos 6917529027641081856) (mul_positive (pos 12) d (lt_pos 0 12 (lit< tt)) h6) (cert (x ∷ y ∷ d ∷ c ∷ s ∷ e ∷ [])
-    ((((ko (pos 4611686018427387904) ⊗ va 0) ⊖ (va 3 ⊗ va 2)) ≼ (va 5 ⊗ va 2)) ∷ (((va 3 ⊗ va 2) ⊖ (ko (pos 4611686018427387904) ⊗ va 0)) ≼ (va 5 ⊗ va 2))
-    ∷ (((ko (pos 4611686018427387904) ⊗ va 1) ⊖ (va 4 ⊗ va 2)) ≼ (va 5 ⊗ va 2))
-    ∷ (((va 4 ⊗ va 2) ⊖ (ko (pos 4611686018427387904) ⊗ va 1)) ≼ (va 5 ⊗ va 2)) ∷ ((ko (pos 12) ⊗ (va 1 ⊖ va 0)) ≼ (ko (pos 17) ⊗ va 2))
-    ∷ ((ko (pos 24) ⊗ va 5) ≼ ko (pos 4611686018427387904)) ∷ (ko (pos 0) ≼ va 2) ∷ []) ((ko (pos 12) ⊗ va 2) ⊗ (va 4 ⊖ va 3))
-    ((ko (pos 12) ⊗ va 2) ⊗ ko (pos 6917529027641081856)) ((((nm 12 ⊠ hy 3) ⊞ (nm 12 ⊠ hy 0)) ⊞ (nm 4611686018427387904 ⊠ hy 4)) ⊞ (hy 6 ⊠ hy 5)) refl
-    (h0, (h1, (h2, (h3, (h4, (h5, (weak (pos 0) d h6, tt))))))))
-
 pub size_neither : (x y d c s e : ℤ) → ((pos 4611686018427387904 *ℤ x) -ℤ (c *ℤ d)) ≤ℤ (e *ℤ d)
     → ((c *ℤ d) -ℤ (pos 4611686018427387904 *ℤ x)) ≤ℤ (e *ℤ d) → ((pos 4611686018427387904 *ℤ y) -ℤ (s *ℤ d)) ≤ℤ (e *ℤ d)
     → ((s *ℤ d) -ℤ (pos 4611686018427387904 *ℤ y)) ≤ℤ (e *ℤ d) → (pos 12 *ℤ ((pos 0 -ℤ x) -ℤ y)) ≤ℤ (pos 17 *ℤ d)

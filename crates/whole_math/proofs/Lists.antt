@@ -1,9 +1,16 @@
--- One more element at the end of a list; std's lemmas on lists have its length and `Any`.
+-- A list of three as its elements, and one more element at the end of a list; std's lemmas on lists have its length and `Any`.
 use Rattle.std.proofs.Common.{◌≡◌, ◌⊎◌, inl, inr, ⊎_elim, ℕ, zero, suc, ◌<◌, ◌≤◌, Some, List, [], ◌∷◌, ◌++◌, length, get_or, Any, arith, sym, ◌∙◌, refl, subst}
 use Rattle.std.specs.Prelude.{slice_get}
 use Rattle.std.proofs.lemmas.Bool.{cases_lt}
 use Rattle.std.proofs.lemmas.List.{length-append, get_or_append_left, get_or_push}
 use Rattle.std.proofs.lemmas.Option.{none-some, same_Some}
+
+pub three_items : {X : Type 0} (xs : List X) (a b c : X) → length xs ≡ 3 → xs ≡ get_or xs 0 a ∷ get_or xs 1 b ∷ get_or xs 2 c ∷ []
+three_items [] a b c three = absurd (omega (arith, three))
+three_items (x ∷ []) a b c three = absurd (omega (arith, three))
+three_items (x ∷ y ∷ []) a b c three = absurd (omega (arith, three))
+three_items (x ∷ y ∷ z ∷ []) a b c three = refl
+three_items (x ∷ y ∷ z ∷ w ∷ xs) a b c three = absurd (omega (arith, three))
 
 -- the elements before the last are those of the list
 pub before_push : {X : Type 0} (xs : List X) (y : X) (i : ℕ) → i < length xs → slice_get (xs ++ y ∷ []) i ≡ slice_get xs i

@@ -1,9 +1,9 @@
 -- Sums over lists: linear, monotone, and in either order.
 use Rattle.std.proofs.Common.{◌≡◌, List, [], ◌∷◌, ◌++◌, ℤ, pos, ◌+ℤ◌, ◌*ℤ◌, arith, sym, ap, ◌∙◌, refl}
-use Rattle.std.proofs.lemmas.Int.{ints}
 use Rattle.whole_math.proofs.Ring.{ring, va, ◌⊕◌, ◌⊗◌}
 use Rattle.whole_math.proofs.Order.{lins}
 use Rattle.whole_math.specs.Sums.{sum_of}
+use Rattle.whole_math.proofs.IntLaws.{mul_zero_ℤ}
 
 pub sum_of-add : {A : Type 0} (f g : A → ℤ) (xs : List A) → sum_of (λ x. f x +ℤ g x) xs ≡ sum_of f xs +ℤ sum_of g xs
 sum_of-add f g [] = refl
@@ -13,10 +13,7 @@ sum_of-add f g (x ∷ xs) = ap (λ z. (f x +ℤ g x) +ℤ z) (sum_of-add f g xs)
     step a b c d = omega (arith, lins)
 
 pub sum_of-scale : {A : Type 0} (k : ℤ) (f : A → ℤ) (xs : List A) → sum_of (λ x. k *ℤ f x) xs ≡ k *ℤ sum_of f xs
-sum_of-scale k f [] = sym (zero k)
-  where
-    zero : (k : ℤ) → k *ℤ pos 0 ≡ pos 0
-    zero k = omega (arith, ints)
+sum_of-scale k f [] = sym (mul_zero_ℤ k)
 sum_of-scale k f (x ∷ xs) = ap (λ z. (k *ℤ f x) +ℤ z) (sum_of-scale k f xs) ∙ step k (f x) (sum_of f xs)
   where
     step : (k a b : ℤ) → (k *ℤ a) +ℤ (k *ℤ b) ≡ k *ℤ (a +ℤ b)

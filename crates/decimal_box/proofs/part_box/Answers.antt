@@ -4,8 +4,8 @@ use Rattle.std.proofs.lemmas.Int.{to_z-of_z}
 use Rattle.std.proofs.lemmas.Result.{IfOk-at_ok}
 use Rattle.std.specs.Int.{w64, w128}
 use Rattle.whole_math.specs.Rounding.{floor_div, ceil_div}
+use Rattle.iv_core.proofs.BoxLaws.{ok_of}
 use Rattle.eph_store.specs.Decimals.{decimal}
-use Rattle.sized_box.proofs.Bounds.{ok_of}
 use Rattle.decimal_box.proofs.Least.{part_room, part_ends, ends_small, not_past, as_box}
 use Rattle.decimal_box.proofs.part_box.Goals as goal
 

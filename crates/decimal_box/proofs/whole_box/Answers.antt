@@ -5,7 +5,7 @@ use Rattle.std.proofs.lemmas.Result.{IfOk-at_ok}
 use Rattle.std.specs.Int.{w64, w128}
 use Rattle.whole_math.specs.Rounding.{floor_div, ceil_div}
 use Rattle.rational.specs.Rational.{of_whole}
-use Rattle.sized_box.proofs.Bounds.{ok_of}
+use Rattle.iv_core.proofs.BoxLaws.{ok_of}
 use Rattle.decimal_box.proofs.Least.{whole_room, whole_is, whole_ends, ends_small, not_past, as_box}
 use Rattle.decimal_box.proofs.whole_box.Goals as goal
 

@@ -3,7 +3,8 @@ use Rattle.std.proofs.lemmas.Result.{IfOk-at_ok}
 use Rattle.rational.specs.Rational.{Rational, InBox, add_r, mul_r}
 use Rattle.iv_core.specs.Boxes.{least_corner, most_corner}
 use Rattle.whole_math.specs.Rounding.{floor_div, ceil_div}
-use Rattle.kepler_box.proofs.Parts.{ok_of, product_fits, sum_fits}
+use Rattle.iv_core.proofs.BoxLaws.{ok_of}
+use Rattle.kepler_box.proofs.Parts.{product_fits, sum_fits}
 use Rattle.kepler_box.proofs.right_side.Goals as goal
 
 pub unwrap-product-requires : goal.unwrap-product-requires

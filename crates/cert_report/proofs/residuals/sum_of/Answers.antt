@@ -1,11 +1,11 @@
 use Rattle.std.proofs.Common.{◌≡◌, ◌+◌, ◌^◌, ◌≤◌, ◌∷◌, List, ℤ, ◌+ℤ◌, drop, map, unsigned_abs, to_z, of_z, sym, ap, ◌∙◌, arith}
 use Rattle.std.specs.Int.{w128}
 use Rattle.std.proofs.lemmas.List.{drop_more}
+use Rattle.std.proofs.Math.IntN.{+ℤ_assoc}
 use Rattle.whole_math.specs.Vectors.{sum}
 use Rattle.whole_math.proofs.Words.{as_w64, as_w128}
 use Rattle.obs_rows.specs.declared.rows.Row.{Row}
 use Rattle.fix_decide.specs.UpperSums.{centre}
-use Rattle.cert_report.proofs.Sums.{behind}
 use Rattle.cert_report.proofs.residuals.sum_of.Goals as goal
 
 pub loop-row-preserved : goal.loop-row-preserved
@@ -21,7 +21,7 @@ loop-row-preserved c =
     let size : unsigned_abs c.plus-sum.result ≤ 2 ^ 62 = omega (arith, c.plus-sum.ensures.size, c.loop-row.invariant.size, c.loop-row-test.true, c.requires.few) in
     let fits : to_z w128 (of_z w128 c.plus-sum.result) ≡ c.plus-sum.result = as_w128 c.plus-sum.result (omega (arith, size)) in
     record {
-      value = ap (λ (x : ℤ). x +ℤ sum (map at (drop (i + 1) rows))) (fits ∙ plus) ∙ behind s (at r) (sum (map at (drop (i + 1) rows)))
+      value = ap (λ (x : ℤ). x +ℤ sum (map at (drop (i + 1) rows))) (fits ∙ plus) ∙ +ℤ_assoc s (at r) (sum (map at (drop (i + 1) rows)))
           ∙ ap (λ (l : List Row). s +ℤ sum (map at l)) (sym split) ∙ c.loop-row.invariant.value;
       size = rw fits (omega (arith, c.plus-sum.ensures.size, c.loop-row.invariant.size));
     }

@@ -7,8 +7,8 @@ use Rattle.whole_math.proofs.Inequalities.{same_by, nat}
 use Rattle.whole_math.proofs.Ring.{◌⊕◌, ◌⊗◌}
 use Rattle.whole_math.proofs.Rounding.{ceil_unique}
 use Rattle.whole_math.proofs.Words.{as_w128}
+use Rattle.whole_math.proofs.Absolute.{abs_pos}
 use Rattle.elimination.proofs.NewEntries.{positive_is}
-use Rattle.elimination.proofs.Guesses.{some_of}
 use Rattle.elimination.proofs.entries.ceil_by.Goals as goal
 
 -- x / a is the quotient upward where what is left is above -a and at most 0
@@ -26,7 +26,7 @@ size_next : (x : ℤ) → unsigned_abs x ≤ 2 ^ 52 → unsigned_abs (x +ℤ pos
 size_next x h = omega (arith, ints)
 
 is_ceil : (n a q : ℤ) → pos 0 <ℤ a → (n ≤ℤ (q *ℤ a)) × ((q *ℤ a) <ℤ (n +ℤ a)) → q ≡ ceil_div n (unsigned_abs a)
-is_ceil n a q p h = ceil_unique n q (unsigned_abs a) (some_of a p) (subst (λ (m : ℤ). (n ≤ℤ (q *ℤ m)) × ((q *ℤ m) <ℤ (n +ℤ m))) (positive_is a p) h)
+is_ceil n a q p h = ceil_unique n q (unsigned_abs a) (abs_pos a p) (subst (λ (m : ℤ). (n ≤ℤ (q *ℤ m)) × ((q *ℤ m) <ℤ (n +ℤ m))) (positive_is a p) h)
 
 guessed : (n a q t : ℤ) → pos 0 <ℤ a → t ≡ pos 2 *ℤ (n -ℤ (q *ℤ a)) → (pos 2 *ℤ neg_ℤ a) <ℤ t → t ≤ℤ pos 0 → q ≡ ceil_div n (unsigned_abs a)
 guessed n a q t p h l u = is_ceil n a q p (left_below n (q *ℤ a) a t h l u)

@@ -1,4 +1,4 @@
-use Rattle.std.proofs.Common.{◌≡◌, ◌≢◌, inl, inr, ℕ, ◌^◌, ◌<◌, ◌≤◌, List, ℤ, ◌-ℤ◌, ◌*ℤ◌, true, false, unsigned_abs, refl, arith, to_z, of_z, sym, ap, ◌∙◌, subst, below_more}
+use Rattle.std.proofs.Common.{◌≡◌, ◌≢◌, inl, inr, ℕ, ◌^◌, ◌<◌, ◌≤◌, List, ℤ, ◌-ℤ◌, ◌*ℤ◌, true, false, unsigned_abs, refl, arith, to_z, of_z, ap, ◌∙◌, subst, below_more, lt_of_lt_of_le}
 use Rattle.std.proofs.lemmas.Int.{to_z-of_z}
 use Rattle.std.specs.Int.{w64, w128}
 use Rattle.whole_math.specs.Rounding.{nearest_div}
@@ -69,15 +69,12 @@ returns-in-None-clause-refused c =
       ),
     )
 
-before_end : (k n c : ℕ) → k < n → n ≤ c → k < c
-before_end k n c h g = omega (arith, h, g)
-
 pub returns-clause-value : goal.returns-clause-value
 returns-clause-value c =
     let ea : word c.args.a ≡ c.args.a = to_z-of_z w128 c.args.a c.ranges.a in
-    λ e k h g. rw ea at (c.loop-c.invariant.value k h (before_end k c.args.columns c.loop-c.c g c.loop-c-test.false))
+    λ e k h g. rw ea at (c.loop-c.invariant.value k h (lt_of_lt_of_le g c.loop-c-test.false))
 
 pub returns-clause-small : goal.returns-clause-small
 returns-clause-small c =
     let ea : word c.args.a ≡ c.args.a = to_z-of_z w128 c.args.a c.ranges.a in
-    λ e k h g. rw ea at (c.loop-c.invariant.small k h (before_end k c.args.columns c.loop-c.c g c.loop-c-test.false))
+    λ e k h g. rw ea at (c.loop-c.invariant.small k h (lt_of_lt_of_le g c.loop-c-test.false))

@@ -1,7 +1,6 @@
-use Rattle.std.proofs.Common.{◌≡◌, ◌≢◌, inl, ⊎_elim, ℕ, ◌-◌, ◌<◌, List, ℤ, pos, true, false, unsigned_abs, arith, sym, ap, ◌∙◌, refl, subst}
+use Rattle.std.proofs.Common.{◌≡◌, ◌≢◌, inl, ⊎_elim, ℕ, ◌-◌, ◌<◌, List, ℤ, pos, true, false, unsigned_abs, arith, sym, ap, ◌∙◌, refl, subst, eq-or-lt_of_le}
 use Rattle.form_tables.specs.Tables.{entry}
 use Rattle.elimination.specs.StepEntries.{is_small, new_entry}
-use Rattle.elimination.proofs.NewEntries.{from_own}
 use Rattle.elimination.proofs.NewRows.{word, read, OwnRow, own_row}
 use Rattle.elimination.proofs.step.update_row.Goals as goal
 
@@ -29,7 +28,7 @@ returns-clause-value c =
     (λ (i : r ≡ k). subst (λ (q : ℕ). entry c.update_others.new.table r q ≡ new_entry t j (unsigned_abs a) (pos m) r q) i
     (c.update_others.ensures.before r (omega arith) ∙ c.set.ensures.there ∙ w.as_word ∙ w.own))
     (λ (i : r < k). c.update_others.ensures.value e k i g ∙ w.others k i)
-    (from_own r k h)
+    (eq-or-lt_of_le h)
 
 pub returns-clause-small : goal.returns-clause-small
 returns-clause-small c =
@@ -45,7 +44,7 @@ returns-clause-small c =
     λ e k h g. ⊎_elim
     (λ (i : r ≡ k). subst (λ (q : ℕ). is_small (new_entry t j (unsigned_abs a) (pos m) r q) ≡ true) i (subst (λ (z : ℤ). is_small z ≡ true) w.own s))
     (λ (i : r < k). subst (λ (z : ℤ). is_small z ≡ true) (w.others k i) (c.update_others.ensures.small e k i g))
-    (from_own r k h)
+    (eq-or-lt_of_le h)
 
 pub returns-clause-refused : goal.returns-clause-refused
 returns-clause-refused c =

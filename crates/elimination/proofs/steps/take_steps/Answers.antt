@@ -1,8 +1,7 @@
-use Rattle.std.proofs.Common.{◌≡◌, ◌≢◌, ◌⊎◌, inl, inr, ℕ, suc, ◌+◌, ◌-◌, ◌<◌, ◌≤◌, ◌^◌, List, [], ◌∷◌, ◌++◌, length, set, ℤ, pos, Result, Err, unsigned_abs, slice_index_or}
+use Rattle.std.proofs.Common.{◌≡◌, ◌≢◌, ◌⊎◌, inl, inr, ℕ, suc, ◌+◌, ◌-◌, ◌<◌, ◌≤◌, ◌^◌, List, [], ◌∷◌, ◌++◌, length, set, ℤ, pos, Err, unsigned_abs, slice_index_or, add-one}
 use Rattle.std.proofs.Common.{get_or-set_same, get_or-set_other, length-set, arith, to_z, of_z, sym, ap, ap₂, ◌∙◌, subst, rules}
 use Rattle.std.specs.Int.{w64, w128}
-use Rattle.quadratic_form.specs.Forms.{Column}
-use Rattle.quadratic_form.specs.Elimination.{Factor, Refusal, steps}
+use Rattle.quadratic_form.specs.Elimination.{Factor, steps, StepsAnswer}
 use Rattle.quadratic_form.specs.Places.{form_from}
 use Rattle.form_tables.specs.Tables.{entry}
 use Rattle.elimination.specs.Stops.{refusal_of, column_at, form_after}
@@ -13,9 +12,6 @@ use Rattle.whole_math.proofs.Words.{as_w64, as_w128}
 use Rattle.elimination.proofs.StoredLaws.{before_last, before_ok, before_err, stored_last, steps_ok, steps_err}
 use Rattle.integer_form.proofs.StoredPlaces.{stored_same}
 use Rattle.elimination.proofs.steps.take_steps.Goals as goal
-
-abbrev Answer : Type 0
-Answer = Result (List Factor × List Column) Refusal
 
 pub returns-in-Err-clause-refused : goal.returns-in-Err-clause-refused
 returns-in-Err-clause-refused c =
@@ -33,9 +29,9 @@ returns-in-Err-clause-refused c =
     let ep : to_z w128 (of_z w128 c.at-pivot.result) ≡ entry c.loop-j.table j j =
     as_w128 c.at-pivot.result (omega (arith, subst (λ (z : ℤ). unsigned_abs z ≤ 2 ^ 52) (sym c.at-pivot.ensures.value) size)) ∙ c.at-pivot.ensures.value in
     let no = refusal_of j (entry c.loop-j.table j j) c.in-Err.stop in
-    c.loop-j.invariant.so_far ∙ ap (λ (x : Answer). before fs x) (open_it ∙ steps_err j left (column_at c.loop-j.table j n) (form_after c.loop-j.table j n) no c.in-Err.ensures.refused)
+    c.loop-j.invariant.so_far ∙ ap (λ (x : StepsAnswer). before fs x) (open_it ∙ steps_err j left (column_at c.loop-j.table j n) (form_after c.loop-j.table j n) no c.in-Err.ensures.refused)
     ∙ before_err fs no
-    ∙ ap (λ (z : ℤ). let x : Answer = Err (refusal_of j z c.in-Err.stop) in x) (sym ep)
+    ∙ ap (λ (z : ℤ). let x : StepsAnswer = Err (refusal_of j z c.in-Err.stop) in x) (sym ep)
 
 pub loop-j-preserved : goal.loop-j-preserved
 loop-j-preserved c =
@@ -59,7 +55,7 @@ loop-j-preserved c =
     let place : from + count ≡ j = omega arith in
     let room : j < length c.loop-j.kept = omega (arith, c.loop-j.invariant.full, c.loop-j-test.true, c.requires.end_in, c.requires.columns_in) in
     let here : slice_index_or kept j (pos 0) ≡ d = get_or-set_same c.loop-j.kept j v (pos 0) room ∙ ev in
-    let rest : Answer = steps (suc j) left (form_after t j n) in
+    let rest : StepsAnswer = steps (suc j) left (form_after t j n) in
     let same : stored kept f c.args.columns from count ≡ fs =
     stored_same kept c.loop-j.kept f c.loop-j.factors c.args.columns from count (λ i a b. get_or-set_other c.loop-j.kept j i v (pos 0) (omega arith))
     (λ r i a b. c.in-Ok.ensures.others r i (inl (omega arith))) in
@@ -69,11 +65,11 @@ loop-j-preserved c =
     let result : before (stored kept f c.args.columns from (suc count)) rest ≡ before (stored kept f c.args.columns from ((j + 1) - from))
     (steps (j + 1) (c.args.end - (j + 1)) (form_from (entry t) (j + 1) (c.args.columns - (j + 1)))) =
     ap (λ (m : ℕ). before (stored kept f c.args.columns from m) rest) (next_count j from low)
-    ∙ ap (λ (m : ℕ). before (stored kept f c.args.columns from ((j + 1) - from)) (steps m left (form_from (entry t) m n))) (next_place j)
+    ∙ ap (λ (m : ℕ). before (stored kept f c.args.columns from ((j + 1) - from)) (steps m left (form_from (entry t) m n))) (sym (add-one j))
     ∙ ap₂ (λ (a b : ℕ). before (stored kept f c.args.columns from ((j + 1) - from)) (steps (j + 1) a (form_from (entry t) (j + 1) b))) (later c.args.end j) (later c.args.columns j) in
     record {
       full = length-set c.loop-j.kept j v ∙ c.loop-j.invariant.full;
-      so_far = c.loop-j.invariant.so_far ∙ ap (λ (x : Answer). before fs x)
+      so_far = c.loop-j.invariant.so_far ∙ ap (λ (x : StepsAnswer). before fs x)
           (open_it ∙ steps_ok j left (column_at c.loop-j.table j n) (form_after c.loop-j.table j n) (factor_at d f j n, form_after t j n) c.in-Ok.ensures.taken)
           ∙ sym (before_last fs (factor_at d f j n) rest) ∙ ap (λ (s : List Factor). before s rest) (sym more) ∙ result;
       factors_outside = λ r i d. c.in-Ok.ensures.others r i (outside from j c.args.end c.args.columns r i low c.loop-j-test.true d) ∙ c.loop-j.invariant.factors_outside r i d;
@@ -93,9 +89,6 @@ loop-j-preserved c =
 
     next_count : (j from : ℕ) → from ≤ j → suc (j - from) ≡ (j + 1) - from
     next_count j from h = omega arith
-
-    next_place : (j : ℕ) → suc j ≡ j + 1
-    next_place j = omega arith
 
     later : (m j : ℕ) → (m - j) - 1 ≡ m - (j + 1)
     later m j = omega arith

@@ -1,4 +1,4 @@
-use Rattle.std.proofs.Common.{◌≡◌, ℕ, ◌+◌, ◌<◌, ℤ, unsigned_abs, arith, sym, subst, ◌^◌, ap₂, ◌∙◌}
+use Rattle.std.proofs.Common.{◌≡◌, ℕ, ◌+◌, ◌<◌, ℤ, unsigned_abs, arith, sym, subst, ◌^◌, ap₂, ◌∙◌, zero-add}
 use Rattle.form_tables.specs.Tables.{entry}
 use Rattle.elimination.proofs.TableLaws.{form_moved, small_of_form, small_table}
 use Rattle.elimination.proofs.tables.fill_form_table.Goals as goal
@@ -12,11 +12,8 @@ copy_row-requires-clause-entries c = λ k l h. small_of_form (entry c.args.table
 pub returns-clause-form : goal.returns-clause-form
 returns-clause-form c = form_moved (entry c.loop-r.p) (entry c.args.table.now) 0 3 c.args.n (λ r k l h. same r k ∙ c.loop-r.invariant.done r k (omega (arith, c.loop-r-test.false)) l h)
   where
-    nothing : (r : ℕ) → 0 + r ≡ r
-    nothing r = omega arith
-
     same : (r k : ℕ) → entry c.loop-r.p (0 + r) (0 + k) ≡ entry c.loop-r.p r k
-    same r k = ap₂ (λ p q. entry c.loop-r.p p q) (nothing r) (nothing k)
+    same r k = ap₂ (λ p q. entry c.loop-r.p p q) (zero-add r) (zero-add k)
 
 pub returns-clause-entries : goal.returns-clause-entries
 returns-clause-entries c = small_table c.loop-r.p c.args.n c.loop-r.invariant.symmetric c.loop-r.invariant.outside

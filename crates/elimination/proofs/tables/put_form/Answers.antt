@@ -1,14 +1,11 @@
-use Rattle.std.proofs.Common.{◌≡◌, ℕ, ◌+◌, ◌-◌, ◌^◌, ◌<◌, ◌≤◌, ℤ, unsigned_abs, arith, sym, ap₂, ◌∙◌, subst}
+use Rattle.std.proofs.Common.{◌≡◌, ℕ, ◌+◌, ◌-◌, ◌^◌, ◌<◌, ◌≤◌, ℤ, unsigned_abs, arith, sym, ap₂, ◌∙◌, subst, zero-add}
 use Rattle.form_tables.specs.Tables.{entry}
 use Rattle.elimination.proofs.TableLaws.{form_moved}
 use Rattle.elimination.proofs.tables.put_form.Goals as goal
 
 pub returns-clause-form : goal.returns-clause-form
 returns-clause-form c = form_moved (entry c.loop-r.table) (entry c.args.p.now) 3 0 c.args.n
-    (λ r k l h. c.loop-r.invariant.done r k (omega (arith, c.loop-r-test.false)) l h ∙ sym (ap₂ (λ p q. entry c.args.p.now p q) (nothing r) (nothing k)))
-  where
-    nothing : (r : ℕ) → 0 + r ≡ r
-    nothing r = omega arith
+    (λ r k l h. c.loop-r.invariant.done r k (omega (arith, c.loop-r-test.false)) l h ∙ sym (ap₂ (λ p q. entry c.args.p.now p q) (zero-add r) (zero-add k)))
 
 pub returns-clause-entries : goal.returns-clause-entries
 returns-clause-entries c = λ r k a l h.

@@ -1,9 +1,10 @@
-use Rattle.std.proofs.Common.{◌≡◌, ℕ, ◌^◌, ◌≤◌, List, All, ℤ, pos, ◌≤ℤ◌, ◌<ℤ◌, IsTrue, FitsSigned, to_z, of_z, arith, sym, refl, subst, rules}
+use Rattle.std.proofs.Common.{◌≡◌, ◌^◌, List, All, ℤ, pos, ◌≤ℤ◌, IsTrue, FitsSigned, to_z, of_z, arith, sym, refl, subst, rules}
 use Rattle.std.proofs.lemmas.Bool.{false≢true}
 use Rattle.std.proofs.lemmas.Int.{ints}
 use Rattle.std.proofs.lemmas.Result.{err_from_is_err_and}
 use Rattle.std.specs.Int.{w128}
 use Rattle.std.specs.Prelude.{IsErrAnd}
+use Rattle.whole_math.proofs.Order.{le_pos}
 use Rattle.obs_rows.specs.Ranges.{IsBelow}
 use Rattle.obs_rows.specs.Signals.{fine_signals}
 use Rattle.integer_form.specs.declared.faults.Overwidth.{Overwidth}
@@ -11,22 +12,14 @@ use Rattle.integer_form.specs.declared.faults.Place.TheVariants.{Sum}
 use Rattle.fix_decide.specs.Widths.{AreWide}
 use Rattle.fix_decide.specs.Decisions.{IsSeparated, first_of, move_of}
 use Rattle.fix_decide.proofs.Words.{small_w128}
-use Rattle.fix_decide.proofs.SessionForms.{second_small, first_small, all_narrow}
+use Rattle.fix_decide.proofs.SessionForms.{second_small, first_small, all_narrow, second_fits}
 use Rattle.fix_decide.proofs.DecisionLaws.{best_by_ratio, strictly_best}
 use Rattle.fix_decide.proofs.decision.decide.Goals as goal
+use Rattle.fix_decide.proofs.UpperLaws.{top_fits}
 
 -- a value below 2^54 that fits its word
 own_word : (x : ℤ) → FitsSigned w128 x → to_z w128 (of_z w128 x) ≡ x
 own_word x h = omega (arith, ints)
-
-small : (x : ℤ) → x <ℤ pos (2 ^ 54) → x ≤ℤ pos (2 ^ 62)
-small x h = omega (arith, ints)
-
-weaker : (x : ℤ) → x ≤ℤ pos (2 ^ 119) → x ≤ℤ pos (2 ^ 126)
-weaker x h = omega (arith, ints)
-
-at_least : (n : ℕ) → 1000 ≤ n → pos 1000 ≤ℤ pos n
-at_least n h = omega (arith, ints)
 
 pub upper_sum-requires-clause-z_size : goal.upper_sum-requires-clause-z_size
 upper_sum-requires-clause-z_size c = first_small c.args.best.now.size c.args.best.now.first c.requires.best.first_small
@@ -48,7 +41,7 @@ pub is_separated-requires-clause-p2_to : goal.is_separated-requires-clause-p2_to
 is_separated-requires-clause-p2_to c =
     let fits : FitsSigned w128 c.args.best.now.p2 = search rules in
     subst (λ (x : ℤ). x ≤ℤ pos (2 ^ 62)) (sym (own_word c.args.best.now.p2 fits))
-    (small c.args.best.now.p2 (second_small c.args.session.now c.args.form.now c.args.best.now c.requires.form c.requires.fine c.requires.best))
+    (second_fits c.args.best.now.p2 (second_small c.args.session.now c.args.form.now c.args.best.now c.requires.form c.requires.fine c.requires.best))
 
 pub returns-clause-fixed : goal.returns-clause-fixed
 returns-clause-fixed c =
@@ -59,7 +52,7 @@ returns-clause-fixed c =
 
 -- the words that are compared are the numbers
 in_words : (ratio top p2 : ℤ) → pos 0 ≤ℤ top → top ≤ℤ pos (2 ^ 119) → FitsSigned w128 p2 → IsSeparated ratio (to_z w128 (of_z w128 top)) (to_z w128 (of_z w128 p2)) → IsSeparated ratio top p2
-in_words ratio top p2 from to fits far = subst (λ (x : ℤ). IsSeparated ratio x p2) (small_w128 top from (weaker top to))
+in_words ratio top p2 from to fits far = subst (λ (x : ℤ). IsSeparated ratio x p2) (small_w128 top from (top_fits top to))
     (subst (λ (x : ℤ). IsSeparated ratio (to_z w128 (of_z w128 top)) x) (own_word p2 fits) far)
 
 pub returns-clause-by_ratio : goal.returns-clause-by_ratio
@@ -74,7 +67,7 @@ returns-clause-strictly_best c =
     let top = c.in_ok-top.ensures in
     let fits : FitsSigned w128 c.args.best.now.p2 = search rules in
     λ yes. strictly_best c.args.session.now c.args.form.now c.args.best.now (pos c.args.ratio) c.in_ok-top.top c.in_ok-moved.moved c.requires.fine c.requires.form c.requires.best top.value
-    (at_least c.args.ratio c.requires.ratio_from) top.from
+    (le_pos 1000 c.args.ratio c.requires.ratio_from) top.from
     (in_words (pos c.args.ratio) c.in_ok-top.top c.args.best.now.p2 top.from top.to fits (c.is_separated.ensures.0 yes))
 
 pub returns-clause-float : goal.returns-clause-float

@@ -1,17 +1,14 @@
-use Rattle.std.proofs.Common.{◌≡◌, ℕ, ◌+◌, ◌*◌, ◌^◌, ◌<◌, ◌≤◌, ◌∷◌, List, length, map, drop, get_or, ℤ, ◌+ℤ◌, to_z, of_z, arith, sym, ap, ◌∙◌, refl, subst, rules, below_more}
+use Rattle.std.proofs.Common.{◌≡◌, ℕ, ◌+◌, ◌^◌, ◌<◌, ◌∷◌, List, length, map, drop, get_or, ℤ, ◌+ℤ◌, to_z, of_z, arith, sym, ap, ◌∙◌, refl, subst, rules, below_more}
 use Rattle.std.proofs.lemmas.Bool.{false≢true}
 use Rattle.std.proofs.lemmas.List.{drop_more, get_or_default}
 use Rattle.std.specs.Int.{w128}
 use Rattle.whole_math.specs.Vectors.{sum}
 use Rattle.obs_rows.specs.declared.pair_rows.PairRows.{PairRows}
-use Rattle.obs_rows.specs.declared.limits.TheConstants.{MOST_PAIRS}
 use Rattle.fix_decide.specs.UpperSums.{pair_upper}
 use Rattle.fix_decide.specs.Widths.{IsWide}
 use Rattle.fix_decide.proofs.GapSums.{next, Step, step}
 use Rattle.fix_decide.proofs.upper_sums.sum_of_pairs.Goals as goal
-
-few : (k n : ℕ) → k < n → n ≤ MOST_PAIRS → (k + 1) * 2 ^ 107 ≤ 2 ^ 125
-few k n h g = omega arith
+use Rattle.fix_decide.proofs.UpperLaws.{few_pairs}
 
 pub returns-in_err-sum-clause-refused : goal.returns-in_err-sum-clause-refused
 returns-in_err-sum-clause-refused c =
@@ -30,7 +27,7 @@ loop-pair-preserved c =
     let s : ℤ = to_z w128 c.loop-pair.sum-bits in
     let q : ℤ = c.in_ok-sum.field-0 in
     let t : Step (to_z w128 (of_z w128 (s +ℤ to_z w128 (of_z w128 q)))) s q k (2 ^ 107) =
-    step s q k (2 ^ 107) c.loop-pair.invariant.from c.loop-pair.invariant.to c.in_ok-sum.ensures.from c.in_ok-sum.ensures.to (few k (length pairs) inside c.requires.few) in
+    step s q k (2 ^ 107) c.loop-pair.invariant.from c.loop-pair.invariant.to c.in_ok-sum.ensures.from c.in_ok-sum.ensures.to (few_pairs k (length pairs) inside c.requires.few) in
     let W : PairRows → Type 0 = IsWide c.args.arcs.now c.args.signals.now c.args.z.now c.args.moved.now in
     record {
       value = next s _ q (f x) (sum (map f later)) (sum (map f pairs)) (ap (λ (l : List PairRows). s +ℤ sum (map f l)) (sym e) ∙ c.loop-pair.invariant.value) c.in_ok-sum.ensures.value t.is;

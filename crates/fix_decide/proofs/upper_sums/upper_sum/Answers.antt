@@ -11,11 +11,8 @@ use Rattle.fix_decide.specs.Widths.{AreWide}
 use Rattle.obs_rows.specs.Signals.{fine_signals}
 use Rattle.whole_math.proofs.Words.{as_w128}
 use Rattle.fix_decide.proofs.Words.{small_w128}
-use Rattle.fix_decide.proofs.UpperLaws.{top_stays_at_most}
+use Rattle.fix_decide.proofs.UpperLaws.{top_stays_at_most, top_fits}
 use Rattle.fix_decide.proofs.upper_sums.upper_sum.Goals as goal
-
-weaker : (x : ℤ) → x ≤ℤ pos (2 ^ 119) → x ≤ℤ pos (2 ^ 126)
-weaker x h = omega (arith, ints)
 
 smaller : (t u : ℤ) → pos 0 ≤ℤ u → u ≤ℤ pos (2 ^ 119) → unsigned_abs t ≤ unsigned_abs u → unsigned_abs t ≤ 2 ^ 126
 smaller t u h g k = omega (arith, ints)
@@ -39,7 +36,7 @@ returns-clause-above c =
     let h : ℕ = c.args.form.now.h in
     let u : ℤ = c.in_ok-sum.sum in
     let t : ℤ = c.ceil_shift.result in
-    let u_word : to_z w128 (of_z w128 u) ≡ u = small_w128 u c.in_ok-sum.ensures.from (weaker u c.in_ok-sum.ensures.to) in
+    let u_word : to_z w128 (of_z w128 u) ≡ u = small_w128 u c.in_ok-sum.ensures.from (top_fits u c.in_ok-sum.ensures.to) in
     let u_is : u ≡ upper_sum arcs ss pairs z m =
     c.in_ok-sum.ensures.value ∙ ap₂ (λ (a : List Arc) (p : List PairRows). upper_sum a c.fine_signals.result.now p z m) c.as_slice.ensures c.as_slice-2.ensures
     ∙ ap (λ (x : List ℕ). upper_sum arcs x pairs z m) c.fine_signals.ensures.value in

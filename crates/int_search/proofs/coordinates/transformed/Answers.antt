@@ -1,24 +1,18 @@
-use Rattle.std.proofs.Common.{◌≡◌, ◌+◌, ◌-◌, ◌<◌, ◌≤◌, ◌^◌, ℕ, List, ℤ, pos, unsigned_abs, arith, refl, sym, ap, ◌∙◌, subst}
+use Rattle.std.proofs.Common.{◌≡◌, ◌+◌, ◌-◌, ◌<◌, ◌≤◌, ◌^◌, ℕ, List, ℤ, unsigned_abs, arith, refl, sym, ap, ◌∙◌, subst}
 use Rattle.form_tables.specs.declared.sizes.TheConstants.{MOST_FORM_COLUMNS}
-use Rattle.form_tables.specs.Tables.{entry, zero_rows, IsZeroOutside}
-use Rattle.form_tables.proofs.TableLaws.{zero_entry}
+use Rattle.form_tables.specs.Tables.{entry, IsZeroOutside}
+use Rattle.form_tables.proofs.TableLaws.{all_zero, zero_small}
 use Rattle.integer_form.specs.Forms.{integers_of}
 use Rattle.integer_form.specs.Kept.{form_of_table}
 use Rattle.int_search.specs.Transformed.{half_entry, IsTransformedSmall, IsTransformed}
 use Rattle.int_search.proofs.TransformedLaws.{wholes_as, table_symmetric, table_form}
 use Rattle.int_search.proofs.coordinates.transformed.Goals as goal
 
-is_zero : (t : List (List ℤ)) → t ≡ zero_rows MOST_FORM_COLUMNS MOST_FORM_COLUMNS → (i j : ℕ) → entry t i j ≡ pos 0
-is_zero t zeros i j = ap (λ (t : List (List ℤ)). entry t i j) zeros ∙ zero_entry MOST_FORM_COLUMNS MOST_FORM_COLUMNS i j
-
-none : unsigned_abs (pos 0) < 2 ^ 52
-none = omega arith
-
 pub write_wholes-requires-clause-entries : goal.write_wholes-requires-clause-entries
-write_wholes-requires-clause-entries c = λ i j. subst (λ (x : ℤ). unsigned_abs x < 2 ^ 52) (sym (is_zero c.zeros-p.result c.zeros-p.ensures.zeros i j)) none
+write_wholes-requires-clause-entries c = λ i j. subst (λ (x : ℤ). unsigned_abs x < 2 ^ 52) (sym (all_zero MOST_FORM_COLUMNS MOST_FORM_COLUMNS c.zeros-p.result c.zeros-p.ensures.zeros i j)) zero_small
 
 pub write_wholes-requires-clause-outside : goal.write_wholes-requires-clause-outside
-write_wholes-requires-clause-outside c = λ i j past. is_zero c.zeros-p.result c.zeros-p.ensures.zeros i j
+write_wholes-requires-clause-outside c = λ i j past. all_zero MOST_FORM_COLUMNS MOST_FORM_COLUMNS c.zeros-p.result c.zeros-p.ensures.zeros i j
 
 pub returns-then-not-write_wholes-clause-form : goal.returns-then-not-write_wholes-clause-form
 returns-then-not-write_wholes-clause-form c =

@@ -1,6 +1,6 @@
-use Rattle.std.proofs.Common.{◌≡◌, ◌+◌, ◌-◌, ◌<◌, ℕ, List, ℤ, arith, sym, ap₂, ◌∙◌, refl, length, subst, Result, Ok, Err}
+use Rattle.std.proofs.Common.{◌≡◌, ◌+◌, ◌-◌, ◌<◌, ℕ, List, ℤ, arith, sym, ap₂, ◌∙◌, refl, length, subst, Ok, Err}
 use Rattle.quadratic_form.specs.Forms.{Column}
-use Rattle.quadratic_form.specs.Elimination.{Factor, Refusal, steps}
+use Rattle.quadratic_form.specs.Elimination.{Factor, Refusal, steps, StepsAnswer}
 use Rattle.form_tables.specs.declared.sizes.TheConstants.{MOST_INTEGERS}
 use Rattle.decorrelate.specs.declared.unimodular.Unimodular.{Unimodular}
 use Rattle.decorrelate.specs.Inverses.{Undoes}
@@ -33,7 +33,7 @@ fewer a b n same count = omega arith
 more : (f : Form) (a b : ℕ) → 4 < f.columns → a ≡ b → b ≡ integers_of f + 4 → 4 < a
 more f a b some same count = omega arith
 
-apart : (p : List Factor × List Column) (r : Refusal) → (let x : Result (List Factor × List Column) Refusal = Ok p in x) ≡ Err r → ⊥
+apart : (p : List Factor × List Column) (r : Refusal) → (let x : StepsAnswer = Ok p in x) ≡ Err r → ⊥
 apart p r same = cc
 
 -- the steps of the front are those of the form in the coordinates of the map

@@ -1,4 +1,4 @@
-use Rattle.std.proofs.Common.{◌≡◌, ◌⊎◌, ⊎_elim, ℕ, suc, ◌+◌, ◌-◌, ◌^◌, ◌<◌, ◌≤◌, nat_lt, true, false, List, ℤ, pos, length, set, length-set, get_or-set_same, get_or-set_other}
+use Rattle.std.proofs.Common.{◌≡◌, ⊎_elim, ℕ, suc, ◌+◌, ◌-◌, ◌^◌, ◌<◌, ◌≤◌, nat_lt, true, false, List, ℤ, pos, length, set, length-set, get_or-set_same, get_or-set_other, eq-or-lt_of_le}
 use Rattle.std.proofs.Common.{unsigned_abs, to_z, of_z, arith, sym, ap, ◌∙◌, subst, rules}
 use Rattle.std.specs.Int.{w64, w128}
 use borrow.Author.Tests.{ltb-true}
@@ -58,15 +58,12 @@ loop-k-preserved g c =
           (moved d c.args.l.now c.args.columns (c.args.count - c.loop-k.k) j k x s start (c.loop-k.invariant.solved d)) c.number_of-number.ensures.value here same
           ∙ ap (λ (m : ℕ). solved (stored d c.args.l.now c.args.columns j m) s) more);
       narrow = λ i a b. ⊎_elim (λ (e : j ≡ i). subst (λ (m : ℕ). unsigned_abs (item y m) < 2 ^ 46) e (subst (λ (z : ℤ). unsigned_abs z < 2 ^ 46) (sym here) fits))
-          (λ (h : j < i). subst (λ (z : ℤ). unsigned_abs z < 2 ^ 46) (sym (same i h)) (c.loop-k.invariant.narrow i (omega arith) b)) (order j i (omega arith));
+          (λ (h : j < i). subst (λ (z : ℤ). unsigned_abs z < 2 ^ 46) (sym (same i h)) (c.loop-k.invariant.narrow i (omega arith) b)) (eq-or-lt_of_le {n = j} {m = i} (omega arith));
       outside = λ i a. same i (omega (arith, c.loop-k-test.true)) ∙ c.loop-k.invariant.outside i a;
     }
   where
     size : (x : ℤ) → nat_lt (unsigned_abs x) (2 ^ 46) ≡ true → unsigned_abs x < 2 ^ 46
     size x h = omega (arith, ltb-true)
-
-    order : (j i : ℕ) → j ≤ i → (j ≡ i) ⊎ (j < i)
-    order j i h = grind arith
 
 pub returns-clause-solved : goal.returns-clause-solved
 returns-clause-solved g c = λ d.

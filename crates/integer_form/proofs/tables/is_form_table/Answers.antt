@@ -2,6 +2,7 @@ use Rattle.std.proofs.Common.{◌≡◌, ◌⊎◌, ⊎_elim, inl, inr, ℕ, ◌
 use Rattle.std.proofs.lemmas.List.{get_or_past}
 use Rattle.form_tables.specs.declared.sizes.TheConstants.{MOST_FORM_COLUMNS}
 use Rattle.form_tables.specs.Tables.{entry, HasShape}
+use Rattle.form_tables.proofs.TableLaws.{zero_small}
 use Rattle.integer_form.proofs.tables.is_form_table.Goals as goal
 
 either : (i : ℕ) → (i < MOST_FORM_COLUMNS) ⊎ (MOST_FORM_COLUMNS ≤ i)
@@ -27,9 +28,6 @@ swap : {A B : Type 0} → A ⊎ B → B ⊎ A
 swap (inl a) = inr a
 swap (inr b) = inl b
 
-none : unsigned_abs (pos 0) < 2 ^ 52
-none = omega arith
-
 pub returns-clause-symmetric : goal.returns-clause-symmetric
 returns-clause-symmetric c = λ e. all c.args.p.now c.at-first.ensures.shape (λ i j. entry c.args.p.now i j ≡ entry c.args.p.now j i)
     (λ i j a b. c.loop-r.invariant.symmetric i j (omega (arith, c.loop-r-test.false)) b)
@@ -38,7 +36,7 @@ returns-clause-symmetric c = λ e. all c.args.p.now c.at-first.ensures.shape (λ
 pub returns-clause-entries : goal.returns-clause-entries
 returns-clause-entries c = λ e. all c.args.p.now c.at-first.ensures.shape (λ i j. unsigned_abs (entry c.args.p.now i j) < 2 ^ 52)
     (λ i j a b. c.loop-r.invariant.small i j (omega (arith, c.loop-r-test.false)) b)
-    (λ i j h. subst (λ (z : ℤ). unsigned_abs z < 2 ^ 52) (sym (past c.args.p.now c.at-first.ensures.shape i j h)) none)
+    (λ i j h. subst (λ (z : ℤ). unsigned_abs z < 2 ^ 52) (sym (past c.args.p.now c.at-first.ensures.shape i j h)) zero_small)
 
 pub returns-clause-outside : goal.returns-clause-outside
 returns-clause-outside c = λ e. all c.args.p.now c.at-first.ensures.shape (λ i j. (c.args.n ≤ i) ⊎ (c.args.n ≤ j) → entry c.args.p.now i j ≡ pos 0)

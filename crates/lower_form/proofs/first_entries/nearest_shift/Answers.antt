@@ -1,4 +1,4 @@
-use Rattle.std.proofs.Common.{◌≡◌, ℕ, suc, ◌+◌, ◌*◌, ◌^◌, ◌≤◌, ℤ, pos, ◌+ℤ◌, ◌*ℤ◌, ◌≤ℤ◌, unsigned_abs, to_z, of_z, arith, sym, ap, ap₂, ◌∙◌, subst, pow_pos}
+use Rattle.std.proofs.Common.{◌≡◌, ℕ, ◌+◌, ◌*◌, ◌^◌, ◌≤◌, ℤ, pos, ◌+ℤ◌, ◌*ℤ◌, ◌≤ℤ◌, unsigned_abs, to_z, of_z, arith, sym, ap, ap₂, ◌∙◌, subst, pow_pos, add-one}
 use Rattle.std.proofs.Math.Nat.{pow-succ'}
 use Rattle.std.proofs.lemmas.Int.{ints, to_z-of_z}
 use Rattle.std.specs.Int.{w128}
@@ -9,10 +9,7 @@ use Rattle.lower_form.proofs.first_entries.nearest_shift.Goals as goal
 
 -- half a unit is added before the rounding downward
 nearest_of : (z x : ℤ) (s : ℕ) → x ≡ (pos 2 *ℤ z) +ℤ pos (2 ^ s) → floor_div x (2 ^ (s + 1)) ≡ nearest_div z (2 ^ s)
-nearest_of z x s e = ap (λ (y : ℤ). floor_div y (2 ^ (s + 1))) e ∙ ap (λ (m : ℕ). floor_div ((pos 2 *ℤ z) +ℤ pos (2 ^ s)) m) (ap (λ (k : ℕ). 2 ^ k) (next s) ∙ pow-succ' 2 s)
-  where
-    next : (s : ℕ) → s + 1 ≡ suc s
-    next s = omega arith
+nearest_of z x s e = ap (λ (y : ℤ). floor_div y (2 ^ (s + 1))) e ∙ ap (λ (m : ℕ). floor_div ((pos 2 *ℤ z) +ℤ pos (2 ^ s)) m) (ap (λ (k : ℕ). 2 ^ k) (add-one s) ∙ pow-succ' 2 s)
 
 unit_word : (x : ℤ) → pos 0 ≤ℤ x → x ≤ℤ pos (2 ^ 90) → to_z w128 (of_z w128 x) ≡ x
 unit_word x h g = as_w128 x (small x h g)

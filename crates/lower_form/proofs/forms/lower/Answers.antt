@@ -1,5 +1,4 @@
-use Rattle.std.proofs.Common.{Result, Ok, Err, IfOk, IfErr}
-use Rattle.std.proofs.lemmas.Result.{err_from_is_err_and}
+use Rattle.std.proofs.lemmas.Result.{err_from_is_err_and, IfOk-weaker, IfErr-weaker}
 use Rattle.normal_sum.specs.declared.normal.Normal.{Normal}
 use Rattle.integer_form.specs.declared.front_form.FrontForm.{FrontForm}
 use Rattle.integer_form.specs.declared.form.Form.{Form}
@@ -8,14 +7,6 @@ use Rattle.lower_form.specs.Forms.{IsFrontOf}
 use Rattle.lower_form.proofs.LowerLaws.{lower_is, front_told, finish_told}
 use Rattle.lower_form.proofs.forms.lower.Goals as goal
 
-if_ok : {A E : Type 0} {P Q : A → Type 0} (r : Result A E) → ((a : A) → P a → Q a) → IfOk r P → IfOk r Q
-if_ok (Ok a) f p = f a p
-if_ok (Err e) f p = p
-
-if_err : {A E : Type 0} {P Q : E → Type 0} (r : Result A E) → ((e : E) → P e → Q e) → IfErr r P → IfErr r Q
-if_err (Ok a) f p = p
-if_err (Err e) f p = f e p
-
 abbrev Halves : Normal → Form → Type 0
 Halves n f = (r : FrontForm) × (IsFrontOf n r × IsFinishOf r f)
 
@@ -23,13 +14,13 @@ halves : (n : Normal) (r : FrontForm) (f : Form) → IsFrontOf n r → IsFinishO
 halves n r f a b = (r, (a, b))
 
 pub returns-clause-lower : goal.returns-clause-lower
-returns-clause-lower c = if_ok _ (λ f b. lower_is c.args.normal.now c.in_ok-first.first f c.in_ok-first.ensures.front b) c.finish.ensures.finished
+returns-clause-lower c = IfOk-weaker _ _ _ (λ f b. lower_is c.args.normal.now c.in_ok-first.first f c.in_ok-first.ensures.front b) c.finish.ensures.finished
 
 pub returns-clause-halves : goal.returns-clause-halves
-returns-clause-halves c = if_ok _ (λ f b. halves c.args.normal.now c.in_ok-first.first f c.in_ok-first.ensures.front b) c.finish.ensures.finished
+returns-clause-halves c = IfOk-weaker _ _ _ (λ f b. halves c.args.normal.now c.in_ok-first.first f c.in_ok-first.ensures.front b) c.finish.ensures.finished
 
 pub returns-clause-refused : goal.returns-clause-refused
-returns-clause-refused c = if_err _ (λ e t. finish_told c.args.normal.now c.in_ok-first.first e c.in_ok-first.ensures.front t) c.finish.ensures.refused
+returns-clause-refused c = IfErr-weaker _ _ _ (λ e t. finish_told c.args.normal.now c.in_ok-first.first e c.in_ok-first.ensures.front t) c.finish.ensures.refused
 
 pub returns-in_err-first-clause-refused : goal.returns-in_err-first-clause-refused
 returns-in_err-first-clause-refused c =

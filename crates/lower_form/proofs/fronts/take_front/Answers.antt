@@ -1,4 +1,5 @@
-use Rattle.std.proofs.Common.{◌≡◌, ℕ, ◌-◌, List, Result, Ok, Err, OnOk, arith, sym, ap, ◌∙◌}
+use Rattle.std.proofs.Common.{◌≡◌, ℕ, ◌-◌, List, arith, sym, ap, ◌∙◌}
+use Rattle.std.proofs.lemmas.Result.{on_ok_weaker}
 use Rattle.quadratic_form.specs.Forms.{Column}
 use Rattle.quadratic_form.specs.Elimination.{steps}
 use Rattle.quadratic_form.specs.Places.{form_from}
@@ -8,17 +9,13 @@ use Rattle.integer_form.specs.Factors.{stored}
 use Rattle.lower_form.proofs.FrontLaws.{bounds_all}
 use Rattle.lower_form.proofs.fronts.take_front.Goals as goal
 
-on_ok : {A E : Type 0} {P Q : Type 0} (r : Result A E) → (P → Q) → OnOk r P → OnOk r Q
-on_ok (Ok a) f p = f p
-on_ok (Err e) f p = p
-
 pub returns-clause-bound : goal.returns-clause-bound
 returns-clause-bound c =
     let n : ℕ = c.args.normal.now.columns in
     let all : n - 0 ≡ n = omega arith in
     let three : 3 - 0 ≡ 3 = omega arith in
     let start : form_from (entry c.round.new.table) 0 n ≡ first_form c.args.h c.args.normal.now = c.round.ensures.rounded c.if-not-round.false in
-    on_ok c.take_steps.result (λ e arcs ss pairs k. bounds_all arcs ss pairs c.args.normal.now c.args.h (
+    on_ok_weaker c.take_steps.result (λ e arcs ss pairs k. bounds_all arcs ss pairs c.args.normal.now c.args.h (
       stored c.take_steps.new.kept c.take_steps.new.factors n 0 3,
       form_from
           (entry c.take_steps.new.table) 3 (n - 3),

@@ -1,4 +1,4 @@
-use Rattle.std.proofs.Common.{◌≡◌, ⊎_elim, ℕ, ◌<◌, ◌≤◌, arith, sym, ◌∙◌, below_more}
+use Rattle.std.proofs.Common.{◌≡◌, ⊎_elim, ℕ, ◌<◌, ◌≤◌, arith, sym, ◌∙◌, below_more, lt_of_lt_of_le}
 use Rattle.std.proofs.lemmas.Bool.{cases_lt}
 use Rattle.form_tables.specs.Tables.{entry}
 use Rattle.normal_sum.proofs.mirror.mirror.Goals as goal
@@ -19,9 +19,6 @@ returns c =
     let n : ℕ = c.args.columns in
     record {
       above = λ i j h. c.clear_below.ensures.above i j h ∙ c.loop-row.invariant.above i j h;
-      below = λ i j h g. ⊎_elim (λ (a : j < n). c.clear_below.ensures.first j i a ∙ c.loop-row.invariant.below i j h (within j n c.loop-row.row a c.loop-row-test.false))
+      below = λ i j h g. ⊎_elim (λ (a : j < n). c.clear_below.ensures.first j i a ∙ c.loop-row.invariant.below i j h (lt_of_lt_of_le a c.loop-row-test.false))
           (λ (a : n ≤ j). c.clear_below.ensures.cleared i j h a g ∙ sym (c.requires.outside i j h a g)) (cases_lt j n);
     }
-  where
-    within : (j n k : ℕ) → j < n → n ≤ k → j < k
-    within j n k h g = omega (arith, h, g)

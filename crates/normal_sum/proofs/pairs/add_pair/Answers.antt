@@ -1,9 +1,8 @@
-use Rattle.std.proofs.Common.{◌≡◌, ⊎_elim, ℕ, ◌+◌, ◌*◌, ◌/◌, ◌^◌, ◌<◌, ◌≤◌, [], ◌∷◌, List, ℤ, pos, ◌+ℤ◌, ◌*ℤ◌, to_z, of_z, length, map, drop, get_or, slice_index_or, Option, None, IfSome, arith, sym, ap, ◌∙◌, subst, rules}
+use Rattle.std.proofs.Common.{◌≡◌, ⊎_elim, ℕ, ◌+◌, ◌*◌, ◌/◌, ◌^◌, ◌<◌, ◌≤◌, [], ◌∷◌, List, pos, ◌+ℤ◌, ◌*ℤ◌, to_z, of_z, length, map, drop, get_or, slice_index_or, Option, None, IfSome, arith, sym, ap, ◌∙◌, subst, rules}
 use Rattle.std.proofs.lemmas.Bool.{cases_lt}
 use Rattle.std.proofs.lemmas.List.{drop_more, drop_all}
 use Rattle.std.specs.Int.{w64}
 use Rattle.whole_math.specs.Vectors.{sum}
-use Rattle.whole_math.proofs.Order.{lins}
 use Rattle.quadratic_form.specs.Rows.{SignalGroup}
 use Rattle.quadratic_form.specs.MatrixEntries.{group_entry, matrix_entry}
 use Rattle.form_tables.specs.declared.sizes.TheConstants.{BASELINE_COLUMNS}
@@ -20,6 +19,7 @@ use Rattle.normal_sum.proofs.RowSums.{next_sum}
 use Rattle.normal_sum.proofs.DirectionLaws.{baseline_entries}
 use Rattle.normal_sum.proofs.PlaceLaws.{are_places, are_within, phase_within}
 use Rattle.normal_sum.proofs.pairs.add_pair.Goals as goal
+use Rattle.normal_sum.proofs.NormalLaws.{zero_last}
 
 larger : (a b d i : ℕ) → a ≤ b + 2 ^ 105 → b ≤ d + (i * 2 ^ 105) → a ≤ d + ((i + 1) * 2 ^ 105)
 larger a b d i h g = omega arith
@@ -59,9 +59,6 @@ loop-signal-preserved c =
       baseline = λ i j h. c.add_signal.ensures.baseline i j h ∙ c.loop-signal.invariant.baseline i j h;
     }
 
-no_more : (x a : ℤ) → x +ℤ pos 0 ≡ a → x ≡ a
-no_more x a whole = omega (arith, lins)
-
 pub returns-clause-added : goal.returns-clause-added
 returns-clause-added c =
     let arcs : List Arc = c.args.arcs.now in
@@ -77,6 +74,6 @@ returns-clause-added c =
     ∙ ap (λ (l : List Row). entry c.args.table.now i j +ℤ (direction_spread l i j *ℤ (pos (360360 / length l) *ℤ sum (map weight signals)))) c.as_slice-rows.ensures
     ∙ ap (λ z. entry c.args.table.now i j +ℤ z) (sym (baseline_entries arcs signals c.args.pair.now signals i j (omega arith) b)))
     (λ (b : BASELINE_COLUMNS ≤ j). c.add_directions.ensures.behind i j b
-    ∙ no_more _ _ (ap (λ (l : List ℕ). entry c.loop-signal.table i j +ℤ matrix_entry (map (signal_group arcs signals c.args.pair.now) l) i j) (sym past)
+    ∙ zero_last _ _ (ap (λ (l : List ℕ). entry c.loop-signal.table i j +ℤ matrix_entry (map (signal_group arcs signals c.args.pair.now) l) i j) (sym past)
     ∙ c.loop-signal.invariant.sums i j h b g))
     (cases_lt j BASELINE_COLUMNS)

@@ -1,6 +1,6 @@
 use Rattle.std.proofs.Common.{◌≡◌, ℕ, ◌+◌, ◌<◌, ◌≢◌, ℤ, pos, ◌+ℤ◌, arith, ap, ◌∙◌, slice_index_or, Option, Some, None, IfSome}
+use Rattle.std.proofs.Math.IntN.{+ℤ_idr}
 use Rattle.form_tables.specs.declared.sizes.TheConstants.{BASELINE_COLUMNS}
-use Rattle.normal_sum.proofs.NormalLaws.{no_right}
 use Rattle.normal_sum.proofs.signals.add_row.Goals as goal
 
 -- a column after that of the constant is none of an integer
@@ -15,4 +15,4 @@ pub returns-clause-beyond : goal.returns-clause-beyond
 returns-clause-beyond c = λ j h g.
     let zero : slice_index_or c.put_coefficients.new.values j (pos 0) ≡ pos 0 =
     c.put_coefficients.ensures.others j (omega (arith, h)) (after_constant c.args.integers j h) (no_integer c.args.place c.args.integers j c.requires.place h) in
-    c.add_used.ensures.sums j g ∙ ap (λ (z : ℤ). slice_index_or c.args.total.now j (pos 0) +ℤ z) zero ∙ no_right (slice_index_or c.args.total.now j (pos 0))
+    c.add_used.ensures.sums j g ∙ ap (λ (z : ℤ). slice_index_or c.args.total.now j (pos 0) +ℤ z) zero ∙ +ℤ_idr (slice_index_or c.args.total.now j (pos 0))

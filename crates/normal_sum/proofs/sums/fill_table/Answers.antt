@@ -1,5 +1,5 @@
-use Rattle.std.proofs.Common.{◌≡◌, ℕ, ◌+◌, ◌*◌, ◌^◌, ◌<◌, ◌≤◌, ◌∷◌, [], List, ℤ, ◌+ℤ◌, pos, length, drop, unsigned_abs, slice_index_or, arith, sym, ap, ◌∙◌, subst, rules}
-use Rattle.std.proofs.lemmas.List.{drop_more}
+use Rattle.std.proofs.Common.{◌≡◌, ℕ, ◌+◌, ◌*◌, ◌^◌, ◌<◌, ◌≤◌, ◌∷◌, [], List, ℤ, ◌+ℤ◌, pos, length, drop, unsigned_abs, slice_index_or, arith, sym, ap, ◌∙◌, subst, rules, le_of_lt}
+use Rattle.std.proofs.lemmas.List.{drop_more, drop_all}
 use Rattle.std.proofs.lemmas.Int.{ints}
 use Rattle.whole_math.proofs.Order.{lins}
 use Rattle.quadratic_form.specs.Rows.{SignalGroup, columns, Radii, add_radii, radii}
@@ -22,12 +22,9 @@ use Rattle.normal_sum.specs.RadiusSums.{radii_of}
 use Rattle.normal_sum.proofs.PlaceLaws.{count_within}
 use Rattle.normal_sum.proofs.RowSums.{next_sum}
 use Rattle.normal_sum.proofs.RadiusLaws.{radii_assoc, at_most_wider}
-use Rattle.normal_sum.proofs.NormalLaws.{entries_everywhere, mirrored_entries, mirrored_sizes, below_is, radii_start, radii_end, radii_append, drop_end, radii_within, words_are, four_and, zero_first}
+use Rattle.normal_sum.proofs.NormalLaws.{entries_everywhere, mirrored_entries, mirrored_sizes, below_is, radii_start, radii_end, radii_append, radii_within, words_are, four_and, zero_first, zero_last}
 use Rattle.obs_rows.specs.declared.limits.TheConstants.{MOST_PAIRS}
 use Rattle.normal_sum.proofs.sums.fill_table.Goals as goal
-
-zero_last : (a b : ℤ) → a +ℤ pos 0 ≡ b → a ≡ b
-zero_last a b e = omega (arith, lins)
 
 size_zero : (x : ℤ) → x ≡ pos 0 → unsigned_abs x ≤ 0 * 2 ^ 108
 size_zero x e = omega (arith, ints)
@@ -111,13 +108,10 @@ mirror-requires-clause-outside c =
     let pairs : List PairRows = c.args.pairs.now in
     let k : ℕ = c.loop-pair.pair-index in
     let last : length pairs ≤ k = search rules in
-    let none : drop k pairs ≡ [] = drop_end pairs k last in
-    λ i j h g l. zero_last _ _ (ap (λ (p : List PairRows). entry c.loop-pair.table i j +ℤ matrix_entry (signal_groups arcs ss p) i j) (sym none) ∙ c.loop-pair.invariant.sums i j (before i j h) l)
+    let none : drop k pairs ≡ [] = drop_all k pairs last in
+    λ i j h g l. zero_last _ _ (ap (λ (p : List PairRows). entry c.loop-pair.table i j +ℤ matrix_entry (signal_groups arcs ss p) i j) (sym none) ∙ c.loop-pair.invariant.sums i j (le_of_lt h) l)
     ∙ matrix_past (integer_count arcs ss) (signal_groups arcs ss pairs) i j (groups_of arcs ss pairs) (after (integer_count arcs ss) c.args.integers j (four_and (integer_count arcs ss)) c.requires.integers g)
   where
-    before : (i j : ℕ) → i < j → i ≤ j
-    before i j h = omega (arith, h)
-
     after : (n m j : ℕ) → columns n ≡ 4 + n → m ≡ n → (3 + m) + 1 ≤ j → columns n ≤ j
     after n m j e is h = omega (arith, e, is, h)
 
@@ -126,7 +120,7 @@ returns-clause-entries c =
     let k : ℕ = c.loop-pair.pair-index in
     let last : length c.args.pairs.now ≤ k = search rules in
     all_entries c.args.arcs.now c.args.signals.now c.args.pairs.now k c.loop-pair.table c.mirror.new.table c.requires.counted c.requires.free c.at-first.ensures.shape c.mirror.ensures
-    (drop_end c.args.pairs.now k last) c.loop-pair.invariant.sums
+    (drop_all k c.args.pairs.now last) c.loop-pair.invariant.sums
 
 pub returns-clause-entries_in : goal.returns-clause-entries_in
 returns-clause-entries_in c =
@@ -144,7 +138,7 @@ returns-clause-radii c =
     let k : ℕ = c.loop-pair.pair-index in
     let last : length pairs ≤ k = search rules in
     let upper : k ≤ length pairs = search rules in
-    let none : drop c.loop-pair.pair-index c.args.pairs.now ≡ [] = drop_end pairs k last in
+    let none : drop c.loop-pair.pair-index c.args.pairs.now ≡ [] = drop_all k pairs last in
     let within : k * 2 ^ 79 < 2 ^ 100 = radii_range k (length pairs) upper c.requires.few in
     words_are c.loop-pair.radii (k * 2 ^ 79) c.loop-pair.invariant.radii_size within ∙ ap (λ (r : Radii). radius_list r)
     (sym (radii_end (radii_of c.loop-pair.radii)) ∙ ap (λ (l : List PairRows). add_radii (radii_of c.loop-pair.radii) (radii (signal_groups arcs ss l))) (sym none)

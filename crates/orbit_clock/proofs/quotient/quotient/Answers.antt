@@ -7,7 +7,8 @@ use Rattle.whole_math.specs.Rounding.{floor_div, ceil_div}
 use Rattle.rational.specs.Rational.{Rational, IsRatio}
 use Rattle.iv_core.specs.declared.Iv.{Iv}
 use Rattle.iv_core.specs.Intervals.{Holds, width_of}
-use Rattle.sized_box.proofs.Bounds.{ok_of, same_within}
+use Rattle.iv_core.proofs.BoxLaws.{ok_of}
+use Rattle.sized_box.proofs.Bounds.{same_within}
 use Rattle.orbit_clock.proofs.Quotients.{quotient_room, not_past, same_ends}
 use Rattle.orbit_clock.proofs.quotient.quotient.Goals as goal
 

@@ -1,7 +1,7 @@
 use Rattle.std.proofs.Common.{◌≡◌, length, get_or, append_assoc, refl, arith}
+use Rattle.whole_math.proofs.Lists.{three_items}
 use Rattle.iv_core.specs.declared.Iv.{Iv}
 use Rattle.report_text.specs.Orbit.{ends_of}
-use Rattle.report_text.proofs.OrbitLaws.{three_is}
 use Rattle.report_text.proofs.orbit.write_box.Goals as goal
 
 pub returns : goal.returns
@@ -16,7 +16,7 @@ returns c =
         first = x;
         second = y;
         third = z;
-        place = three_is c.args.found.now.place _ _ _ three;
+        place = three_items c.args.found.now.place _ _ _ three;
         x = refl;
         y = refl;
         z = refl;

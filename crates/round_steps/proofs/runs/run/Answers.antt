@@ -1,12 +1,8 @@
-use Rattle.std.proofs.Common.{IfOk, Result, Ok, Err, subst}
-use Rattle.round_steps.specs.declared.runs.RunEnd.{RunEnd}
-use Rattle.round_steps.specs.Runs.{Rules, SettlesAt, IsCoarseEnd, IsEnd}
+use Rattle.std.proofs.Common.{subst}
+use Rattle.std.proofs.lemmas.Result.{IfOk-weaker}
+use Rattle.round_steps.specs.Runs.{Rules, SettlesAt, IsCoarseEnd}
 use Rattle.round_steps.proofs.SameRules.{stayed, settles, ends}
 use Rattle.round_steps.proofs.runs.run.Goals as goal
-
-if_ok : {A E : Type 0} {P Q : A → Type 0} (r : Result A E) → ((a : A) → P a → Q a) → IfOk r P → IfOk r Q
-if_ok (Ok a) f p = f a p
-if_ok (Err e) f p = p
 
 pub fine_rounds-requires-clause-first : goal.fine_rounds-requires-clause-first
 fine_rounds-requires-clause-first g c =
@@ -18,4 +14,4 @@ pub returns-in-Settled-clause-end : goal.returns-in-Settled-clause-end
 returns-in-Settled-clause-end g c =
     let old : Rules = g.R.Rounds.rules c.args.rounds.now in
     let new : Rules = g.R.Rounds.rules c.coarse_rounds.new.rounds in
-    if_ok c.fine_rounds.result (ends new old (stayed old new c.coarse_rounds.ensures.rules) c.args.ratio c.args.budget) c.fine_rounds.ensures.end
+    IfOk-weaker c.fine_rounds.result _ _ (ends new old (stayed old new c.coarse_rounds.ensures.rules) c.args.ratio c.args.budget) c.fine_rounds.ensures.end

@@ -1,21 +1,16 @@
 use Rattle.std.proofs.Common.{◌≡◌, List, [], ◌∷◌, ℤ, length, get_or, pos, arith, sym, subst}
-use Rattle.whole_math.proofs.Inequalities.{le_refl_ℤ}
+use Rattle.whole_math.proofs.Lists.{three_items}
 use Rattle.rational.specs.Rational.{of_scale}
-use Rattle.rational.proofs.Boxes.{end_in}
 use Rattle.iv_core.specs.declared.Iv.{Iv}
 use Rattle.iv_core.specs.Intervals.{Holds}
+use Rattle.iv_core.proofs.BoxLaws.{low_held}
 use Rattle.orbit_model.specs.SeenPlaces.{Place, HasSeenPlace, IsReceiverPlace}
 use Rattle.orbit_model.proofs.Exists.{seen_place_exists}
 use Rattle.obs_rows.specs.ReceiverPoints.{IsReceiverPoint}
 use Rattle.signal_travel.specs.Boxes.{HoldsPlace}
-use Rattle.signal_travel.proofs.PlaceLists.{three_is}
 use Rattle.signal_travel.proofs.Sights.{receiver_place}
-use Rattle.signal_travel.proofs.PlaceBoxes.{low_held}
 use Rattle.row_boxes.specs.Sightings.{place_at}
 use Rattle.row_boxes.proofs.sights.sighting_law.Goals as goal
-
-lower60 : (b : Iv 60) → Holds b (of_scale 60 b.lo)
-lower60 b = end_in 60 b.lo b.hi b.lo (le_refl_ℤ b.lo) b.ordered
 
 -- the lower ends
 abbrev corner_of : Iv 36 → Iv 36 → Iv 36 → Place
@@ -38,9 +33,9 @@ returns c =
     let z : Iv 36 = get_or boxes 2 d in
     let l : length boxes ≡ 3 = omega arith in
     let m : length point ≡ 3 = omega arith in
-    let e : boxes ≡ x ∷ y ∷ z ∷ [] = three_is boxes d d d l in
+    let e : boxes ≡ x ∷ y ∷ z ∷ [] = three_items boxes d d d l in
     let place : IsReceiverPlace (place_at point) = receiver_place (get_or point 0 (pos 0)) (get_or point 1 (pos 0)) (get_or point 2 (pos 0))
-    (subst (λ (s : List ℤ). IsReceiverPoint s) (three_is point (pos 0) (pos 0) (pos 0) m) c.requires) in
+    (subst (λ (s : List ℤ). IsReceiverPoint s) (three_items point (pos 0) (pos 0) (pos 0) m) c.requires) in
     let every : (sent : Place) → HoldsPlace boxes sent → HasSeenPlace sent (place_at point) = λ sent h.
     let k = named boxes x y z sent e h in
     seen_place_exists sent (place_at point) (c.args.sv.now.away x y z e sent.x sent.y sent.z k.0 k.1 k.2) place in
@@ -49,6 +44,6 @@ returns c =
     let seen : HasSeenPlace sent (place_at point) = every sent held in
     record {
       sighting = record { sent = sent; clock = of_scale 60 c.args.sv.now.clock.lo; seen = seen.seen; travel = seen.travel };
-      is = record { sent_in = held; clock_in = lower60 c.args.sv.now.clock; seen_is = seen.is_seen };
+      is = record { sent_in = held; clock_in = low_held c.args.sv.now.clock; seen_is = seen.is_seen };
       every = every;
     }

@@ -1,4 +1,4 @@
-use Rattle.std.proofs.Common.{rules, ◌≡◌, ◌+◌, ◌^◌, ◌<◌, ◌≤◌, ◌≤ℤ◌, ℕ, ℤ, length, get_or, to_z, of_z, unsigned_abs, arith, sym, subst}
+use Rattle.std.proofs.Common.{rules, ◌≡◌, ◌+◌, ◌^◌, ◌<◌, ◌≤◌, ◌≤ℤ◌, ℕ, ℤ, length, get_or, to_z, of_z, unsigned_abs, arith, sym, subst, lt_of_lt_of_le}
 use Rattle.std.specs.Int.{w64}
 use Rattle.std.proofs.lemmas.Int.{to_z-of_z}
 use Rattle.std.specs.Prelude.{◌==◌}
@@ -8,6 +8,7 @@ use Rattle.std.proofs.lemmas.List.{get_or_default}
 use Rattle.std.proofs.lemmas.List.Folds.{list_any_at}
 use Rattle.std.proofs.lemmas.List.Elements.{All-set}
 use Rattle.std.proofs.lemmas.Option.{slice_get-get_or}
+use Rattle.std.proofs.Math.Numerals.{lt-add-one}
 use Rattle.obs_rows.specs.Ranges.{IsWithin}
 use Rattle.obs_rows.specs.Signals.{band}
 use Rattle.obs_rows.specs.Data.{number_at}
@@ -25,9 +26,6 @@ returns-in_err-centre-clause-far c = λ e p h t.
     far_signal p c.args.ss.now c.args.scale i s c.args.amounts.now c.args.shift.now c.args.group box.result.centre box.result.radius (slice_get-get_or c.args.ss.now i 0 inside) box.result.most far
     (subst (λ (g : ℤ). HoldsY p c.args.scale s (number_at c.args.amounts.now s) g (number_at c.args.shift.now (band s)) box.result.centre box.result.radius)
     (to_z-of_z w64 c.args.group c.ranges.group) (box.ensures.holds p h)) t
-
-here : (i : ℕ) → i < i + 1
-here i = omega arith
 
 next : (k i : ℕ) → k < i → k < i + 1
 next k i h = omega arith
@@ -47,7 +45,7 @@ loop-signal-preserved c =
           (subst (λ (x : ℤ). HoldsY p c.args.scale s (number_at c.args.amounts.now s) g (number_at c.args.shift.now (band s)) x c.y_of_signal-more.result.radius) (sym centre)
           (c.y_of_signal-more.ensures.holds p h))
           (λ j hj. c.loop-signal.invariant.holds j hj p h) k hk;
-      others = λ t h. zero_off c.loop-signal.y s t _ (h i (here i)) (c.loop-signal.invariant.others t (λ k hk. h k (next k i hk)));
+      others = λ t h. zero_off c.loop-signal.y s t _ (h i (lt-add-one i)) (c.loop-signal.invariant.others t (λ k hk. h k (next k i hk)));
       sizes = All-set (IsWithin (2 ^ 34)) c.loop-signal.y s _ size c.loop-signal.invariant.sizes;
       six = search rules;
       least = search rules;
@@ -60,16 +58,10 @@ returns-clause-holds c = λ p h k d hk.
     (to_z-of_z w64 c.args.group c.ranges.group)
     (subst (λ (s : ℕ). HoldsAt p c.args.scale c.args.amounts.now (to_z w64 (of_z w64 c.args.group)) c.args.shift.now c.loop-signal.y (to_z w64 c.loop-signal.ry-bits) s)
     (sym (get_or_default c.args.ss.now k d 0 hk))
-    (c.loop-signal.invariant.holds k (reached k (length c.args.ss.now) c.loop-signal.signal-index hk c.loop-signal-test.false) p h))
-  where
-    reached : (k n i : ℕ) → k < n → n ≤ i → k < i
-    reached k n i h g = omega arith
+    (c.loop-signal.invariant.holds k (lt_of_lt_of_le hk c.loop-signal-test.false) p h))
 
 pub returns-clause-others : goal.returns-clause-others
 returns-clause-others c = λ t none.
     let within : c.loop-signal.signal-index ≤ length c.args.ss.now = search rules in
     c.loop-signal.invariant.others t (λ k hk e. both_ways (list_any (λ (s : ℕ). s == t) c.args.ss.now) none
-    (list_any_at (λ (s : ℕ). s == t) c.args.ss.now k 0 (inside k c.loop-signal.signal-index (length c.args.ss.now) hk within) (eq-eqb (get_or c.args.ss.now k 0) t e)))
-  where
-    inside : (k i n : ℕ) → k < i → i ≤ n → k < n
-    inside k i n h g = omega arith
+    (list_any_at (λ (s : ℕ). s == t) c.args.ss.now k 0 (lt_of_lt_of_le hk within) (eq-eqb (get_or c.args.ss.now k 0) t e)))

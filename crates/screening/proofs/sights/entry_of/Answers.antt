@@ -1,16 +1,17 @@
 use Rattle.std.proofs.Common.{◌≡◌, List, [], ◌∷◌, ℤ, pos, length, get_or, arith, refl, sym, ◌∙◌}
+use Rattle.whole_math.proofs.Lists.{three_items}
 use Rattle.iv_core.specs.declared.Iv.{Iv}
 use Rattle.orbit_model.specs.SeenPlaces.{Place, point_of, HasSeenPlace, IsAboveMask, IsBelowMask}
 use Rattle.signal_travel.specs.Boxes.{HoldsPlace}
 use Rattle.screening.specs.Sightings.{Setting, Sighting, IsSighting, WasSent, setting_with, point_at, code_of}
 use Rattle.screening.proofs.ChosenOnce.{none_chosen}
-use Rattle.screening.proofs.SightLaws.{match_none, match_some, if_some, code_range, from_record, sees_sent, was_sent, base_near, rover_near, left_out_as, sees_near, three_are}
+use Rattle.screening.proofs.SightLaws.{match_none, match_some, if_some, code_range, from_record, sees_sent, was_sent, base_near, rover_near, left_out_as, sees_near}
 use Rattle.screening.proofs.sights.entry_of.Goals as goal
 
 -- each place of a box is seen, as it is from the three coordinates of the point
 seen_there : (boxes : List (Iv 36)) (p : List ℤ) → length p ≡ 3 → ((a b c : ℤ) (sent : Place) → p ≡ a ∷ b ∷ c ∷ [] → HoldsPlace boxes sent → HasSeenPlace sent (point_of a b c)) →
     (sent : Place) → HoldsPlace boxes sent → HasSeenPlace sent (point_at p)
-seen_there boxes p l all sent h = all (get_or p 0 (pos 0)) (get_or p 1 (pos 0)) (get_or p 2 (pos 0)) sent (three_are p l) h
+seen_there boxes p l all sent h = all (get_or p 0 (pos 0)) (get_or p 1 (pos 0)) (get_or p 2 (pos 0)) sent (three_items p (pos 0) (pos 0) (pos 0) l) h
 
 pub returns-in_err-record : goal.returns-in_err-record
 returns-in_err-record c =
@@ -70,6 +71,6 @@ returns c =
         base_sent = sent;
         rover_sent = was_sent s c.args.table.now.world g.eph c.args.rover.now.tag.0 (code_of g.rover) refl
             (rover_near c.args.base.now.tag.0 c.args.rover.now.tag.0 g.eph.toe.0 seen.chosen.candidate.near c.requires.near) range_too;
-        range = λ place at travel h is. c.seen_from-seen.ensures.range _ _ _ place at travel (three_are c.args.rules.now.point l) h is;
+        range = λ place at travel h is. c.seen_from-seen.ensures.range _ _ _ place at travel (three_items c.args.rules.now.point (pos 0) (pos 0) (pos 0) l) h is;
       };
     }

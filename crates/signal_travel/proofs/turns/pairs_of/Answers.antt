@@ -1,21 +1,20 @@
 use Rattle.std.proofs.Common.{◌≡◌, ℤ, pos, ◌+ℤ◌, ◌-ℤ◌, ◌*ℤ◌, ◌≤ℤ◌, arith, ◌∙◌}
 use Rattle.std.proofs.lemmas.Int.{ints, to_z-of_z}
 use Rattle.std.specs.Int.{w64}
+use Rattle.std.proofs.Math.IntN.{+ℤ_idr}
 use Rattle.rational.specs.Rational.{of_scale}
-use Rattle.signal_travel.proofs.EarthTurn.{ArePairs, cos_ends, sin_ends, point_holds}
+use Rattle.rational.proofs.Boxes.{point_in}
+use Rattle.signal_travel.proofs.EarthTurn.{ArePairs, cos_ends, sin_ends}
 use Rattle.signal_travel.proofs.turns.pairs_of.Goals as goal
 
 less : (x : ℤ) → x -ℤ pos 0 ≡ x
 less x = omega (arith, ints)
 
-more : (x : ℤ) → x +ℤ pos 0 ≡ x
-more x = omega (arith, ints)
-
 pub returns-clause-holds : goal.returns-clause-holds
 returns-clause-holds c = λ x y p.
     let a : ℤ = c.of_small.result.angle in
     let e : a ≡ c.args.angle = c.of_small.ensures ∙ to_z-of_z w64 c.args.angle c.ranges.angle in
-    c.within.ensures.holds (of_scale 56 c.args.angle) x y (point_holds c.args.angle (a -ℤ pos 0) (a +ℤ pos 0) (less a ∙ e) (more a ∙ e)) p
+    c.within.ensures.holds (of_scale 56 c.args.angle) x y (point_in 56 c.args.angle (a -ℤ pos 0) (a +ℤ pos 0) (less a ∙ e) (+ℤ_idr a ∙ e)) p
 
 narrow : (w : ℤ) → w ≤ℤ (pos 512 +ℤ (pos 64 *ℤ pos 0)) → w ≤ℤ pos 512
 narrow w h = omega (arith, ints)

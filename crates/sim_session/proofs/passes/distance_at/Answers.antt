@@ -3,7 +3,7 @@ use Rattle.orbit_model.specs.Elements.{sent_at}
 use Rattle.orbit_model.specs.Solution.{IsNearSolution}
 use Rattle.orbit_clock.specs.Records.{constants_of, elements_of}
 use Rattle.orbit_model.specs.SeenPlaces.{range_of}
-use Rattle.sim_session.specs.Observed.{sent_place}
+use Rattle.orbit_model.specs.SeenPlaces.{sent_place}
 use Rattle.sim_session.proofs.Solutions.{placed, code_cast}
 use Rattle.sim_session.proofs.passes.distance_at.Goals as goal
 

@@ -1,20 +1,17 @@
-use Rattle.std.proofs.Common.{◌^◌, ◌≤◌, List, All, ℕ, ℤ, pos, ◌≤ℤ◌, ◌<ℤ◌, SFits, length, arith, sym, ap, ◌∙◌, subst, rules, to_z, of_z}
-use Rattle.std.proofs.lemmas.Int.{ints, to_z-of_z}
+use Rattle.std.proofs.Common.{◌^◌, ◌≤◌, List, All, ℕ, ℤ, pos, ◌≤ℤ◌, SFits, length, sym, ap, ◌∙◌, subst, rules, to_z, of_z}
+use Rattle.std.proofs.lemmas.Int.{to_z-of_z}
 use Rattle.std.specs.Int.{w128}
 use Rattle.obs_rows.specs.Ranges.{IsBelow}
 use Rattle.obs_rows.specs.Signals.{fine_signals}
 use Rattle.integer_form.specs.Forms.{integers_of}
 use Rattle.fix_decide.specs.Decisions.{first_of}
-use Rattle.fix_decide.proofs.SessionForms.{first_length, first_small}
+use Rattle.fix_decide.proofs.SessionForms.{first_length, first_small, second_fits}
 use Rattle.cert_check.proofs.DecidedLaws.{top_word}
 use Rattle.integer_form.specs.declared.faults.Place.TheVariants.{Sum}
 use Rattle.track_form.specs.Uppers.{IsSomeWide}
 use Rattle.track_form.proofs.Ranges.{integers_are, some_integers, second_small, move_each, moves_small}
 use Rattle.track_form.proofs.Found.{IsTold, vectors_told, wide_told, sum_wide}
 use Rattle.track_form.proofs.decided.decide_moved.Goals as goal
-
-small : (x : ℤ) → x <ℤ pos (2 ^ 54) → x ≤ℤ pos (2 ^ 62)
-small x h = omega (arith, ints)
 
 pub track_upper-requires-clause-move_each : goal.track_upper-requires-clause-move_each
 track_upper-requires-clause-move_each c =
@@ -42,7 +39,7 @@ is_separated-fixed-requires-clause-p2_to c =
     let fits : SFits w128 b.p2 = search rules in
     let some : 1 ≤ integers_of f = subst (λ (n : ℕ). 1 ≤ n) (sym (integers_are t.arcs (fine_signals t.signals) t.pairs c.requires.form.0 f c.requires.form.1.0))
     (some_integers t.arcs t.signals t.arcs_in.some_free) in
-    subst (λ (x : ℤ). x ≤ℤ pos (2 ^ 62)) (sym (to_z-of_z w128 b.p2 fits)) (small b.p2 (second_small f b some c.requires.best))
+    subst (λ (x : ℤ). x ≤ℤ pos (2 ^ 62)) (sym (to_z-of_z w128 b.p2 fits)) (second_fits b.p2 (second_small f b some c.requires.best))
 
 pub returns-in-Ok : goal.returns-in-Ok
 returns-in-Ok c =

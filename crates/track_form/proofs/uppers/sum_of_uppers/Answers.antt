@@ -1,22 +1,19 @@
-use Rattle.std.proofs.Common.{◌≡◌, ℕ, ◌+◌, ◌*◌, ◌^◌, ◌<◌, ◌≤◌, [], ◌∷◌, List, length, drop, get_or, ℤ, pos, ◌+ℤ◌, to_z, of_z, arith, refl, sym, ap, ap₂, ◌∙◌, subst, below_more}
+use Rattle.std.proofs.Common.{◌≡◌, ℕ, ◌+◌, ◌^◌, ◌<◌, ◌≤◌, [], ◌∷◌, List, length, drop, get_or, ℤ, ◌+ℤ◌, to_z, of_z, arith, refl, sym, ap, ap₂, ◌∙◌, subst, below_more}
 use Rattle.std.proofs.lemmas.Bool.{false≢true}
 use Rattle.std.proofs.lemmas.List.{drop_more, drop_all, get_or_default}
 use Rattle.std.specs.Int.{w128}
 use Rattle.whole_math.specs.Vectors.{sum}
-use Rattle.whole_math.proofs.Order.{lins}
 use Rattle.obs_rows.specs.declared.pair_rows.PairRows.{PairRows}
 use Rattle.obs_rows.specs.Signals.{fine_signals}
-use Rattle.obs_rows.specs.declared.limits.TheConstants.{MOST_PAIRS}
+use Rattle.normal_sum.proofs.NormalLaws.{zero_last}
 use Rattle.fix_decide.specs.UpperSums.{pair_upper}
 use Rattle.fix_decide.specs.Widths.{IsWide}
 use Rattle.fix_decide.proofs.GapSums.{next, Step, step}
 use Rattle.fix_decide.proofs.Wide.{on_err}
+use Rattle.fix_decide.proofs.UpperLaws.{few_pairs}
 use Rattle.track_sum.specs.Decided.{pair_uppers}
 use Rattle.track_form.proofs.Lists.{all_zip_from}
 use Rattle.track_form.proofs.uppers.sum_of_uppers.Goals as goal
-
-few : (k n : ℕ) → k < n → n ≤ MOST_PAIRS → (k + 1) * 2 ^ 107 ≤ 2 ^ 125
-few k n h g = omega arith
 
 same_place : (k n m : ℕ) → k < n → m ≡ n → k < m
 same_place k n m l e = omega (arith, l, e)
@@ -38,7 +35,7 @@ loop-k-preserved c =
     let s : ℤ = to_z w128 c.loop-k.sum-bits in
     let q : ℤ = c.in_ok-sum.field-0 in
     let t : Step (to_z w128 (of_z w128 (s +ℤ to_z w128 (of_z w128 q)))) s q k (2 ^ 107) =
-    step s q k (2 ^ 107) c.loop-k.invariant.from c.loop-k.invariant.to c.in_ok-sum.ensures.from c.in_ok-sum.ensures.to (few k (length pairs) inside c.requires.few) in
+    step s q k (2 ^ 107) c.loop-k.invariant.from c.loop-k.invariant.to c.in_ok-sum.ensures.from c.in_ok-sum.ensures.to (few_pairs k (length pairs) inside c.requires.few) in
     let W : List ℤ → PairRows → Type 0 = IsWide c.args.arcs.now (fine_signals c.args.signals) c.args.z.now in
     record {
       value = next s _ q (upper m p) rest (sum (uppers pairs moves)) (ap₂ (λ (xs : List PairRows) (ys : List (List ℤ)). s +ℤ sum (uppers xs ys)) (sym e) (sym f) ∙ c.loop-k.invariant.value)
@@ -66,9 +63,6 @@ returns-in_err-sum-clause-wide c =
           (subst (λ (r : PairRows). W (get_or moves k []) r) (c.index-pairs-k.is ∙ get_or_default pairs k p x inside) (c.in_err-sum.ensures.refused.0 refl));
     })
 
-no_more : (s a : ℤ) → s +ℤ pos 0 ≡ a → s ≡ a
-no_more s a e = omega (arith, lins)
-
 ended : (k n m : ℕ) → n ≤ k → m ≡ n → m ≤ k
 ended k n m l e = omega (arith, l, e)
 
@@ -80,7 +74,7 @@ returns-clause-value c =
     let uppers : List PairRows → List (List ℤ) → List ℤ = pair_uppers c.args.arcs.now (fine_signals c.args.signals) c.args.z.now in
     let s : ℤ = to_z w128 c.loop-k.sum-bits in
     let past : drop k pairs ≡ [] = drop_all k pairs c.loop-k-test.false in
-    no_more s (sum (uppers pairs moves)) (ap (λ (xs : List PairRows). s +ℤ sum (uppers xs (drop k moves))) (sym past) ∙ c.loop-k.invariant.value)
+    zero_last s (sum (uppers pairs moves)) (ap (λ (xs : List PairRows). s +ℤ sum (uppers xs (drop k moves))) (sym past) ∙ c.loop-k.invariant.value)
 
 pub returns-clause-bounded : goal.returns-clause-bounded
 returns-clause-bounded c = all_zip_from (λ (p : PairRows) (m : List ℤ). IsWide c.args.arcs.now (fine_signals c.args.signals) c.args.z.now m p → ⊥) c.args.pairs.now c.args.moves.now c.requires.move_each

@@ -1,5 +1,6 @@
-use Rattle.std.proofs.Common.{◌≡◌, ◌⊎◌, inl, inr, ⊎_elim, ℕ, ◌+◌, ◌<◌, ◌≤◌, ◌%◌, List, length, get_or, arith, rules, refl, sym, ap, ◌∙◌, subst, below_more}
+use Rattle.std.proofs.Common.{◌≡◌, ◌⊎◌, inl, inr, ⊎_elim, ℕ, ◌+◌, ◌<◌, ◌≤◌, ◌%◌, List, length, get_or, arith, rules, sym, ap, ◌∙◌, subst, below_more, lt_of_lt_of_le, le_trans, le_of_eq, le_refl}
 use Rattle.std.proofs.lemmas.List.{get_or_default}
+use Rattle.std.proofs.Math.Numerals.{lt-add-one}
 use Rattle.obs_rows.specs.declared.arcs.Arc.{Arc}
 use Rattle.obs_rows.specs.declared.pair_rows.PairRows.{PairRows}
 use Rattle.obs_rows.specs.Signals.{fine_signals}
@@ -47,13 +48,13 @@ loop-k-preserved c =
         from = same new w.raised-greatest.result old w.greatest-is w.raised-greatest.ensures.from;
         above = λ v d g i. same new w.raised-greatest.result g.h w.greatest-is (w.raised-greatest.ensures.above g (of w.index-pairs-k.result d g w.index-pairs-k.is i));
         one = ⊎_elim (λ own. inl (λ d g i. own g (of w.index-pairs-k.result d g w.index-pairs-k.is i) ∙ sym w.greatest-is)) (λ e. inr (w.greatest-is ∙ e)) w.raised-greatest.ensures.one;
-        few = within new w.raised-greatest.result 77 (equal new w.raised-greatest.result w.greatest-is) w.raised-greatest.ensures.few;
+        few = le_trans (le_of_eq w.greatest-is) w.raised-greatest.ensures.few;
       }
       | else-left-eq0 w ↦ record {
-        from = same new old old w.greatest-is (equal old old refl);
+        from = same new old old w.greatest-is (le_refl old);
         above = λ v. absurd (never c.args.every k c.requires.some w.if-left-eq0.false v);
         one = inr w.greatest-is;
-        few = within new old 77 (equal new old w.greatest-is) c.loop-k.invariant.few;
+        few = le_trans (le_of_eq w.greatest-is) c.loop-k.invariant.few;
       }
     ] in
     let columns : c.if-left-eq0.room.front.columns ≡ c.loop-k.room.front.columns = elim c.if-left-eq0.branch [
@@ -62,11 +63,11 @@ loop-k-preserved c =
     ] in
     record {
       above = λ e. below_more (λ j. (d : PairRows) (g : FrontForm) → IsFrontOfPair arcs ss (get_or pairs j d) g → g.h ≤ new) k
-          (λ j l d g i. within g.h old new (c.loop-k.invariant.above e j l d g i) n.from) (λ d g i. n.above (inl e) d g i);
+          (λ j l d g i. le_trans (c.loop-k.invariant.above e j l d g i) n.from) (λ d g i. n.above (inl e) d g i);
       attained = λ l. ⊎_elim
-          (λ own. (k, (next k, own)))
+          (λ own. (k, (lt-add-one k, own)))
           (λ (e : new ≡ old). ⊎_elim
-          (λ (none : k ≡ 0). (k, (next k, λ d g i. least g.h new old (n.above (inr none) d g i) e (c.loop-k.invariant.none none))))
+          (λ (none : k ≡ 0). (k, (lt-add-one k, λ d g i. least g.h new old (n.above (inr none) d g i) e (c.loop-k.invariant.none none))))
           (λ (some : 1 ≤ k). let a = c.loop-k.invariant.attained some in (a.0, (later a.0 k a.1.0, λ d g i. a.1.1 d g i ∙ sym e)))
           (either k))
           n.one;
@@ -75,15 +76,6 @@ loop-k-preserved c =
       columns = columns ∙ c.loop-k.invariant.columns;
     }
   where
-    within : (a b c : ℕ) → a ≤ b → b ≤ c → a ≤ c
-    within a b c h g = omega (arith, h, g)
-
-    equal : (a b : ℕ) → a ≡ b → a ≤ b
-    equal a b e = omega (arith, e)
-
-    next : (k : ℕ) → k < k + 1
-    next k = omega arith
-
     later : (a k : ℕ) → a < k → a < k + 1
     later a k h = omega (arith, h)
 
@@ -101,10 +93,7 @@ returns-clause-attained c = λ l.
     let k : ℕ = c.loop-k.k in
     let upper : k ≤ length c.args.pairs.now = search rules in
     let a = c.loop-k.invariant.attained (some k (length c.args.pairs.now) l c.loop-k-test.false) in
-    (a.0, (within a.0 k (length c.args.pairs.now) a.1.0 upper, a.1.1))
+    (a.0, (lt_of_lt_of_le a.1.0 upper, a.1.1))
   where
     some : (k n : ℕ) → 1 ≤ n → n ≤ k → 1 ≤ k
     some k n h g = omega (arith, h, g)
-
-    within : (a k n : ℕ) → a < k → k ≤ n → a < n
-    within a k n h g = omega (arith, h, g)

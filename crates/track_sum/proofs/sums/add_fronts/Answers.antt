@@ -1,4 +1,4 @@
-use Rattle.std.proofs.Common.{◌≡◌, ℕ, ◌+◌, ◌-◌, ◌*◌, ◌^◌, ◌<◌, ◌≤◌, ℤ, pos, ◌+ℤ◌, unsigned_abs, arith, rules, sym, ap, ap₂, ◌∙◌, refl, subst}
+use Rattle.std.proofs.Common.{◌≡◌, ℕ, ◌+◌, ◌-◌, ◌*◌, ◌^◌, ◌<◌, ◌≤◌, ℤ, pos, ◌+ℤ◌, unsigned_abs, arith, rules, sym, ap, ap₂, ◌∙◌, refl, subst, lt_of_lt_of_le}
 use Rattle.std.proofs.Common.{[], ◌∷◌, ◌++◌, List, length, map, take, drop, get_or, below_more}
 use Rattle.std.proofs.lemmas.List.{get_or_default, take_more, take_all, drop_all}
 use Rattle.std.proofs.lemmas.Int.{ints}
@@ -13,6 +13,7 @@ use Rattle.form_tables.specs.declared.sizes.TheConstants.{MOST_COLUMNS}
 use Rattle.form_tables.specs.Tables.{entry}
 use Rattle.form_tables.proofs.TableLaws.{zero_entry}
 use Rattle.normal_sum.proofs.RowSums.{next_sum}
+use Rattle.normal_sum.proofs.NormalLaws.{zero_first}
 use Rattle.integer_form.specs.declared.front_form.FrontForm.{FrontForm}
 use Rattle.track_sum.specs.Fronts.{Front, part, track_entry}
 use Rattle.track_sum.specs.Parts.{part_at}
@@ -60,9 +61,6 @@ larger a b i h g = omega arith
 
 few : (a i n : ℕ) → a ≤ i * 2 ^ 64 → i < n → n ≤ MOST_PAIRS → a ≤ MOST_PAIRS * 2 ^ 64
 few a i n h g k = omega arith
-
-zero_first : (a b : ℤ) → a ≡ pos 0 → a +ℤ b ≡ b
-zero_first a b e = omega (arith, lins)
 
 zero_last : (a b c : ℤ) → b ≡ pos 0 → a +ℤ b ≡ c → a ≡ c
 zero_last a b c e h = omega (arith, lins)
@@ -164,7 +162,4 @@ returns-clause-sums c = λ fs are r q l b.
     past a b k e h = omega arith
 
 pub returns-clause-above : goal.returns-clause-above
-returns-clause-above c = λ k l d f i. c.loop-pair.invariant.above k (before k (length c.args.pairs.now) c.loop-pair.pair-index l c.loop-pair-test.false) d f i
-  where
-    before : (a n k : ℕ) → a < n → n ≤ k → a < k
-    before a n k h g = omega (arith, h, g)
+returns-clause-above c = λ k l d f i. c.loop-pair.invariant.above k (lt_of_lt_of_le l c.loop-pair-test.false) d f i

@@ -1,5 +1,5 @@
 use Rattle.std.proofs.Common.{◌≡◌, ◌⊎◌, inl, inr, ℕ, ◌≤◌, List, sym, subst}
-use Rattle.std.proofs.lemmas.Result.{IfOk-at_ok, IfErr-at_err}
+use Rattle.std.proofs.lemmas.Result.{IfOk-at_ok, IfErr-at_err, IfOk-weaker, IfErr-weaker}
 use Rattle.obs_rows.specs.declared.arcs.Arc.{Arc}
 use Rattle.obs_rows.specs.Signals.{fine_signals}
 use Rattle.integer_form.specs.declared.front_form.FrontForm.{FrontForm}
@@ -9,7 +9,6 @@ use Rattle.track_sum.specs.declared.factors.PairFactors.{PairFactors}
 use Rattle.track_sum.specs.PairFronts.{IsFirstRefused}
 use Rattle.track_sum.specs.Factors.{AreFactors}
 use Rattle.track_sum.specs.Decided.{IsSumOfFronts, IsTrackForm, IsFinishRefused}
-use Rattle.track_sum.proofs.Results.{ok_weaker, err_weaker}
 use Rattle.track_sum.proofs.sums.form_of_track.Goals as goal
 
 pub returns-in-Ok-clause-form : goal.returns-in-Ok-clause-form
@@ -18,19 +17,19 @@ returns-in-Ok-clause-form c =
     let ss : List ℕ = fine_signals c.args.signals in
     let sum : (fs : List FrontForm) × IsSumOfFronts arcs ss c.args.pairs.now fs c.in-Ok.summed.sum =
     IfOk-at_ok (λ s. (fs : List FrontForm) × IsSumOfFronts arcs ss c.args.pairs.now fs s.sum) c.in-Ok.is c.in_ok-summed.ensures.sum in
-    ok_weaker (λ f. IsFinishOf c.in-Ok.summed.sum f.form) (λ f. (fs : List FrontForm) × IsTrackForm arcs ss c.args.pairs.now fs f.form) c.finished.result
+    IfOk-weaker c.finished.result (λ f. IsFinishOf c.in-Ok.summed.sum f.form) (λ f. (fs : List FrontForm) × IsTrackForm arcs ss c.args.pairs.now fs f.form)
     (λ f is. (sum.0, record { sum = c.in-Ok.summed.sum; of_fronts = sum.1; finished = is })) c.finished.ensures.form
 
 pub returns-in-Ok-clause-factors : goal.returns-in-Ok-clause-factors
 returns-in-Ok-clause-factors c =
     let P : List PairFactors → Type 0 = AreFactors c.args.arcs.now (fine_signals c.args.signals) c.args.pairs.now in
     let kept : P c.in-Ok.summed.factors.items = IfOk-at_ok (λ s. P s.factors.items) c.in-Ok.is c.in_ok-summed.ensures.factors in
-    ok_weaker (λ f. f.factors.items ≡ c.in-Ok.summed.factors.items) (λ f. P f.factors.items) c.finished.result (λ f same. subst P (sym same) kept) c.finished.ensures.factors
+    IfOk-weaker c.finished.result (λ f. f.factors.items ≡ c.in-Ok.summed.factors.items) (λ f. P f.factors.items) (λ f same. subst P (sym same) kept) c.finished.ensures.factors
 
 pub returns-in-Ok-clause-few : goal.returns-in-Ok-clause-few
 returns-in-Ok-clause-few c =
     let few : c.in-Ok.summed.sum.h ≤ 90 = IfOk-at_ok (λ s. s.sum.h ≤ 90) c.in-Ok.is c.in_ok-summed.ensures.few in
-    ok_weaker (λ f. IsFinishOf c.in-Ok.summed.sum f.form) (λ f. f.form.h ≤ 90) c.finished.result (λ f is. subst (λ (k : ℕ). k ≤ 90) (sym is.h) few) c.finished.ensures.form
+    IfOk-weaker c.finished.result (λ f. IsFinishOf c.in-Ok.summed.sum f.form) (λ f. f.form.h ≤ 90) (λ f is. subst (λ (k : ℕ). k ≤ 90) (sym is.h) few) c.finished.ensures.form
 
 pub returns-in-Ok-clause-refused : goal.returns-in-Ok-clause-refused
 returns-in-Ok-clause-refused c =
@@ -38,7 +37,7 @@ returns-in-Ok-clause-refused c =
     let ss : List ℕ = fine_signals c.args.signals in
     let sum : (fs : List FrontForm) × IsSumOfFronts arcs ss c.args.pairs.now fs c.in-Ok.summed.sum =
     IfOk-at_ok (λ s. (fs : List FrontForm) × IsSumOfFronts arcs ss c.args.pairs.now fs s.sum) c.in-Ok.is c.in_ok-summed.ensures.sum in
-    err_weaker (λ e. IsToldAs e (finish_of c.in-Ok.summed.sum)) (λ e. IsFirstRefused arcs ss c.args.pairs.now e ⊎ IsFinishRefused arcs ss c.args.pairs.now e) c.finished.result
+    IfErr-weaker c.finished.result (λ e. IsToldAs e (finish_of c.in-Ok.summed.sum)) (λ e. IsFirstRefused arcs ss c.args.pairs.now e ⊎ IsFinishRefused arcs ss c.args.pairs.now e)
     (λ e told. inr (record { fronts = sum.0; sum = c.in-Ok.summed.sum; of_fronts = sum.1; told = told })) c.finished.ensures.refused
 
 pub returns-in-Err-clause-refused : goal.returns-in-Err-clause-refused

@@ -1,10 +1,10 @@
 use Rattle.std.proofs.Common.{◌≡◌, Ok, refl, ◌∙◌, codes, arith, w64, to_z, of_z}
 use Rattle.std.proofs.lemmas.Int.{ints}
 use Rattle.std.proofs.lemmas.Result.{err_from_is_err_and}
+use Rattle.decimal_text.proofs.Numbers.{size_is}
 use Rattle.rinex_head.proofs.Walks.{takes, refuses, has_none, goes_on, stops}
 use Rattle.zero_rows.specs.RowsRules.{Head, Claim, claimed, rows_rules, number_behind}
 use Rattle.zero_rows.proofs.RowsSteps.{admits_head, refuses_head, same_bytes, other_bytes, number_behind-small}
-use Rattle.zero_rows.proofs.Sizes.{size_of-is}
 use Rattle.zero_rows.proofs.rows.read_claim.Goals as goal
 
 pub returns-in_err-first-clause-reads : goal.returns-in_err-first-clause-reads
@@ -32,7 +32,7 @@ returns-in-Ok-clause-reads c =
     let same = same_bytes c.ne.result line c.as_slice.result.now (codes "zero 1") c.ne.ensures c.as_slice.ensures c.if-ne.false in
     let claim = c.in-Ok.claim in
     let small = number_behind-small (codes "z ") 10000000 second claim c.in-Ok.ensures in
-    let whole : to_z w64 (of_z w64 claim) ≡ claim = omega (arith, ints, small, size_of-is claim) in
+    let whole : to_z w64 (of_z w64 claim) ≡ claim = omega (arith, ints, small, size_is claim) in
     rw whole (takes rows_rules Head Claim _ _ _ line c.in_ok-first.ensures (admits_head line same)
     ∙ goes_on rows_rules Claim (claimed claim) (number_behind (codes "z ") 10000000 second) (λ z. Ok (claimed z)) claim _ _ _ second c.in_ok-second.ensures refl c.in-Ok.ensures refl)
 

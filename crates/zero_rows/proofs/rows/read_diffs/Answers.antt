@@ -9,7 +9,7 @@ use Rattle.zero_rows.specs.Rows.{rows}
 use Rattle.zero_rows.specs.RowsRules.{Diff, with_diff, rows_rules, number_behind}
 use Rattle.zero_rows.proofs.RowsSteps.{admits_diff, refuses_more, number_behind-small, finish_none, finish_some}
 use Rattle.std.proofs.lemmas.List.Elements.{All-push}
-use Rattle.zero_rows.proofs.Sizes.{size_of-is}
+use Rattle.decimal_text.proofs.Numbers.{size_is}
 use Rattle.zero_rows.proofs.rows.read_diffs.Goals as goal
 
 pub returns-in_err-line-clause-reads : goal.returns-in_err-line-clause-reads
@@ -32,7 +32,7 @@ lines-preserved c =
     let few : length c.lines.diffs.items < 1000 = omega arith in
     let diff = c.in-Ok.diff in
     let small = number_behind-small (codes "diff ") 1000000000 line diff c.in-Ok.ensures in
-    let same : to_z w64 (of_z w64 diff) ≡ diff = omega (arith, ints, small, size_of-is diff) in
+    let same : to_z w64 (of_z w64 diff) ≡ diff = omega (arith, ints, small, size_is diff) in
     let items = c.in_ok-push-in-Ok.ensures.items ∙ ap (λ (d : ℤ). c.lines.diffs.items ++ d ∷ []) same in
     record {
       reads = λ z.

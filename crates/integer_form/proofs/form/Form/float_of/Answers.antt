@@ -1,6 +1,7 @@
-use Rattle.std.proofs.Common.{◌≡◌, ℕ, ◌-◌, ◌^◌, ◌<◌, ◌≤◌, List, [], ℤ, pos, unsigned_abs, arith, sym, ap, ◌∙◌, subst, ◌⊎◌, ⊎_elim, replicate}
+use Rattle.std.proofs.Common.{◌≡◌, ℕ, ◌-◌, ◌^◌, ◌<◌, ◌≤◌, List, [], ℤ, pos, unsigned_abs, arith, sym, ap, ◌∙◌, subst, ⊎_elim, replicate}
 use Rattle.std.specs.Result.{is_err}
 use Rattle.std.proofs.lemmas.Result.{err_from_is_err_and}
+use Rattle.std.proofs.lemmas.Bool.{cases_lt}
 use Rattle.quadratic_form.specs.Places.{list_from}
 use Rattle.form_tables.specs.declared.sizes.TheConstants.{MOST_FACTORS}
 use Rattle.form_tables.proofs.TableLaws.{zero_item}
@@ -23,13 +24,10 @@ whole f x y e = e ∙ ap (λ (s : List ℤ). solved (stored f.d f.l f.columns 0 
 narrow : (f : Form) (x : List ℤ) → ((j : ℕ) → item x j ≡ item (float_point f) j) → ((i : ℕ) → i < f.columns - 1 → unsigned_abs (item x i) < 2 ^ 46) →
     ((i : ℕ) → f.columns - 1 ≤ i → item x i ≡ pos 0) → HasWide (float_point f) → ⊥
 narrow f x e h z = not_wide (float_point f) (λ i. subst (λ (a : ℤ). unsigned_abs a < 2 ^ 46) (e i)
-    (⊎_elim (λ (l : i < f.columns - 1). h i l) (λ (l : f.columns - 1 ≤ i). subst (λ (a : ℤ). unsigned_abs a < 2 ^ 46) (sym (z i l)) none) (either i (f.columns - 1))))
+    (⊎_elim (λ (l : i < f.columns - 1). h i l) (λ (l : f.columns - 1 ≤ i). subst (λ (a : ℤ). unsigned_abs a < 2 ^ 46) (sym (z i l)) none) (cases_lt i (f.columns - 1))))
   where
     none : unsigned_abs (pos 0) < 2 ^ 46
     none = omega arith
-
-    either : (i n : ℕ) → (i < n) ⊎ (n ≤ i)
-    either i n = grind arith
 
 pub returns-clause-ok : goal.returns-clause-ok
 returns-clause-ok c = float_item (c.args.self.now.columns - 1) c.solve.new.numbers (float_point c.args.self.now)

@@ -2,8 +2,7 @@ use Rattle.std.proofs.Common.{◌≡◌, ℕ, suc, ◌+◌, ◌-◌, ◌*◌, �
 use Rattle.std.proofs.Common.{rules, FitsSigned}
 use Rattle.std.proofs.lemmas.Int.{ints}
 use Rattle.std.specs.Int.{w64, w128}
-use Rattle.whole_math.proofs.Ring.{◌⊕◌}
-use Rattle.whole_math.proofs.Inequalities.{same_by}
+use Rattle.std.proofs.Math.IntN.{+ℤ_comm}
 use Rattle.whole_math.specs.Vectors.{dot}
 use Rattle.quadratic_form.specs.Forms.{quad}
 use Rattle.quadratic_form.specs.Places.{list_from, form_from}
@@ -22,13 +21,10 @@ one_more e f o t y n r k h g p q s =
     let count : n - r - 1 ≡ k = omega arith in
     let first : r ≡ n - (k + 1) = omega arith in
     let more : suc k ≡ k + 1 = omega arith in
-    swap o t
+    +ℤ_comm o t
     ∙ ap₂ (λ a b. a +ℤ b) (s ∙ ap (λ a. e r r *ℤ (f r *ℤ f r) +ℤ pos 2 *ℤ (f r *ℤ a)) (q ∙ ap (λ (m : ℕ). dot (list_from (e r) (suc r) m) (list_from f (suc r) m)) count))
     (p ∙ ap (λ (m : ℕ). quad (form_from e m k) (list_from f m k)) start)
     ∙ ap₂ (λ (i j : ℕ). quad (form_from e i j) (list_from f i j)) first more
-  where
-    swap : (a b : ℤ) → a +ℤ b ≡ b +ℤ a
-    swap a b = same_by (a ∷ b ∷ []) (λ a b. (a ⊕ b, b ⊕ a)) refl
 
 -- what the code adds for one column
 column_is : (e x y a b d t : ℤ) → a ≡ e → b ≡ x → d ≡ y → t ≡ a *ℤ (b *ℤ b) +ℤ pos 2 *ℤ (b *ℤ d) → t ≡ e *ℤ (x *ℤ x) +ℤ pos 2 *ℤ (x *ℤ y)

@@ -1,4 +1,4 @@
-use Rattle.std.proofs.Common.{◌≡◌, ◌≤◌, ℕ, Bool, ◌+◌, ◌*◌, List, ℤ, All, ap, ap₂, sym, subst, ◌∙◌, arith}
+use Rattle.std.proofs.Common.{◌≡◌, ℕ, Bool, ◌+◌, ◌*◌, List, ℤ, All, ap, ap₂, sym, subst, ◌∙◌, arith, le_antisymm}
 use Rattle.std.proofs.lemmas.List.Elements.{All-push}
 use Rattle.sim_session.specs.Sequence.{state_after, drawn_within}
 use Rattle.sim_session.specs.Values.{l5_cycles, cycles_from, base_cycles, rover_cycles, truth_of, first_of, AreSmall}
@@ -39,18 +39,14 @@ loop-k-preserved c =
       rover_size = subst (λ (t : List (List ℤ)). All AreSmall t) (sym c.in_ok-push-2.ensures.items) (All-push AreSmall c.loop-k.all.rover.items rover.result now.rover_size rover.ensures.size);
     }
 
--- all satellites
-same : (k sats : ℕ) → k ≤ sats → sats ≤ k → k ≡ sats
-same k sats h l = omega arith
-
 pub returns-clause-base : goal.returns-clause-base
 returns-clause-base c = λ seed e. c.loop-k.invariant.base seed e
-    ∙ ap (λ (n : ℕ). first_of (base_cycles seed c.args.sats c.args.l5) n) (same c.loop-k._k c.args.sats c.loop-k.auto._k-end c.loop-k-test.false)
+    ∙ ap (λ (n : ℕ). first_of (base_cycles seed c.args.sats c.args.l5) n) (le_antisymm c.loop-k.auto._k-end c.loop-k-test.false)
 
 pub returns-clause-rover : goal.returns-clause-rover
 returns-clause-rover c = λ seed e. c.loop-k.invariant.rover seed e
-    ∙ ap (λ (n : ℕ). first_of (rover_cycles seed c.args.sats c.args.l5) n) (same c.loop-k._k c.args.sats c.loop-k.auto._k-end c.loop-k-test.false)
+    ∙ ap (λ (n : ℕ). first_of (rover_cycles seed c.args.sats c.args.l5) n) (le_antisymm c.loop-k.auto._k-end c.loop-k-test.false)
 
 pub returns-clause-truth : goal.returns-clause-truth
 returns-clause-truth c = λ seed e. c.loop-k.invariant.truth seed e
-    ∙ ap (λ (n : ℕ). first_of (truth_of seed c.args.sats c.args.l5) n) (same c.loop-k._k c.args.sats c.loop-k.auto._k-end c.loop-k-test.false)
+    ∙ ap (λ (n : ℕ). first_of (truth_of seed c.args.sats c.args.l5) n) (le_antisymm c.loop-k.auto._k-end c.loop-k-test.false)

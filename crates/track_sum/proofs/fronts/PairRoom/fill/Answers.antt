@@ -1,14 +1,13 @@
-use Rattle.std.proofs.Common.{◌≡◌, ℕ, ◌+◌, Result, Ok, Err, OnOk, List, sym, ◌∙◌, subst}
+use Rattle.std.proofs.Common.{ℕ, sym, ◌∙◌, subst}
+use Rattle.std.proofs.lemmas.Result.{IfErr-weaker, on_ok_weaker}
 use Rattle.quadratic_form.specs.Lowering.{IsExponent}
 use Rattle.normal_sum.specs.Values.{form_of}
 use Rattle.obs_rows.specs.Signals.{fine_signals}
 use Rattle.integer_form.specs.Told.{IsToldAs}
-use Rattle.lower_form.specs.Forms.{IsFrontOf}
 use Rattle.lower_form.specs.Fronts.{front_of}
 use Rattle.lower_form.proofs.Exponents.{has_exponent}
 use Rattle.lower_form.specs.Rooms.{IsClean}
-use Rattle.track_sum.specs.PairFronts.{IsFrontOfPair, IsRefusedPair}
-use Rattle.track_sum.proofs.Results.{on_ok, err_weaker}
+use Rattle.track_sum.specs.PairFronts.{IsRefusedPair}
 use Rattle.track_sum.proofs.fronts.PairRoom.fill.Goals as goal
 
 pub refill_front-requires-clause-clean : goal.refill_front-requires-clause-clean
@@ -21,13 +20,13 @@ pub invariant_of-self : goal.invariant_of-self
 invariant_of-self c = record { clean = subst (λ (k : ℕ). IsClean k c.refill_front.new.room) (sym c.refill_front.ensures.columns) c.refill_front.ensures.clean }
 
 pub returns-clause-front : goal.returns-clause-front
-returns-clause-front c = on_ok (IsFrontOf c.refill_pair.new.normal c.refill_front.new.front) (IsFrontOfPair c.args.arcs.now (fine_signals c.args.signals) c.args.pair.now c.refill_front.new.front)
+returns-clause-front c = on_ok_weaker
     c.refill_front.result (λ is. record { normal = c.refill_pair.new.normal; of_rows = c.refill_pair.ensures; front = is }) c.refill_front.ensures.front
 
 pub returns-clause-refused : goal.returns-clause-refused
 returns-clause-refused c =
     let some = has_exponent (form_of c.refill_pair.new.normal) in
-    err_weaker (λ e. (h : ℕ) → IsExponent h (form_of c.refill_pair.new.normal) → IsToldAs e (front_of h c.refill_pair.new.normal)) (IsRefusedPair c.args.arcs.now (fine_signals c.args.signals) c.args.pair.now) c.refill_front.result
+    IfErr-weaker c.refill_front.result (λ e. (h : ℕ) → IsExponent h (form_of c.refill_pair.new.normal) → IsToldAs e (front_of h c.refill_pair.new.normal)) (IsRefusedPair c.args.arcs.now (fine_signals c.args.signals) c.args.pair.now)
     (λ e told. record { normal = c.refill_pair.new.normal; of_rows = c.refill_pair.ensures; h = some.0; exponent = some.1; told = told some.0 some.1 }) c.refill_front.ensures.refused
 
 pub returns-clause-columns : goal.returns-clause-columns
