@@ -1,4 +1,5 @@
 pub mod OldRanges
+pub mod OldRules
 pub mod OldArcs
 pub mod OldPairs
 pub mod OldTails

@@ -4,7 +4,7 @@
 //! numbers, and specs/ says in words of its own how it was spelled and what strictly best meant in it, so that no later
 //! change of the program moves that meaning. `read_old` answers the certificate whose old spelling the text is (`ok`),
 //! the only one (`only`), or refuses a text that spells none (`refused`), at the first line and check that fails
-//! (`exact`); no certificate of that version begins with the lines up to that one (`stuck`).
+//! (`exact`, `old_flaw_law`); no certificate of that version begins with the lines up to that one (`stuck`).
 //!
 //! `lift` brings its rows into the present unit, in boxes that hold all that the old ones held, and decides them again.
 //! The law of its contract: data of the old boxes times 23/32 are data of the new ones (`boxes`), the weighted sum of
@@ -13,6 +13,7 @@
 //! old tail is read and dropped.
 #![tactic(auto)]
 
+mod laws;
 mod lifted_rows;
 mod lifting;
 mod moved;
@@ -27,6 +28,7 @@ mod old_tails;
 mod read;
 
 pub use cert_data::{Cert, Place};
+pub use laws::old_flaw_law;
 pub use lifting::lift;
 pub use old_arcs::OldArc;
 pub use old_certs::OldCert;

@@ -1,0 +1,13 @@
+//! What the text of a certificate of the first version determines. There is nothing to run: the contract is the law.
+ghost use Rattle.std.specs.Prelude.{◌≡◌, ℕ, List, Err};
+ghost use Rattle.rinex_head.specs.declared.place.At.{At};
+ghost use Rattle.rinex_head.specs.OwnFlaws.{IsOwnFlaw};
+ghost use Rattle.cert_words.specs.TextLines.{ended_lines};
+ghost use Rattle.cert_lines.specs.declared.version.Version.TheVariants.{One};
+ghost use Rattle.cert_text.specs.Rules.{reading_as};
+ghost use Rattle.cert_migrate.specs.OldRules.{old_rules};
+
+/// The column and the reason of a refusal are those of the check of its own line.
+pub fn old_flaw_law()
+    ensures { (text : List ℕ) (at : At) → reading_as One text ≡ Err at → IsOwnFlaw old_rules (ended_lines text) at }
+{}
