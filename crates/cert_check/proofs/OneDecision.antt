@@ -9,7 +9,7 @@ use Rattle.fix_decide.specs.Decisions.{IsFormOf, IsSeparated}
 use Rattle.cert_data.specs.declared.tails.Tail.{Tail}
 use Rattle.cert_data.specs.declared.tails.Tail.TheVariants.{Fixed, Unseparated, Weak, Overwidth, Unsettled, Spent}
 use Rattle.cert_check.specs.Settled.{IsRefused, IsBaselineWide, IsSumWide, IsDecision, tail_of}
-use Rattle.cert_check.specs.RowDecisions.{IsRowDecision, IsSameTail, HasGivenUp, IsSameDecision, IsOnlyDecision}
+use Rattle.cert_check.specs.RowDecisions.{IsRowDecision, IsSameTail, HasGivenUp, IsSameDecision}
 use Rattle.cert_check.proofs.SameNumbers.{same_numbers}
 use Rattle.cert_check.proofs.SameForms.{Found, fix_of, one_found}
 use Rattle.cert_check.proofs.Apart.{same_refusal, no_form, no_move, no_sum, not_wide, as_far}
@@ -52,7 +52,7 @@ same_self (Overwidth place) = refl
 same_self (Unsettled entry) = refl
 same_self (Spent budget) = refl
 
-equal : (t u v : Tail) → t ≡ v → u ≡ v → IsSameDecision t u
+pub equal : (t u v : Tail) → t ≡ v → u ≡ v → IsSameDecision t u
 equal t u v e f = inl (subst (λ (w : Tail). IsSameTail t w) (e ∙ sym f) (same_self t))
 
 alike : (t u v w : Tail) → t ≡ v → u ≡ w → IsSameTail v w → IsSameDecision t u
@@ -93,7 +93,3 @@ pair_up s r n t u (near d close is) (near e close_too is_too) = alike t u (near_
 
 pub one_decision : (s : Session) (ratio budget : ℕ) (t u : Tail) → IsRowDecision s ratio budget t → IsRowDecision s ratio budget u → IsSameDecision t u
 one_decision s ratio budget t u a b = pair_up s ratio budget t u (ends s ratio budget t a) (ends s ratio budget u b)
-
--- so a decision is the only one
-pub only_decision : (s : Session) (ratio budget : ℕ) (tail : Tail) → IsRowDecision s ratio budget tail → IsOnlyDecision s ratio budget tail
-only_decision s ratio budget tail is = record { decision = is; only = λ t other. one_decision s ratio budget t tail other is }

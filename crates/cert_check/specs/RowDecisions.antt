@@ -1,4 +1,4 @@
--- What the rows of a fine session are decided to say, and that it is one thing.
+-- What the rows of a fine session are decided to say, and when two decisions are one.
 use Rattle.std.specs.Prelude.{◌≡◌, ◌⊎◌, ℕ}
 use Rattle.obs_rows.specs.declared.sessions.Session.{Session}
 use Rattle.integer_form.specs.declared.form.Form.{Form}
@@ -44,8 +44,3 @@ HasGivenUp _ = ⊥
 -- one decision, but where a search gave up
 abbrev pub IsSameDecision : Tail → Tail → Type 0
 IsSameDecision t u = IsSameTail t u ⊎ (HasGivenUp t ⊎ HasGivenUp u)
-
--- The rows are decided to say this at a ratio and a budget, and each decision on them is the same.
-pub record IsOnlyDecision (s : Session) (ratio budget : ℕ) (tail : Tail) : Type 0 where
-  pub decision : IsRowDecision s ratio budget tail
-  pub only : (t : Tail) → IsRowDecision s ratio budget t → IsSameDecision t tail

@@ -4,3 +4,4 @@ pub mod RunLaws
 pub mod UsedShifts
 pub mod SameRules
 pub mod FrontNumbers
+pub mod OneEnd

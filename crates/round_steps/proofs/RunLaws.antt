@@ -25,13 +25,13 @@ with_one : (scale : ℕ) (s : Session) (before : List Session) → rounds_at sca
 with_one scale s before = sum_by-cons (λ (x : Session). cond (nat_eq x.scale scale) 1 0) s before
 
 -- the round of a session counts as the session does
-with_session : (scale : ℕ) (s : Session) (before : List Session) → rounds_with scale before (round_of s) ≡ rounds_at scale (s ∷ before)
+pub with_session : (scale : ℕ) (s : Session) (before : List Session) → rounds_with scale before (round_of s) ≡ rounds_at scale (s ∷ before)
 with_session scale s before = turned (rounds_at scale (s ∷ before)) (cond (nat_eq s.scale scale) 1 0) (rounds_at scale before) (with_one scale s before)
   where
     turned : (m b n : ℕ) → m ≡ b + n → n + b ≡ m
     turned m b n sum = omega arith
 
-more_at : (scale : ℕ) (s : Session) (before : List Session) → s.scale ≡ scale → nat_eq scale scale ≡ true → rounds_at scale (s ∷ before) ≡ rounds_at scale before + 1
+pub more_at : (scale : ℕ) (s : Session) (before : List Session) → s.scale ≡ scale → nat_eq scale scale ≡ true → rounds_at scale (s ∷ before) ≡ rounds_at scale before + 1
 more_at scale s before scaled same = turned (rounds_at scale (s ∷ before)) (rounds_at scale before)
     (with_one scale s before ∙ ap (λ (b : Bool). cond b 1 0 + rounds_at scale before) (ap (λ (n : ℕ). nat_eq n scale) scaled ∙ same))
   where
@@ -245,9 +245,7 @@ fine_decides rules point arcs coarse_made made ratio budget s form tail so_far s
     before = so_far.before;
     reached = fine_session rules point arcs coarse_made made so_far s session_is;
     stands = session_is.stands;
-    form = form;
-    settled = settled_form;
-    decision = decided;
+    decided = record { form = form; settled = settled_form; decision = decided };
   }),
 )
 

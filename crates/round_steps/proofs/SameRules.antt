@@ -114,9 +114,7 @@ ends_full old new same ratio budget made s tail (fine, inr decided) = (
     before = decided.before;
     reached = reaches old new same made decided.before (round_of s) decided.reached;
     stands = (same.stands s).1 decided.stands;
-    form = decided.form;
-    settled = decided.settled;
-    decision = decided.decision;
+    decided = decided.decided;
   }),
 )
 

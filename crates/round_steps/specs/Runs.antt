@@ -17,8 +17,8 @@ use Rattle.round_steps.specs.declared.runs.RunEnd.{RunEnd}
 use Rattle.round_steps.specs.declared.runs.CoarseEnd.{CoarseEnd}
 use Rattle.round_steps.specs.Shifts.{AreGrown}
 use Rattle.obs_rows.specs.ReceiverPoints.{IsReceiverPoint}
-use Rattle.cert_check.specs.Settled.{IsDecision, IsBestWhereFixed}
-use Rattle.round_steps.specs.Steps.{IsSettledForm, IsMoved, IsRoundDeclined}
+use Rattle.cert_check.specs.Settled.{IsBestWhereFixed}
+use Rattle.round_steps.specs.Steps.{IsSettledForm, IsMoved, IsRoundDeclined, IsRoundDecided}
 
 -- a round: its scale, the rover's point, and the arcs with their shifts
 pub record Round : Type 0 where
@@ -149,9 +149,7 @@ pub record DecidesAt (rules : Rules) (ratio budget : ℕ) (made : RoundCounts) (
   pub before : List Session
   pub reached : Reaches rules made before (round_of s)
   pub stands : rules.stands s
-  pub form : Form
-  pub settled : IsSettledForm s form
-  pub decision : IsDecision s form ratio budget tail
+  pub decided : IsRoundDecided s ratio budget tail
 
 abbrev pub scale_of : Stage → ℕ
 scale_of Coarse = COARSE_SCALE

@@ -8,7 +8,8 @@ use Rattle.integer_form.specs.FloatPoint.{item, float_point, HasWide}
 use Rattle.fix_decide.specs.Decisions.{IsFormOf}
 use Rattle.cert_data.specs.declared.tails.Tail.{Tail}
 use Rattle.cert_data.specs.declared.tails.Tail.TheVariants.{Fixed, Unseparated, Weak, Overwidth, Unsettled, Spent}
-use Rattle.cert_check.specs.Settled.{IsRefused}
+use Rattle.cert_check.specs.Settled.{IsRefused, IsDecision}
+use Rattle.cert_check.specs.RowDecisions.{IsSameDecision}
 use Rattle.round_steps.specs.declared.steps.Step.{Step}
 use Rattle.round_steps.specs.declared.steps.Step.TheVariants.{Settled, Moved}
 use Rattle.obs_rows.specs.ReceiverPoints.{IsReceiverPoint}
@@ -73,3 +74,21 @@ IsRoundDeclined last s (Overwidth place) =
     IsRefused s (LowerFault.Overwidth place) ⊎ (((place ≡ Place.Float) × IsFloatWide s) ⊎ ((place ≡ Place.Point) × ((last ≡ false) × IsOutOfReach s)))
 IsRoundDeclined last s (Unsettled entry) = (last ≡ true) × ((x : List ℤ) × IsUnsettled s x entry)
 IsRoundDeclined last s (Spent budget) = ⊥
+
+-- the round is settled, and its form is decided to say this at a ratio and a budget
+pub record IsRoundDecided (s : Session) (ratio budget : ℕ) (tail : Tail) : Type 0 where
+  pub form : Form
+  pub settled : IsSettledForm s form
+  pub decision : IsDecision s form ratio budget tail
+
+-- ---- one end
+-- A fine round ends the run with this tail: it is declined or decided
+abbrev pub IsRoundEnd : Bool → Session → ℕ → ℕ → Tail → Type 0
+IsRoundEnd last s ratio budget tail = IsRoundDeclined last s tail ⊎ IsRoundDecided s ratio budget tail
+
+-- A fine round ends the run with this tail and with no other, but where a search gave up, and doesn't move the point. `last` says
+-- that no further round at its scale is allowed.
+pub record IsOnlyEnd (last : Bool) (s : Session) (ratio budget : ℕ) (tail : Tail) : Type 0 where
+  pub ends : IsRoundEnd last s ratio budget tail
+  pub only : (t : Tail) → IsRoundEnd last s ratio budget t → IsSameDecision t tail
+  pub stays : (point numbers : List ℤ) → IsStep last s (Moved point numbers) → ⊥

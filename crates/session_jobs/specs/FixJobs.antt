@@ -1,5 +1,5 @@
 -- What the command `fix` answers of its files.
-use Rattle.std.specs.Prelude.{◌≡◌, ◌⊎◌, ℕ, true, List, map, ℤ}
+use Rattle.std.specs.Prelude.{◌≡◌, ◌⊎◌, ◌==◌, ℕ, true, List, map, ℤ}
 use Rattle.obs_store.specs.declared.file.ObsFile.{ObsFile}
 use Rattle.eph_store.specs.File.{Records}
 use Rattle.obs_rows.specs.declared.arcs.Arc.{Arc}
@@ -16,13 +16,12 @@ use Rattle.cert_data.specs.declared.certs.Cert.{Cert}
 use Rattle.cert_data.specs.declared.outcomes.Outcome.{Outcome}
 use Rattle.cert_data.specs.declared.outcomes.Answer.{Answer}
 use Rattle.cert_data.specs.declared.outcomes.Answer.TheVariants.{Full}
-use Rattle.integer_form.specs.declared.faults.Place.TheVariants.{Float, Point}
-use Rattle.cert_data.specs.declared.tails.Tail.{Tail}
-use Rattle.cert_data.specs.declared.tails.Tail.TheVariants.{Fixed, Overwidth, Unsettled}
+use Rattle.cert_data.specs.declared.tails.Tail.TheVariants.{Fixed}
 use Rattle.cert_data.specs.declared.verdicts.Verdict.{Verdict}
 use Rattle.cert_data.specs.declared.verdicts.Verdict.TheVariants.{Certified}
-use Rattle.cert_check.specs.RowDecisions.{IsOnlyDecision}
 use Rattle.cert_check.specs.Verdicts.{IsVerdictOf, IsGivenUp}
+use Rattle.round_steps.specs.Steps.{IsOnlyEnd}
+use Rattle.round_steps.specs.Runs.{most_rounds}
 use Rattle.run_options.specs.declared.options.Options.{Options}
 use Rattle.obs_rows.specs.BandSets.{bands_of}
 use Rattle.epoch_pair.specs.Beginnings.{IsPosition, AreSignals, AreTaken}
@@ -72,21 +71,13 @@ pub record IsFixedFor (b r : ObsFile) (n : Records) (o : Options) (answer : Answ
 abbrev pub status_of : Answer → Status
 status_of a = verdict_status (is_fixed a)
 
--- A printed tail that no round gives that isn't settled: it comes of the decision on the rows alone. A float point may be too wide
--- before that decision or at it.
-abbrev pub IsOfRows : Tail → Type 0
-IsOfRows (Overwidth Float) = ⊥
-IsOfRows (Overwidth Point) = ⊥
-IsOfRows (Unsettled entry) = ⊥
-IsOfRows _ = Unit {0}
-
 -- The outcome of the files, in its two texts. A certificate that is printed stands for the files, whatever it says, and is the only
--- one with its text. What its rows are decided to say is one thing, but where a search gave up, also where it is no fix.
+-- one with its text. The round of its session ends the run, and in no other way, but where a search gave up.
 pub record AnswersFix (o : Options) (b r : ObsFile) (n : Records) (end : Ending) : Type 0 where
   pub outcome : Outcome
   pub is : IsOutcome b r n o outcome
   pub fixed : is_fixed outcome.answer ≡ true → IsFixedFor b r n o outcome.answer
-  pub only : (cert : Cert) → outcome.answer ≡ Full cert → IsOfRows cert.tail → IsOnlyDecision cert.session cert.ratio cert.budget cert.tail
+  pub only : (cert : Cert) → outcome.answer ≡ Full cert → IsOnlyEnd (outcome.rounds.fine == most_rounds 0) cert.session cert.ratio cert.budget cert.tail
   pub stands : (cert : Cert) → outcome.answer ≡ Full cert → StandsForIts b r n o cert
   pub whole : IsWholeAnswer outcome.answer
   pub end_is : end ≡ ending (status_of outcome.answer) (answer_text outcome.answer) (outcome_text outcome)

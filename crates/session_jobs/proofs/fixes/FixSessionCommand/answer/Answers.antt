@@ -1,4 +1,4 @@
-use Rattle.session_jobs.proofs.Certified.{decided_once}
+use Rattle.session_jobs.proofs.Certified.{ends_once}
 use Rattle.session_jobs.proofs.FixSays.{fixed_for}
 use Rattle.session_jobs.proofs.Runs.{stands_for}
 use Rattle.session_jobs.proofs.fixes.FixSessionCommand.answer.Goals as goal
@@ -18,7 +18,7 @@ returns-clause-answered c =
         outcome = outcome;
         is = is;
         fixed = fixed_for files.base files.rover files.nav c.args.options.now outcome is c.in_ok-outcome.ensures.strictly_best;
-        only = decided_once files.base files.rover files.nav c.args.options.now outcome is;
+        only = ends_once files.base files.rover files.nav c.args.options.now outcome is;
         stands = λ cert full. stands_for files.base files.rover files.nav c.args.options.now outcome cert is full;
         whole = written.whole;
         end_is = written.ended;
