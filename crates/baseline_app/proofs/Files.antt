@@ -1,7 +1,7 @@
 -- What each job does with its files.
-use Rattle.std.proofs.Common.{◌≡◌, ◌≢◌, ◌⊎◌, inl, inr, ℕ, List, [], ◌∷◌, Result, Ok, Err, Any, All, length, refl, sym, ap, ◌∙◌, subst}
+use Rattle.std.proofs.Common.{◌≡◌, ◌≢◌, ◌⊎◌, inl, inr, ℕ, suc, List, [], ◌∷◌, ◌++◌, Result, Ok, Err, Any, All, refl, sym, ap, ◌∙◌, subst, arith}
 use Rattle.line_source.specs.Causes.{Rose}
-use Rattle.line_source.specs.Openings.{OpensFirst}
+use Rattle.line_source.specs.Openings.{names_of, OpensFirst}
 use Rattle.line_source.proofs.OpeningLaws.{none_first}
 use Rattle.job_answers.specs.declared.output.JobOutput.{JobOutput}
 use Rattle.job_answers.specs.declared.stop.JobStop.{JobStop}
@@ -11,12 +11,11 @@ use Rattle.job_answers.specs.declared.status.Status.TheVariants.{ReadFault, Writ
 use Rattle.job_answers.specs.Texts.{no_memory_line}
 use Rattle.job_answers.specs.Answers.{ending_of, IfEnded}
 use Rattle.job_answers.specs.Endings.{Ending, ending}
-use Rattle.job_answers.specs.Delivered.{SinkChange, GainsUnlessFault, IsDelivered}
-use Rattle.job_answers.specs.Works.{FileWork, IsTold, HaveFault, NoLine, EndsOver, IsDoneOver}
+use Rattle.job_answers.specs.Delivered.{SinkChange, IsDelivered}
+use Rattle.job_answers.specs.Works.{FileWork, AreAllRead, NamesFault, NoLine, EndsOver, IsDoneOver}
 use Rattle.job_answers.specs.TextJobs.{TextJob, TextEnds}
 use Rattle.job_answers.proofs.EndingLaws.{ended_weaker, delivered_status}
-use Rattle.job_answers.proofs.WorkLaws.{verdict_over}
-use Rattle.session_files.specs.FaultNames.{IsFaultOf}
+use Rattle.job_answers.proofs.WorkLaws.{none_opened, verdict_over}
 use Rattle.session_files.specs.SessionJobs.{IsPairLine}
 use Rattle.command_words.specs.declared.jobs.Job.{Job}
 use Rattle.command_words.specs.declared.sims.Part.{Part}
@@ -30,7 +29,8 @@ use Rattle.baseline_app.proofs.Completes.{part_verdict}
 one_over : (work : FileWork) (names : List (List ℕ)) (ends more : Ending → Type 0) (end : Ending) → (ends end → more end) → EndsOver work names NoLine ends end → EndsOver work names IsPairLine more end
 one_over work names ends more end weaker over = record {
   ends_so = weaker over.ends_so;
-  refused = λ is. elim (over.refused is) [ inl file ↦ inl file | inr none ↦ absurd none ];
+  answered = over.answered;
+  refused = λ is. elim (over.refused is) [ inl file ↦ inl file | inr none ↦ absurd none.0 ];
   fault = over.fault;
   named = over.named;
 }
@@ -55,33 +55,35 @@ job_asked work r job asked is done = subst (λ (j : Job). IsDoneOver work (file_
 -- a part of a simulated session opens none
 pub part_done : (work : FileWork) (r : Result JobOutput JobStop) (part : Part) (seed epochs sats bands system : ℕ) → work.left.openings ≡ work.openings
     → IfEnded r (PartEnds part seed epochs sats bands system) → IsDoneOver work [] IsPairLine (PartEnds part seed epochs sats bands system) r
-part_done work r part seed epochs sats bands system same ends = record {
-  opened = none_first [] work.openings work.left.openings same;
-  ended = ended_weaker r _ _ (λ end so. verdict_over work [] IsPairLine (PartEnds part seed epochs sats bands system) end (part_verdict part seed epochs sats bands system end so) so) ends;
-}
+part_done work r part seed epochs sats bands system same ends =
+    let read : AreAllRead work [] = record { opened = ap names_of same ∙ none_opened work.openings; last = tt } in
+    record {
+      opened = none_first [] work.openings work.left.openings same;
+      ended = ended_weaker r _ _ (λ end so.
+          verdict_over work [] IsPairLine (PartEnds part seed epochs sats bands system) end read (part_verdict part seed epochs sats bands system end so) so) ends;
+    }
 
 -- ---- the fault that is named
+among : {X : Type 0} (P : X → Type 0) (earlier : List X) (x : X) (later : List X) → P x → Any P (earlier ++ x ∷ later)
+among P [] x later holds = (0, x, omega arith, refl, holds)
+among P (y ∷ ys) x later holds = let a = among P ys x later holds in (suc a.0, a.1, omega (arith, a.2), a.3, a.4)
+
+-- what holds of the file that a fault names holds of one of the files
+pub fault_among : (work : FileWork) (names : List (List ℕ)) (line : List ℕ) (P : List ℕ → Type 0) → (fault : NamesFault work names line) → P fault.name → Any P names
+fault_among work names line P fault holds = subst (Any P) (sym fault.among) (among P fault.earlier fault.name fault.later holds)
+
 -- where all names are sure, there is none
-pub sure_by_named : (sure : List ℕ → Type 0) (names : List (List ℕ)) (result : Status) (tells : List ℕ → Type 0) → HaveFault sure names result tells → All sure names → result ≢ ReadFault
-sure_by_named sure names result tells named all is = let found = named is in absurd (found.4.unsure (subst sure found.3 (all found.0 found.1 found.2)))
-
-told_fault : (sure : List ℕ → Type 0) (P Q : List ℕ → Type 0) (names : List (List ℕ)) → ((text : List ℕ) → P text → Q text) → Any (IsTold sure P) names → Any (IsTold sure Q) names
-told_fault sure P Q names more found = (found.0, found.1, found.2, found.3, record { line = more _ found.4.line; unsure = found.4.unsure })
-
--- a read fault that is written is that of the ending
-pub fault_told : (sure : List ℕ → Type 0) (names : List (List ℕ)) (end : Ending) (result : Status) (out err : SinkChange) → IsDelivered end result out err
-    → IsFaultOf sure names end → HaveFault sure names result (GainsUnlessFault err)
-fault_told sure names end result out err (inl written) fault = λ is.
-    told_fault sure (λ text. end.err ≡ text) (GainsUnlessFault err) names (λ text same. subst (GainsUnlessFault err) same written.err_gains) (fault (sym written.same ∙ is))
-fault_told sure names end result out err (inr (inl by_out)) fault = λ is. absurd (cc (by_out.fault, is))
-fault_told sure names end result out err (inr (inr by_err)) fault = λ is. absurd (cc (by_err.fault, is))
+none_sure : (work : FileWork) (names : List (List ℕ)) (line : List ℕ) → NamesFault work names line → All work.sure names → ⊥
+none_sure work names line fault all =
+    let found = fault_among work names line (λ name. work.sure name → ⊥) fault fault.unsure in
+    found.4 (subst work.sure found.3 (all found.0 found.1 found.2))
 
 -- ---- what a run does with files
 files_over : (work : FileWork) (job : Job) (end : Ending) (result : Status) (out err : SinkChange) → OpensFirst (file_words job) work.openings work.left.openings
     → EndsOver work (file_words job) IsPairLine (JobEnds job work.told) end → IsDelivered end result out err → UsesFiles work (file_words job) result
 files_over work job end result out err opens over written = record {
   opened = opens;
-  sure = sure_by_named work.sure (file_words job) result (GainsUnlessFault err) (fault_told work.sure (file_words job) end result out err written over.named);
+  sure = λ all is. none_sure work (file_words job) end.err (over.named (delivered_status end result ReadFault out err written is (λ e. absurd (cc (e))))) all;
 }
 
 -- out of memory names no file

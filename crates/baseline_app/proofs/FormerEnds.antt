@@ -25,8 +25,8 @@ use Rattle.outcome_report.specs.OutcomeText.{is_fixed}
 use Rattle.job_answers.specs.declared.status.Status.{Status}
 use Rattle.job_answers.specs.declared.status.Status.TheVariants.{Refused, ReadFault}
 use Rattle.job_answers.specs.Endings.{Ending, EndsByFile, IsAdmitted}
-use Rattle.job_answers.specs.Delivered.{SinkChange, GainsUnlessFault}
-use Rattle.job_answers.specs.Works.{FileWork, HaveFault}
+use Rattle.job_answers.specs.Delivered.{SinkChange, GainsUnlessFault, IsDelivered}
+use Rattle.job_answers.specs.Works.{FileWork, NamesFault, IsFaultOf}
 use Rattle.job_answers.proofs.EndingLaws.{delivered_status}
 use Rattle.job_answers.specs.TextJobs.{TextJob, EndsOnText, IsTextAdmitted, form_job}
 use Rattle.session_files.specs.SessionFiles.{EndsBySession}
@@ -52,9 +52,9 @@ use Rattle.command_words.specs.declared.jobs.Job.TheVariants as job
 use Rattle.command_words.specs.Words.{file_words, IsJob}
 use Rattle.baseline_app.specs.Jobs as present
 use Rattle.baseline_app.specs.Runs as runs
-use Rattle.baseline_app.specs.Former.{FormEnds, CertEnds, EndsWithOutcome, EndsWithTrack, JobEnds, IsCertAdmitted, IsFormerReadable, IsAnswer, IsRun, IsComplete}
+use Rattle.baseline_app.specs.Former.{FormEnds, CertEnds, EndsWithOutcome, EndsWithTrack, JobEnds, IsCertAdmitted, IsFormerReadable, IsAnswer, IsRun, IsComplete, IsTold, HaveFault}
 use Rattle.baseline_app.proofs.Completes.{asked_ends, refused_told}
-use Rattle.baseline_app.proofs.Files.{fault_told}
+use Rattle.baseline_app.proofs.Files.{fault_among}
 
 -- ---- by the text of one file
 ends_at : (told : List ℕ → Option (List ℕ)) (name : List ℕ) (P Q : List ℕ → Ending → Type 0) (end : Ending) → ((text : List ℕ) → P text end → Q text end) → EndsByFile told name P end
@@ -174,14 +174,23 @@ is_run words work result out err run = record { end = run.end; answer = is_answe
 pub have_refused : (words : List (List ℕ)) (work : FileWork) (result : Status) (out err : SinkChange) → runs.IsRun words work result out err → (j : Job) → IsJob words j
     → HaveRefused work.told work.left (file_words j) result (GainsUnlessFault err)
 have_refused words work result out err run j asked = elim (asked_ends j words work run.end asked run.answer) [
-  | inl over ↦ refused_told work.told work.left (file_words j) run.end result out err run.written over.refused
+  | inl over ↦ refused_told work.told work.left (file_words j) run.end result out err run.written (λ is. elim (over.refused is) [ inl file ↦ inl file | inr line ↦ inr line.0 ])
   | inr none ↦ λ is. let s = delivered_status run.end result Refused out err run.written is (λ e. absurd (cc (e))) in absurd (cc (s, none))
 ]
+
+-- a read fault that is written is that of the ending
+fault_told : (work : FileWork) (names : List (List ℕ)) (end : Ending) (result : Status) (out err : SinkChange) → IsDelivered end result out err
+    → IsFaultOf work names end → HaveFault work.sure names result (GainsUnlessFault err)
+fault_told work names end result out err (inl written) fault = λ is.
+    let named : NamesFault work names end.err = fault (sym written.same ∙ is) in
+    fault_among work names end.err (IsTold work.sure (GainsUnlessFault err)) named (record { line = subst (GainsUnlessFault err) named.line_is written.err_gains; unsure = named.unsure })
+fault_told work names end result out err (inr (inl by_out)) fault = λ is. absurd (cc (by_out.fault, is))
+fault_told work names end result out err (inr (inr by_err)) fault = λ is. absurd (cc (by_err.fault, is))
 
 pub have_fault : (words : List (List ℕ)) (work : FileWork) (result : Status) (out err : SinkChange) → runs.IsRun words work result out err → (j : Job) → IsJob words j
     → HaveFault work.sure (file_words j) result (GainsUnlessFault err)
 have_fault words work result out err run j asked = elim (asked_ends j words work run.end asked run.answer) [
-  | inl over ↦ fault_told work.sure (file_words j) run.end result out err run.written over.named
+  | inl over ↦ fault_told work (file_words j) run.end result out err run.written over.named
   | inr none ↦ λ is. let s = delivered_status run.end result ReadFault out err run.written is (λ e. absurd (cc (e))) in absurd (cc (s, none))
 ]
 

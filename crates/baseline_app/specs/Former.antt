@@ -1,6 +1,6 @@
 -- What `run` said before its clauses on commands were one, as records of then over the definitions of now: a law (`former_law`) has each of them follow from
 -- those of now. The clauses `untouched`, `read`, `write` and `usage` stand as they stood.
-use Rattle.std.specs.Prelude.{◌≡◌, ◌≢◌, ◌⊎◌, ℕ, ℤ, ◌≤ℤ◌, ◌≤◌, Bool, true, false, List, [], length, All, codes, Result, Err, Some}
+use Rattle.std.specs.Prelude.{◌≡◌, ◌≢◌, ◌⊎◌, ℕ, ℤ, ◌≤ℤ◌, ◌≤◌, Bool, true, false, List, [], length, Any, All, codes, Result, Err, Some}
 use Rattle.std.specs.declared.option.Option.{Option}
 use Rattle.std.specs.Io.KnownBytes.{Appends}
 use Rattle.line_source.specs.Lines.{lines_of}
@@ -63,10 +63,10 @@ use Rattle.track_job.specs.TrackTexts.{track_answer_text, IsWholeTrackAnswer, tr
 use Rattle.job_answers.specs.declared.status.Status.{Status}
 use Rattle.job_answers.specs.declared.status.Status.TheVariants.{Done, Declined, Refused, ReadFault, WriteFault, NoMemory}
 use Rattle.job_answers.specs.Statuses.{IsVerdictStatus}
-use Rattle.job_answers.specs.Texts.{refusal_line, no_memory_line}
+use Rattle.job_answers.specs.Texts.{refusal_line, read_fault_line, no_memory_line}
 use Rattle.job_answers.specs.Endings.{Ending, ending, IsTextOf, IsRefusal, EndsByFile, IsAdmitted}
 use Rattle.job_answers.specs.Delivered.{SinkChange, GainsUnlessFault, IsDelivered}
-use Rattle.job_answers.specs.Works.{FileWork, HaveFault}
+use Rattle.job_answers.specs.Works.{FileWork}
 use Rattle.session_files.specs.SessionFiles.{AreFilesOf, EndsBySession}
 use Rattle.session_files.specs.Refusals.{IsPairRefused, HaveRefused}
 use Rattle.session_files.specs.Admitted.{AreAdmitted}
@@ -408,6 +408,15 @@ IsComplete job told result out err = EndsWell job told result out err ⊎ ((resu
 -- all names are sure, or no count of faults rose
 abbrev pub IsSure : FileWork → List (List ℕ) → Type 0
 IsSure work names = All work.sure names ⊎ (Rose work.faults work.faults_now → ⊥)
+
+-- a fault names this file, and the name isn't one that can't fail
+pub record IsTold (sure : List ℕ → Type 0) (tells : List ℕ → Type 0) (name : List ℕ) : Type 0 where
+  pub line : tells (read_fault_line name)
+  pub unsure : sure name → ⊥
+
+-- A read fault names one of these files, and none that can't fail.
+abbrev pub HaveFault : (List ℕ → Type 0) → List (List ℕ) → Status → (List ℕ → Type 0) → Type 0
+HaveFault sure names status tells = status ≡ ReadFault → Any (IsTold sure tells) names
 
 -- ---- the clauses
 -- what `run` says now

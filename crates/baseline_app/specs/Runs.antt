@@ -34,7 +34,7 @@ abbrev pub IsComplete : Job → (List ℕ → Option (List ℕ)) → Status → 
 IsComplete job told result out err = EndsWell job told result out err ⊎ ((result ≡ NoMemory) ⊎ ((result ≡ WriteFault) × (Rose out.before out.now ⊎ Rose err.before err.now)))
 
 -- What a run of a job does with its files: a first part of them is opened, each once and in this order, and there is no read fault
--- where all are sure. What the text says of them, of a refusal and of a read fault, is a part of how the job ends.
+-- where all are sure. What an answer, a refusal and a read fault say of them is a part of how the job ends (`EndsOver`).
 pub record UsesFiles (work : FileWork) (names : List (List ℕ)) (result : Status) : Type 0 where
   pub opened : OpensFirst names work.openings work.left.openings
   pub sure : All work.sure names → result ≢ ReadFault

@@ -11,11 +11,12 @@
 //! Status 2 is a usage error, and comes only where the words are no job (`usage`), 4 only where a file's count of faults
 //! rose (`read`), 5 only where a sink's count did (`write`); with status 0 or 1 neither sink's did (`steady`). What a job
 //! does with its files is one clause (`files`, of `UsesFiles`): a first part of them is opened, each once and in order, and
-//! with sure names there is no read fault. What the end's text for err names is a part of how the job ends (`run`, of
-//! `AnswersJob`), whether or not err takes it: a refusal names a file that was read to its end or is too large, or the two
-//! observation files together; a read fault names one whose name isn't sure. Words without files leave all files as they
-//! are (`untouched`). Where all files of a job are there and of its form, and nothing fails, it ends with status 0 or 1 and
-//! its text is written, or it is out of memory (`complete`); `sim` and `sim run` need no file for that.
+//! with sure names there is no read fault. The rest is a part of how the job ends (`run`, of `EndsOver`), whether or not the
+//! sinks take its texts: an answer, or a refusal of the two observation files together, comes after all were opened and the
+//! last was read to its end; another refusal names a file that was read to its end or is too large; a read fault names one
+//! whose name isn't sure, the last that was opened or the one after it. Words without files leave all files as they are
+//! (`untouched`). Where all files of a job are there and of its form, and nothing fails, it ends with status 0 or 1 and its
+//! text is written, or it is out of memory (`complete`); `sim` and `sim run` need no file for that.
 //!
 //! # Jobs
 //!

@@ -154,8 +154,9 @@ pub fn start<F: Files, O: Sink, E: Sink>(
 
 /// Does what the words after the program's name ask for, and writes its two texts, `out` first.
 /// Words that ask for no job, or for one without files, leave the files as they are. The files under a first part of a job's
-/// file words are opened, each word once and in this order. The file that a refusal names, in the text that is made for `err`,
-/// was read to its end, or is too large; the file that a read fault names there is none that can't fail.
+/// file words are opened, each word once and in this order. An answer comes after all were opened and the last was read to its
+/// end. The file that a refusal names, in the text that is made for `err`, was read to its end, or is too large; the file that a
+/// read fault names there is none that can't fail, and the last that was opened or the one after it.
 pub fn run<F: Files, O: Sink, E: Sink>(
     alloc: Global,
     words: &[String],

@@ -1,5 +1,5 @@
 -- How `list` ends.
-use Rattle.std.proofs.Common.{◌≡◌, ◌≢◌, inl, inr, ℕ, List, [], ◌∷◌, Option, Err, refl, arith}
+use Rattle.std.proofs.Common.{◌≡◌, ◌≢◌, inl, inr, ℕ, List, [], ◌∷◌, Option, Err}
 use Rattle.line_source.specs.Causes.{Rose}
 use Rattle.line_source.specs.Openings.{OpensFirst}
 use Rattle.obs_store.specs.declared.file.ObsFile.{ObsFile}
@@ -13,8 +13,10 @@ use Rattle.job_answers.specs.Endings.{Ending, ending, IsRefusedWhole}
 use Rattle.job_answers.specs.Works.{FileWork, NoLine, IsDoneOver}
 use Rattle.job_answers.specs.TextJobs.{EndsOnText, TextEnds}
 use Rattle.job_answers.proofs.EndingLaws.{verdict_at}
+use Rattle.job_answers.proofs.WorkLaws.{only_fault}
 use Rattle.session_files.specs.SessionFiles.{IsObsOf, StopsAtObs}
 use Rattle.session_files.proofs.FaultLaws.{obs_fault_line}
+use Rattle.session_files.proofs.SessionLaws.{stop_no_verdict}
 use Rattle.file_jobs.specs.Listing.{list_job}
 
 -- a file that was read is listed
@@ -40,9 +42,10 @@ list_stop work name (stop.Ended a) opens stopped refused rose never = record {
   opened = opens;
   ended = record {
     ends_so = stops work.told name (ending_of a) stopped;
+    answered = λ verdict. absurd (stop_no_verdict Gps work.told name (ending_of a) stopped verdict);
     refused = λ is. inl (refused is);
     fault = rose;
-    named = λ is. (0, name, omega arith, refl, record { line = obs_fault_line Gps work.told name (ending_of a) stopped is; unsure = λ sure. never sure is });
+    named = only_fault work name (ending_of a) opens (obs_fault_line Gps work.told name (ending_of a) stopped) never;
   };
 }
 list_stop work name stop.NoMemory opens stopped refused rose never = record { opened = opens; ended = tt }

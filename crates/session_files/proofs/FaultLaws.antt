@@ -1,6 +1,5 @@
 -- A read fault names the file that had it.
-use Rattle.std.proofs.Common.{◌≡◌, ◌≢◌, inl, inr, ℕ, ◌<◌, List, [], Option, length, ap}
-use Rattle.std.specs.Prelude.{slice_index_or}
+use Rattle.std.proofs.Common.{◌≡◌, ◌≢◌, ◌⊎◌, inl, inr, ℕ, List, [], ◌∷◌, ◌++◌, Option, ap}
 use Rattle.rinex_head.specs.declared.system.System.{System}
 use Rattle.obs_source.specs.Formats.{any_of, HasObservation}
 use Rattle.rinex_nav.specs.NavForm.{HasNavFile}
@@ -11,7 +10,7 @@ use Rattle.job_answers.specs.declared.status.Status.TheVariants.{Refused, ReadFa
 use Rattle.job_answers.specs.Answers.{ending_of, IfEnds}
 use Rattle.job_answers.specs.Texts.{read_fault_line}
 use Rattle.job_answers.specs.Endings.{Ending, ending, EndsByFile, IsRefusal}
-use Rattle.session_files.specs.FaultNames.{IsFaultOf}
+use Rattle.job_answers.specs.Works.{FileWork, AreOpened, IsFaultOf}
 use Rattle.session_files.specs.SessionFiles.{StopsAtObs, StopsAtNav}
 
 pub refused_no_fault : (end : Ending) (line : List ℕ) → end ≡ ending Refused [] line → end.status ≢ ReadFault
@@ -32,10 +31,18 @@ pub nav_fault_line : (system : System) (told : List ℕ → Option (List ℕ)) (
 nav_fault_line system told name end stops is =
     fault_line told name (IsRefusal (nav_of system) (HasNavFile system) name) end (λ text refusal. refused_no_fault end _ refusal.end_is) stops is
 
--- a fault of the file at a place names it
-pub fault_at : (why : JobStop) (sure : List ℕ → Type 0) (names : List (List ℕ)) (k : ℕ) (name : List ℕ) (stops : Ending → Type 0) → k < length names → slice_index_or names k name ≡ name
-    → ((end : Ending) → stops end → end.status ≡ ReadFault → end.err ≡ read_fault_line name) → IfEnds why stops → (sure name → IfEnds why (λ end. end.status ≢ ReadFault))
-    → IfEnds why (IsFaultOf sure names)
-fault_at (stop.Ended answer) sure names k name stops inside at line given never = λ is.
-    (k, name, inside, at, record { line = line (ending_of answer) given is; unsure = λ s. never s is })
-fault_at stop.NoMemory sure names k name stops inside at line given never = tt
+-- a fault of a file names it
+pub fault_at : (why : JobStop) (work : FileWork) (names earlier : List (List ℕ)) (name : List ℕ) (later : List (List ℕ)) (stops : Ending → Type 0) → names ≡ earlier ++ name ∷ later
+    → AreOpened earlier work.openings work.left.openings ⊎ AreOpened (earlier ++ name ∷ []) work.openings work.left.openings
+    → ((end : Ending) → stops end → end.status ≡ ReadFault → end.err ≡ read_fault_line name) → IfEnds why stops → (work.sure name → IfEnds why (λ end. end.status ≢ ReadFault))
+    → IfEnds why (IsFaultOf work names)
+fault_at (stop.Ended answer) work names earlier name later stops among opened line given never = λ is. record {
+  earlier = earlier;
+  name = name;
+  later = later;
+  among = among;
+  opened = opened;
+  line_is = line (ending_of answer) given is;
+  unsure = λ s. never s is;
+}
+fault_at stop.NoMemory work names earlier name later stops among opened line given never = tt

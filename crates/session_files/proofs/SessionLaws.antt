@@ -5,6 +5,7 @@ use Rattle.line_source.specs.Causes.{Rose}
 use Rattle.line_source.specs.Openings.{OpensFirst}
 use Rattle.obs_store.specs.declared.file.ObsFile.{ObsFile}
 use Rattle.eph_store.specs.File.{Records}
+use Rattle.rinex_head.specs.declared.system.System.{System}
 use Rattle.rinex_head.specs.Systems.{system_of}
 use Rattle.run_options.specs.declared.options.Options.{Options}
 use Rattle.job_answers.specs.declared.output.JobOutput.{JobOutput}
@@ -12,15 +13,14 @@ use Rattle.job_answers.specs.declared.stop.JobStop.{JobStop}
 use Rattle.job_answers.specs.declared.stop.JobStop.TheVariants as stop
 use Rattle.job_answers.specs.declared.status.Status.TheVariants.{ReadFault}
 use Rattle.job_answers.specs.Statuses.{IsVerdictStatus, IsJobStatus}
-use Rattle.job_answers.specs.Answers.{IfEnds, IfEnded}
+use Rattle.job_answers.specs.Answers.{ending_of, IfEnds, IfEnded}
 use Rattle.job_answers.specs.Endings.{Ending, EndsByFile, IsRefusedWhole}
 use Rattle.job_answers.specs.Delivered.{SinkChange}
-use Rattle.job_answers.specs.Works.{FileWork, EndsOver, IsDoneOver}
+use Rattle.job_answers.specs.Works.{FileWork, AreAllRead, IsFaultOf, EndsOver, IsDoneOver}
 use Rattle.job_answers.proofs.EndingLaws.{ended_weaker, job_status_at}
 use Rattle.job_answers.proofs.WorkLaws.{verdict_over}
 use Rattle.job_answers.proofs.TextLaws.{job_of_verdict}
-use Rattle.session_files.specs.SessionFiles.{AreFilesOf, StopsAtFiles}
-use Rattle.session_files.specs.FaultNames.{IsFaultOf}
+use Rattle.session_files.specs.SessionFiles.{AreFilesOf, StopsAtObs, StopsAtFiles}
 use Rattle.session_files.specs.Admitted.{AreAdmitted}
 use Rattle.session_files.specs.SessionJobs.{SessionAnswers, EndsOnFiles, SessionEnds, IsPairLine, SaysOfSession}
 use Rattle.session_files.proofs.FileLaws.{files_status, no_stop}
@@ -28,37 +28,58 @@ use Rattle.session_files.proofs.RefusalLaws.{never_refused}
 
 -- ---- files of which a session is made, or that are refused together
 files_over : (work : FileWork) (base rover nav : List ℕ) (answers : SessionAnswers) (o : Options) (b r : ObsFile) (n : Records) (end : Ending)
-    → AreFilesOf (system_of o.system) work.told base rover nav b r n → EndsOnFiles answers o b r n end
+    → AreAllRead work (base ∷ rover ∷ nav ∷ []) → AreFilesOf (system_of o.system) work.told base rover nav b r n → EndsOnFiles answers o b r n end
     → EndsOver work (base ∷ rover ∷ nav ∷ []) IsPairLine (SessionEnds answers work.told base rover nav o) end
-files_over work base rover nav answers o b r n end are (inl answered) =
-    verdict_over work (base ∷ rover ∷ nav ∷ []) IsPairLine (SessionEnds answers work.told base rover nav o) end answered.verdict
+files_over work base rover nav answers o b r n end read are (inl answered) =
+    verdict_over work (base ∷ rover ∷ nav ∷ []) IsPairLine (SessionEnds answers work.told base rover nav o) end read answered.verdict
     (inl (record { base_file = b; rover_file = r; records = n; are = are; ends_so = inl answered }))
-files_over work base rover nav answers o b r n end are (inr refused) =
+files_over work base rover nav answers o b r n end read are (inr refused) =
     let s = ap (λ (e : Ending). e.status) refused.end_is in
     record {
       ends_so = inl (record { base_file = b; rover_file = r; records = n; are = are; ends_so = inr refused });
-      refused = λ is. inr (refused.what, ap (λ (e : Ending). e.err) refused.end_is);
+      answered = λ is. read;
+      refused = λ is. inr ((refused.what, ap (λ (e : Ending). e.err) refused.end_is), read);
       fault = λ fault. absurd (cc (s, fault));
       named = λ fault. absurd (cc (s, fault));
     }
 
 pub files_done : (work : FileWork) (base rover nav : List ℕ) (answers : SessionAnswers) (o : Options) (b r : ObsFile) (n : Records) (result : Result JobOutput JobStop)
-    → OpensFirst (base ∷ rover ∷ nav ∷ []) work.openings work.left.openings → AreFilesOf (system_of o.system) work.told base rover nav b r n → IfEnded result (EndsOnFiles answers o b r n)
-    → IsDoneOver work (base ∷ rover ∷ nav ∷ []) IsPairLine (SessionEnds answers work.told base rover nav o) result
-files_done work base rover nav answers o b r n result opens are ends = record {
+    → OpensFirst (base ∷ rover ∷ nav ∷ []) work.openings work.left.openings → AreAllRead work (base ∷ rover ∷ nav ∷ []) → AreFilesOf (system_of o.system) work.told base rover nav b r n
+    → IfEnded result (EndsOnFiles answers o b r n) → IsDoneOver work (base ∷ rover ∷ nav ∷ []) IsPairLine (SessionEnds answers work.told base rover nav o) result
+files_done work base rover nav answers o b r n result opens read are ends = record {
   opened = opens;
   ended = ended_weaker result (EndsOnFiles answers o b r n) (EndsOver work (base ∷ rover ∷ nav ∷ []) IsPairLine (SessionEnds answers work.told base rover nav o))
-      (λ end so. files_over work base rover nav answers o b r n end are so) ends;
+      (λ end so. files_over work base rover nav answers o b r n end read are so) ends;
 }
 
 -- ---- a file at which it stops
+no_verdict : {name : List ℕ} {told : List ℕ → Option (List ℕ)} {ends : List ℕ → Ending → Type 0} (end : Ending)
+    → ((text : List ℕ) → ends text end → IsVerdictStatus end.status → ⊥) → EndsByFile told name ends end → IsVerdictStatus end.status → ⊥
+no_verdict end by_text (inl text) verdict = by_text text.text text.ends_so verdict
+no_verdict end by_text (inr (inl large)) verdict = subst IsVerdictStatus (ap (λ (e : Ending). e.status) large.end_is) verdict
+no_verdict end by_text (inr (inr fault)) verdict = subst IsVerdictStatus (ap (λ (e : Ending). e.status) fault) verdict
+
+pub stop_no_verdict : (system : System) (told : List ℕ → Option (List ℕ)) (name : List ℕ) (end : Ending) → StopsAtObs system told name end → IsVerdictStatus end.status → ⊥
+stop_no_verdict system told name end stops = no_verdict end (λ text refusal. subst IsVerdictStatus (ap (λ (e : Ending). e.status) refusal.end_is)) stops
+
+stops_no_verdict : (o : Options) (told : List ℕ → Option (List ℕ)) (base rover nav : List ℕ) (end : Ending) → StopsAtFiles (system_of o.system) told base rover nav end → IsVerdictStatus end.status → ⊥
+stops_no_verdict o told base rover nav end (inl stops) = stop_no_verdict (system_of o.system) told base end stops
+stops_no_verdict o told base rover nav end (inr (inl stops)) = stop_no_verdict (system_of o.system) told rover end stops.stops
+stops_no_verdict o told base rover nav end (inr (inr stops)) = no_verdict end (λ text refusal. subst IsVerdictStatus (ap (λ (e : Ending). e.status) refusal.end_is)) stops.stops
+
 pub files_stop : (work : FileWork) (base rover nav : List ℕ) (answers : SessionAnswers) (o : Options) (why : JobStop) → OpensFirst (base ∷ rover ∷ nav ∷ []) work.openings work.left.openings
     → IfEnds why (StopsAtFiles (system_of o.system) work.told base rover nav) → IfEnds why (IsRefusedWhole work.told work.left (base ∷ rover ∷ nav ∷ []))
-    → IfEnds why (λ end. end.status ≡ ReadFault → Rose work.faults work.faults_now) → IfEnds why (IsFaultOf work.sure (base ∷ rover ∷ nav ∷ []))
+    → IfEnds why (λ end. end.status ≡ ReadFault → Rose work.faults work.faults_now) → IfEnds why (IsFaultOf work (base ∷ rover ∷ nav ∷ []))
     → IsDoneOver work (base ∷ rover ∷ nav ∷ []) IsPairLine (SessionEnds answers work.told base rover nav o) (Err why)
 files_stop work base rover nav answers o (stop.Ended a) opens stops refused rose named = record {
   opened = opens;
-  ended = record { ends_so = inr stops; refused = λ is. inl (refused is); fault = rose; named = named };
+  ended = record {
+    ends_so = inr stops;
+    answered = λ verdict. absurd (stops_no_verdict o work.told base rover nav (ending_of a) stops verdict);
+    refused = λ is. inl (refused is);
+    fault = rose;
+    named = named;
+  };
 }
 files_stop work base rover nav answers o stop.NoMemory opens stops refused rose named = record { opened = opens; ended = tt }
 
@@ -81,17 +102,6 @@ session_verdict answers told base rover nav o end admitted no_fault (inr stops) 
     absurd (no_stop (system_of o.system) told base rover nav end admitted.base_is admitted.rover_is admitted.nav_is no_fault stops)
 
 -- ---- what is said
-no_verdict : {name : List ℕ} {told : List ℕ → Option (List ℕ)} {ends : List ℕ → Ending → Type 0} (end : Ending)
-    → ((text : List ℕ) → ends text end → IsVerdictStatus end.status → ⊥) → EndsByFile told name ends end → IsVerdictStatus end.status → ⊥
-no_verdict end by_text (inl text) verdict = by_text text.text text.ends_so verdict
-no_verdict end by_text (inr (inl large)) verdict = subst IsVerdictStatus (ap (λ (e : Ending). e.status) large.end_is) verdict
-no_verdict end by_text (inr (inr fault)) verdict = subst IsVerdictStatus (ap (λ (e : Ending). e.status) fault) verdict
-
-stops_no_verdict : (o : Options) (told : List ℕ → Option (List ℕ)) (base rover nav : List ℕ) (end : Ending) → StopsAtFiles (system_of o.system) told base rover nav end → IsVerdictStatus end.status → ⊥
-stops_no_verdict o told base rover nav end (inl stops) = no_verdict end (λ text refusal. subst IsVerdictStatus (ap (λ (e : Ending). e.status) refusal.end_is)) stops
-stops_no_verdict o told base rover nav end (inr (inl stops)) = no_verdict end (λ text refusal. subst IsVerdictStatus (ap (λ (e : Ending). e.status) refusal.end_is)) stops.stops
-stops_no_verdict o told base rover nav end (inr (inr stops)) = no_verdict end (λ text refusal. subst IsVerdictStatus (ap (λ (e : Ending). e.status) refusal.end_is)) stops.stops
-
 pub session_says : (answers : SessionAnswers) (told : List ℕ → Option (List ℕ)) (base rover nav : List ℕ) (o : Options) (end : Ending) (out : SinkChange)
     → SessionEnds answers told base rover nav o end → IsVerdictStatus end.status → Appends out.old out.new end.out → SaysOfSession answers told base rover nav o end.status out
 session_says answers told base rover nav o end out (inl session) verdict written = elim (session.ends_so) [

@@ -1,4 +1,3 @@
-pub mod FaultNames
 pub mod SessionFiles
 pub mod Refusals
 pub mod Admitted

@@ -4,10 +4,10 @@
 //! `read_session` gives the three, or stops at the first that can't be had: one that can't be read (status 4, only where
 //! the files' count of faults rose, and never for a name that is sure not to fail), one that is too large, or one whose
 //! text is none of its form (status 3, with the place where its lines leave the form). The line on err names that file
-//! (`named`), and a file is refused only after it was read to its end (`refused`). They are opened in this order, each once. `obs_file`
-//! says the same of one observation file. Out of memory may come in the place of any answer. Two observation files of
-//! which no session is made are refused with one line (`refused_pair`). A file whose text is known has one reading
-//! (`one_obs_law`, `one_nav_law`).
+//! (`named`), and a file is refused only after it was read to its end (`refused`). They are opened in this order, each once;
+//! the three come after all were opened and the last was read to its end (`whole`). `obs_file` says the same of one
+//! observation file. Out of memory may come in the place of any answer. Two observation files of which no session is made
+//! are refused with one line (`refused_pair`). A file whose text is known has one reading (`one_obs_law`, `one_nav_law`).
 #![tactic(auto)]
 
 ghost use Rattle.std.specs.Prelude.{◌≡◌, ◌≢◌, ◌≤◌, ℕ, List, [], ◌∷◌, length, IfOk, OnOk, All};
@@ -24,7 +24,7 @@ ghost use Rattle.rinex_nav.specs.NavRules.{nav_of};
 ghost use Rattle.eph_store.specs.Records.{AreFit};
 ghost use Rattle.job_answers.specs.Answers.{IfStopped};
 ghost use Rattle.job_answers.specs.Endings.{EndsUnloaded, IsRefusal, IsRefusedWhole};
-ghost use Rattle.session_files.specs.FaultNames.{IsFaultOf};
+ghost use Rattle.job_answers.specs.Works.{file_work, AreAllRead, IsFaultOf};
 ghost use Rattle.session_files.specs.SessionFiles.{IsObsOf, IsNavOf, StopsAtObs, StopsAtNav, StopsAtFiles, AreFilesOf};
 
 mod commands;
@@ -159,6 +159,7 @@ fn nav_file<F: Files>(
     ensures whole { OnOk result (IsReadToEnd (F.text_of files.old) (unread (F.openings files.new) (F.unread files.new)) name.now) }
     ensures refused { IfStopped result (IsRefusedWhole (F.text_of files.old) (unread (F.openings files.new) (F.unread files.new)) (name.now ∷ [])) }
     ensures opened { OpensFirst (name.now ∷ []) (F.openings files.old) (F.openings files.new) }
+    ensures opens { OnOk result (OpensIt name.now (F.openings files.old) (F.openings files.new)) }
     ensures cause { F.faults files.old ≤ F.faults files.new }
     ensures fault { IfStopped result (λ end. end.status ≡ Status.ReadFault → Rose (F.faults files.old) (F.faults files.new)) }
     ensures sure { F.is_sure_name files.old name.now → IfStopped result (λ end. end.status ≢ Status.ReadFault) }
@@ -179,12 +180,12 @@ pub fn read_session<F: Files>(
 ) -> Result<SessionFiles, JobStop>
     ensures read { IfOk result (λ s. AreFilesOf system (F.text_of files.old) base.now rover.now nav.now s.base s.rover s.nav) }
     ensures stopped { IfStopped result (λ end. StopsAtFiles system (F.text_of files.old) base.now rover.now nav.now end) }
-    ensures whole { OnOk result (IsReadToEnd (F.text_of files.old) (unread (F.openings files.new) (F.unread files.new)) nav.now) }
+    ensures whole { OnOk result (AreAllRead (file_work F.Files files.old files.new) (base.now ∷ rover.now ∷ nav.now ∷ [])) }
     ensures refused { IfStopped result (IsRefusedWhole (F.text_of files.old) (unread (F.openings files.new) (F.unread files.new)) (base.now ∷ rover.now ∷ nav.now ∷ [])) }
     ensures opened { OpensFirst (base.now ∷ rover.now ∷ nav.now ∷ []) (F.openings files.old) (F.openings files.new) }
     ensures fault { IfStopped result (λ end. end.status ≡ Status.ReadFault → Rose (F.faults files.old) (F.faults files.new)) }
     ensures sure { All (F.is_sure_name files.old) (base.now ∷ rover.now ∷ nav.now ∷ []) → IfStopped result (λ end. end.status ≢ Status.ReadFault) }
-    ensures named { IfStopped result (IsFaultOf (F.is_sure_name files.old) (base.now ∷ rover.now ∷ nav.now ∷ [])) }
+    ensures named { IfStopped result (IsFaultOf (file_work F.Files files.old files.new) (base.now ∷ rover.now ∷ nav.now ∷ [])) }
 {
     let base_file = obs_file(alloc, files, system, base)?;
     let rover_file = obs_file(alloc, files, system, rover)?;

@@ -3,6 +3,7 @@ use Rattle.std.proofs.lemmas.Result.{err_from_is_err_and}
 use Rattle.job_answers.proofs.EndingLaws.{ends_weaker}
 use Rattle.session_files.proofs.FileLaws.{obs_along, nav_along, at_rover, at_third, refused_at, same_twice, read_along}
 use Rattle.line_source.proofs.OpeningLaws.{fewer_first, next_first}
+use Rattle.job_answers.proofs.WorkLaws.{none_opened, one_more, at_most_one_more}
 use Rattle.session_files.proofs.FaultLaws.{obs_fault_line, nav_fault_line, fault_at}
 use Rattle.session_files.proofs.read_session.Goals as goal
 
@@ -75,7 +76,12 @@ returns-clause-opened g c =
     (next_first c.args.rover.now (c.args.nav.now ∷ []) _ _ _ c.in_ok-rover_file.ensures.opens c.in_ok-records.ensures.opened)
 
 pub returns-clause-whole : goal.returns-clause-whole
-returns-clause-whole g c = read_along _ _ _ c.args.nav.now (same_twice _ _ _ c.in_ok-base_file.ensures.texts c.in_ok-rover_file.ensures.texts) c.in_ok-records.ensures.whole
+returns-clause-whole g c = record {
+  opened = one_more (c.args.base.now ∷ c.args.rover.now ∷ []) c.args.nav.now _ _ _
+      (one_more (c.args.base.now ∷ []) c.args.rover.now _ _ _ (one_more [] c.args.base.now _ _ _ (none_opened _) c.in_ok-base_file.ensures.opens) c.in_ok-rover_file.ensures.opens)
+      c.in_ok-records.ensures.opens;
+  last = read_along _ _ _ c.args.nav.now (same_twice _ _ _ c.in_ok-base_file.ensures.texts c.in_ok-rover_file.ensures.texts) c.in_ok-records.ensures.whole;
+}
 
 pub returns-clause-read : goal.returns-clause-read
 returns-clause-read g c = record {
@@ -89,7 +95,8 @@ returns-in_err-base_file-clause-named g c =
     let answered = err_from_is_err_and c.from_residual.result c.from_residual.ensures.1 in
     let stop = c.in_err-base_file.field-0.0 in
     rw (answered.1, answered.2)
-    (fault_at stop _ (c.args.base.now ∷ c.args.rover.now ∷ c.args.nav.now ∷ []) 0 c.args.base.now _ (omega arith) refl
+    (fault_at stop _ _ [] c.args.base.now (c.args.rover.now ∷ c.args.nav.now ∷ []) _ refl
+    (at_most_one_more [] c.args.base.now _ _ _ (none_opened _) c.in_err-base_file.ensures.opened)
     (λ end stops. obs_fault_line c.args.system _ c.args.base.now end stops) c.in_err-base_file.ensures.stopped c.in_err-base_file.ensures.sure)
 
 pub returns-in_err-rover_file-clause-named : goal.returns-in_err-rover_file-clause-named
@@ -97,7 +104,8 @@ returns-in_err-rover_file-clause-named g c =
     let answered = err_from_is_err_and c.from_residual-in_err-rover_file.result c.from_residual-in_err-rover_file.ensures.1 in
     let stop = c.in_err-rover_file.field-0.0 in
     rw (answered.1, answered.2)
-    (fault_at stop _ (c.args.base.now ∷ c.args.rover.now ∷ c.args.nav.now ∷ []) 1 c.args.rover.now _ (omega arith) refl
+    (fault_at stop _ _ (c.args.base.now ∷ []) c.args.rover.now (c.args.nav.now ∷ []) _ refl
+    (at_most_one_more (c.args.base.now ∷ []) c.args.rover.now _ _ _ (one_more [] c.args.base.now _ _ _ (none_opened _) c.in_ok-base_file.ensures.opens) c.in_err-rover_file.ensures.opened)
     (λ end stops. obs_fault_line c.args.system _ c.args.rover.now end stops) c.in_err-rover_file.ensures.stopped (λ s. c.in_err-rover_file.ensures.sure (c.in_ok-base_file.ensures.sure_names _ s)))
 
 pub returns-in_err-records-clause-named : goal.returns-in_err-records-clause-named
@@ -105,6 +113,9 @@ returns-in_err-records-clause-named g c =
     let answered = err_from_is_err_and c.from_residual-in_err-records.result c.from_residual-in_err-records.ensures.1 in
     let stop = c.in_err-records.field-0.0 in
     rw (answered.1, answered.2)
-    (fault_at stop _ (c.args.base.now ∷ c.args.rover.now ∷ c.args.nav.now ∷ []) 2 c.args.nav.now _ (omega arith) refl
+    (fault_at stop _ _ (c.args.base.now ∷ c.args.rover.now ∷ []) c.args.nav.now [] _ refl
+    (at_most_one_more (c.args.base.now ∷ c.args.rover.now ∷ []) c.args.nav.now _ _ _
+    (one_more (c.args.base.now ∷ []) c.args.rover.now _ _ _ (one_more [] c.args.base.now _ _ _ (none_opened _) c.in_ok-base_file.ensures.opens) c.in_ok-rover_file.ensures.opens)
+    c.in_err-records.ensures.opened)
     (λ end stops. nav_fault_line c.args.system _ c.args.nav.now end stops) c.in_err-records.ensures.stopped
     (λ s. c.in_err-records.ensures.sure (c.in_ok-rover_file.ensures.sure_names _ (c.in_ok-base_file.ensures.sure_names _ s))))

@@ -20,5 +20,5 @@ returns g c =
     let n = c.obs_file.new.files in
     let work = file_work g.F.Files f n in
     let read = c.in_ok-file.ensures in
-    text_done work c.args.name.now read.read.text list_job _ read.read.is read.whole read.opened
+    text_done work c.args.name.now read.read.text list_job _ read.read.is read.whole read.opens
     (listed read.read.text c.args.name.now c.in_ok-file.file (g.F.Files.text_of f) _ read.read c.in_ok-answer_file.ensures)

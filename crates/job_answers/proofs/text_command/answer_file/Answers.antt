@@ -13,7 +13,7 @@ returns g c =
     let work = file_work g.F.Files f n in
     let read = c.in_ok-text.ensures in
     let job = g.C.TextCommand.job c.args.command.now in
-    text_done work c.args.name.now _ job c.answer_bytes.result read.text read.whole read.opened
+    text_done work c.args.name.now _ job c.answer_bytes.result read.text read.whole read.opens
     (subst (λ (text : List ℕ). IfEnded c.answer_bytes.result (EndsOnText job c.args.name.now text)) c.deref.ensures.value c.answer_bytes.ensures)
 
 pub returns-in_err-text : goal.returns-in_err-text

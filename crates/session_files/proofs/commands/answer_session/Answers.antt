@@ -16,7 +16,7 @@ returns g c =
     let base = c.args.base.now in
     let rover = c.args.rover.now in
     let nav = c.args.nav.now in
-    files_done work base rover nav g.C.SessionCommand.answers c.args.options.now read.base read.rover read.nav c.answer_files.result c.in_ok-read.ensures.opened
+    files_done work base rover nav g.C.SessionCommand.answers c.args.options.now read.base read.rover read.nav c.answer_files.result c.in_ok-read.ensures.opened c.in_ok-read.ensures.whole
     (subst (λ (system : System). AreFilesOf system (g.F.Files.text_of f) base rover nav read.base read.rover read.nav) c.of_letter-system.ensures c.in_ok-read.ensures.read)
     c.answer_files.ensures
 
