@@ -1,16 +1,16 @@
 -- The satellites that stored values are read as.
-use Rattle.std.proofs.Common.{◌≡◌, ◌≢◌, ℕ, ℤ, FitsSigned, true≢false, zero, suc, ◌+◌, ◌-◌, ◌<◌, ◌≤◌, ◌==◌, true, false, ◌||◌, List, [], ◌∷◌, ◌++◌, length, take, drop, get_or, refl, sym, ap, ◌∙◌, arith, Option, None, Some, length-append, length-take, find, replicate, slice_get, slice_index, slice_set, append_assoc, add-one}
+use Rattle.std.proofs.Common.{◌≡◌, ◌≢◌, ⊎_elim, ℕ, ℤ, FitsSigned, true≢false, zero, suc, ◌+◌, ◌-◌, ◌<◌, ◌≤◌, ◌==◌, true, false, ◌||◌, List, [], ◌∷◌, ◌++◌, length, take, drop, get_or, refl, sym, ap, ◌∙◌, arith, Option, None, Some, length-append, length-take, find, replicate, slice_get, slice_index, slice_set, append_assoc, add-one}
 use Rattle.std.specs.List.{list_any}
 use Rattle.std.specs.Int.{w64, cast_signed, cast_unsigned, to_le_bytes}
 use Rattle.std.proofs.Math.Facts.{Fits-lt-pow, Fits-of_z}
-use Rattle.std.proofs.lemmas.Bool.{eq-eqb, or_parts}
+use Rattle.std.proofs.lemmas.Bool.{eq-eqb, or_parts, cases_eq}
 use Rattle.std.proofs.lemmas.Int.{to_z-of_z}
 use Rattle.std.proofs.lemmas.Nat.{from_le_bytes-to_le_bytes_8}
 use Rattle.std.proofs.lemmas.List.Elements.{All-push}
 use Rattle.std.proofs.lemmas.List.Quantifiers.{all_pairs_push}
 use Rattle.std.proofs.Math.Seq.{take-length, drop-nil}
 use Rattle.std.proofs.lemmas.List.Sums.{sum_by-append, sum_by-cons, sum_by_more, sum_by_more_le}
-use Rattle.std.proofs.lemmas.List.{take-append-le, drop-append-le, append-nil, drop_more, length-drop}
+use Rattle.std.proofs.lemmas.List.{take-append-le, drop-append-le, append-nil, drop_more, length-drop, length-set, take_more, get_or-set_same, get_or-set_other}
 use Rattle.obs_store.specs.declared.values.Value.{Value}
 use Rattle.obs_store.specs.declared.values.SatObs.{SatObs}
 use Rattle.obs_store.specs.declared.stored.StoredSat.{StoredSat}
@@ -143,6 +143,43 @@ found_later number k first sats values d inside is =
 -- an amount is read as it was stored
 pub amount_stored : (z : ℤ) → FitsSigned w64 z → amount_in (to_le_bytes w64 (cast_unsigned w64 z)) ≡ z
 amount_stored z fits = ap (cast_signed w64) (from_le_bytes-to_le_bytes_8 (cast_unsigned w64 z) (Fits-lt-pow (Fits-of_z fits))) ∙ to_z-of_z w64 z fits
+
+length_with : (values : List (Option Value)) (vs : List StoredValue) → length (values_with values vs) ≡ length values
+length_with values [] = refl
+length_with values (v ∷ vs) =
+    length_with (slice_set values (slot_of v.kind) (Some (value_in v))) vs ∙ length-set values (slot_of v.kind) (Some (value_in v))
+
+-- with one stored value more the value in a slot is that one, if it belongs there
+value_put : (xs : List StoredValue) (k slot : ℕ) (d : StoredValue) → k < length xs → slot < slot_count → slot_of (get_or xs k d).kind ≡ slot
+    → Some (value_in (get_or xs k d)) ≡ get_or (values_with missing_values (take (k + 1) xs)) slot None
+value_put xs k slot d inside small same =
+    let before : List (Option Value) = values_with missing_values (take k xs) in
+    let many : length before ≡ slot_count = length_with missing_values (take k xs) in
+    rw (take_more xs k d inside, values_with-append missing_values (take k xs) (get_or xs k d ∷ []), same)
+    (sym (get_or-set_same before slot (Some (value_in (get_or xs k d))) None (omega (arith, many, small))))
+
+-- and else the same as before
+value_kept : (xs : List StoredValue) (k slot : ℕ) (d : StoredValue) → k < length xs → slot_of (get_or xs k d).kind ≢ slot
+    → get_or (values_with missing_values (take k xs)) slot None ≡ get_or (values_with missing_values (take (k + 1) xs)) slot None
+value_kept xs k slot d inside other =
+    rw (take_more xs k d inside, values_with-append missing_values (take k xs) (get_or xs k d ∷ []))
+    (sym (get_or-set_other (values_with missing_values (take k xs)) (slot_of (get_or xs k d).kind) slot (Some (value_in (get_or xs k d))) None (λ e. other (sym e))))
+
+missing_at : (n k : ℕ) → get_or (let values : List (Option Value) = replicate n None in values) k None ≡ None
+missing_at zero k = refl
+missing_at (suc n) zero = refl
+missing_at (suc n) (suc k) = missing_at n k
+
+pub none_yet : (xs : List StoredValue) (slot : ℕ) → None ≡ get_or (values_with missing_values (take 0 xs)) slot None
+none_yet xs slot = sym (missing_at slot_count slot)
+
+pub value_next : (xs : List StoredValue) (k slot : ℕ) (d : StoredValue) (found next : Option Value) → k < length xs → slot < slot_count
+    → found ≡ get_or (values_with missing_values (take k xs)) slot None
+    → (slot_of (get_or xs k d).kind ≡ slot → next ≡ Some (value_in (get_or xs k d))) → (slot_of (get_or xs k d).kind ≢ slot → next ≡ found)
+    → next ≡ get_or (values_with missing_values (take (k + 1) xs)) slot None
+value_next xs k slot d found next inside small before put kept = ⊎_elim
+    (λ same. put same ∙ value_put xs k slot d inside small same)
+    (λ other. kept other ∙ before ∙ value_kept xs k slot d inside other) (cases_eq (slot_of (get_or xs k d).kind) slot)
 
 -- types whose slots are the numbers from n on
 abbrev AreFrom : ℕ → List ObsType → Type 0

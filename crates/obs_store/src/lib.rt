@@ -15,9 +15,11 @@ mod series;
 mod stored;
 mod tally;
 mod values;
+mod views;
 
 pub use file::ObsFile;
 pub use kinds::{ObsType, SLOTS};
 pub use sats::Satellites;
 pub use series::{Epoch, Epochs};
 pub use values::{SatObs, Value};
+pub use views::SatView;

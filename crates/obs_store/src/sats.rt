@@ -4,7 +4,7 @@ ghost use Rattle.obs_store.specs.Satellites.{AreSatellites, has_satellite};
 ghost use Rattle.obs_store.specs.Seen.{numbers_of};
 
 use crate::stored::{StoredSat, StoredValue, find_sat, has_number, sat_at, store_values};
-use crate::{SLOTS, SatObs, Value};
+use crate::{SLOTS, SatObs, SatView, Value};
 use std::alloc::{AllocError, Global};
 use std::marker::Model;
 
@@ -68,6 +68,16 @@ impl Satellites {
 
     /// The satellite of that number, if it is there.
     pub fn find(&self, number: u8) -> Option<SatObs>
+        ensures { result ≡ find (λ s. s.number == number) self.now }
+    {
+        match self.view(number) {
+            Some(sat) => Some(sat.whole()),
+            None => None,
+        }
+    }
+
+    /// The same, with its values where they are stored.
+    pub fn view(&self, number: u8) -> Option<SatView<'_>>
         ensures { result ≡ find (λ s. s.number == number) self.now }
     {
         find_sat(&self.sats, &self.values, number)

@@ -1,11 +1,11 @@
 //! How the satellites of an epoch are stored: the values that are there, and no others.
-ghost use Rattle.std.specs.Prelude.{◌≡◌, ◌+◌, ◌<◌, ◌≤◌, ◌==◌, length, find, slice_get, Some, vec_len, vec_capacity};
+ghost use Rattle.std.specs.Prelude.{◌≡◌, ◌≢◌, ◌+◌, ◌<◌, ◌≤◌, ◌==◌, length, find, slice_get, slice_index_or, Some, None, vec_len, vec_capacity};
 ghost use Rattle.std.specs.List.{list_any};
-ghost use Rattle.obs_store.specs.Kinds.{slot_count};
+ghost use Rattle.obs_store.specs.Kinds.{slot_of, slot_count};
 ghost use Rattle.obs_store.specs.Missing.{missing_values};
-ghost use Rattle.obs_store.specs.Stored.{value_in, values_with, first_satellite, satellites_in, count_of, AreStoredBehind};
+ghost use Rattle.obs_store.specs.Stored.{value_in, values_with, satellites_in, count_of, AreStoredBehind};
 
-use crate::{ObsType, SLOTS, SatObs, Value};
+use crate::{ObsType, SLOTS, SatObs, SatView, Value};
 
 /// A satellite, and how many of its values are there.
 #[derive(Clone, Copy, Debug)]
@@ -53,29 +53,49 @@ pub fn store_values(stored: &mut Vec<StoredValue>, values: &[Option<Value>; SLOT
     count
 }
 
+// A stored value as it was.
+fn value_of(stored: StoredValue) -> Value
+    ensures { result ≡ value_in stored }
+{
+    Value {
+        amount: i64::from_le_bytes(stored.amount),
+        lock: stored.lock,
+    }
+}
+
+// What stands in a slot where one more value is stored: that one, if it belongs there.
+fn replaced(found: Option<Value>, one: StoredValue, slot: usize) -> Option<Value>
+    ensures put { slot_of one.kind ≡ slot → result ≡ Some (value_in one) }
+    ensures kept { slot_of one.kind ≢ slot → result ≡ found }
+{
+    if one.kind.slot() == slot {
+        Some(value_of(one))
+    } else {
+        found
+    }
+}
+
+/// The value in a slot of a satellite of which these are there: the last of them that belongs there.
+pub fn value_at(stored: &[StoredValue], slot: usize) -> Option<Value>
+    requires { slot < slot_count }
+    ensures { result ≡ slice_index_or (values_with missing_values stored.now) slot None }
+{
+    let mut found = None;
+    for one in stored {
+        found = replaced(found, *one, slot);
+    }
+    found
+}
+
 /// The values of a satellite of which these are there.
 pub fn all_values(stored: &[StoredValue]) -> [Option<Value>; SLOTS]
     ensures { result ≡ values_with missing_values stored.now }
 {
     let mut values = [None; SLOTS];
     for one in stored {
-        values[one.kind.slot()] = Some(Value {
-            amount: i64::from_le_bytes(one.amount),
-            lock: one.lock,
-        });
+        values[one.kind.slot()] = Some(value_of(*one));
     }
     values
-}
-
-// A satellite whose values stand first among these.
-fn first_sat(sat: StoredSat, values: &[StoredValue]) -> SatObs
-    requires { sat.count ≤ length values.now }
-    ensures { result ≡ first_satellite sat values.now }
-{
-    SatObs {
-        number: sat.number,
-        values: all_values(&values[..sat.count as usize]),
-    }
 }
 
 /// Whether one of these has that number.
@@ -95,11 +115,15 @@ pub fn sat_at(sats: &[StoredSat], values: &[StoredValue], place: usize) -> SatOb
     for before in 0..place {
         first += sats[before].count as usize;
     }
-    first_sat(sats[place], &values[first..])
+    SatView::first(sats[place], &values[first..]).whole()
 }
 
 /// The satellite of that number among these, if it is there.
-pub fn find_sat(sats: &[StoredSat], values: &[StoredValue], number: u8) -> Option<SatObs>
+pub fn find_sat<'a>(
+    sats: &[StoredSat],
+    values: &'a [StoredValue],
+    number: u8,
+) -> Option<SatView<'a>>
     requires { count_of sats.now ≡ length values.now }
     ensures { result ≡ find (λ s. s.number == number) (satellites_in sats.now values.now) }
 {
@@ -107,7 +131,7 @@ pub fn find_sat(sats: &[StoredSat], values: &[StoredValue], number: u8) -> Optio
     for place in 0..sats.len() {
         let sat = sats[place];
         if sat.number == number {
-            return Some(first_sat(sat, &values[first..]));
+            return Some(SatView::first(sat, &values[first..]));
         }
         first += sat.count as usize;
     }

@@ -26,6 +26,6 @@ AreRoverSights boxes point sights = (place : ℕ) (v : SvPair) (sight : Sight) �
 
 -- what the base sees there, and the rover at the point, from which there is something to see
 pub record IsSeen (e : Entry) (base point : List ℤ) : Type 0 where
-  pub half : IsBaseHalf e.sv base e.half
-  pub rover : IsRoverSight e.sv point e.rover
-  pub exists : HasSighting e.sv.rover point
+  pub half : IsBaseHalf e.sv.now base e.half
+  pub rover : IsRoverSight e.sv.now point e.rover
+  pub exists : HasSighting e.sv.now.rover point

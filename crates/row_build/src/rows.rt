@@ -37,7 +37,7 @@ pub fn row_of(
     ss: &[usize],
     arc: u16,
     shift: &[i64; PHASES],
-    entry: &Entry,
+    entry: &Entry<'_>,
     group: i64,
     scale: u32,
 ) -> Option<Row>
@@ -46,18 +46,19 @@ pub fn row_of(
     requires group { unsigned_abs group ≤ 2 ^ 43 }
     requires scale { IsScale scale }
     ensures arc { IfSome result (λ r. r.arc ≡ arc) }
-    ensures y { IfSome result (λ r. (base point : List ℤ) → IsSeen entry.now base point → HoldsYs (seen_by entry.now.sv base point) ss.now scale entry.now.sv.observed group shift.now r.y r.ry) }
+    ensures y { IfSome result (λ r. (base point : List ℤ) → IsSeen entry.now base point → HoldsYs (seen_by entry.now.sv.now base point) ss.now scale entry.now.sv.now.observed group shift.now r.y r.ry) }
     ensures radius { IfSome result (λ r. r.ry ≤ℤ most_radius scale) }
     ensures others { IfSome result (λ r. IsZeroOff ss.now r.y) }
-    ensures u { IfSome result (λ r. (base point : List ℤ) → IsSeen entry.now base point → HoldsU entry.now.sv.rover point r.u r.ru) }
+    ensures u { IfSome result (λ r. (base point : List ℤ) → IsSeen entry.now base point → HoldsU entry.now.sv.now.rover point r.u r.ru) }
     ensures narrow { IfSome result (λ r. All (λ n. n ≤ℤ pos 32) r.ru) }
-    ensures far { result ≡ None → (base point : List ℤ) → IsSeen entry.now base point → HasFarSignal (seen_by entry.now.sv base point) ss.now scale entry.now.sv.observed group shift.now }
+    ensures far { result ≡ None → (base point : List ℤ) → IsSeen entry.now base point → HasFarSignal (seen_by entry.now.sv.now base point) ss.now scale entry.now.sv.now.observed group shift.now }
 {
     // All six, which the proof names.
-    let [_l1, _l2, _c1, _c2, _l5, _c5] = entry.sv.observed;
+    let sv = entry.sv;
+    let [_l1, _l2, _c1, _c2, _l5, _c5] = sv.observed;
     let held = observations_of(
         ss,
-        &entry.sv.observed,
+        &sv.observed,
         group,
         shift,
         &entry.half,

@@ -26,14 +26,14 @@ use row_boxes::{first_group, first_shift};
 use screening::Screened;
 
 /// The entry of the satellite of a pair's first row.
-pub fn first_entry(from: &RowSource<'_>, pair: u32) -> Entry
+pub fn first_entry<'a>(from: &RowSource<'a>, pair: u32) -> Entry<'a>
     requires cut { IsCutOf from.now.screened.now.used from.now.arcs.now }
     requires few { length from.now.arcs.now ≤ 200 }
     requires held { arcs_at from.now.arcs.now pair ≢ [] }
     requires halves { AreBaseHalves from.now.screened.now.boxes from.now.base.now from.now.halves.now }
     requires base { IsReceiverPoint from.now.base.now }
     requires point { IsReceiverPoint from.now.point.now }
-    ensures entry { IsFirstEntry from.now.screened.now.boxes from.now.arcs.now pair result.sv }
+    ensures entry { IsFirstEntry from.now.screened.now.boxes from.now.arcs.now pair result.sv.now }
     ensures seen { IsSeen result from.now.base.now from.now.point.now }
 {
     let arcs = from.arcs;
@@ -42,11 +42,11 @@ pub fn first_entry(from: &RowSource<'_>, pair: u32) -> Entry
 }
 
 /// The group of a pair, from the entry of its first row's satellite.
-pub fn group_of(entry: &Entry) -> i64
-    ensures near { (base point : List ℤ) → IsSeen entry.now base point → (b r : Sighting) → AreSightings (seen_by entry.now.sv base point) b r →
-        IsWithinHalf (pos 1) (y_of 2 (number_at entry.now.sv.observed 2) result (pos 0) b r) }
+pub fn group_of(entry: &Entry<'_>) -> i64
+    ensures near { (base point : List ℤ) → IsSeen entry.now base point → (b r : Sighting) → AreSightings (seen_by entry.now.sv.now base point) b r →
+        IsWithinHalf (pos 1) (y_of 2 (number_at entry.now.sv.now.observed 2) result (pos 0) b r) }
     ensures allowed { (base point : List ℤ) → IsSeen entry.now base point → (scale : ℕ) → IsScale scale →
-        IsAllowedGroup (seen_by entry.now.sv base point) scale (number_at entry.now.sv.observed 2) result }
+        IsAllowedGroup (seen_by entry.now.sv.now base point) scale (number_at entry.now.sv.now.observed 2) result }
     ensures size { unsigned_abs result ≤ 2 ^ 43 }
 {
     first_group(entry.sv.observed[2], &entry.half, &entry.rover.pseudorange)
@@ -60,12 +60,12 @@ fn does_count(ss: &[usize], signal: usize) -> bool
 }
 
 // The shift with which, under this group, the observation of a phase is least, and 0 if the phase doesn't count
-fn shift_of(ss: &[usize], signal: usize, entry: &Entry, group: i64) -> i64
+fn shift_of(ss: &[usize], signal: usize, entry: &Entry<'_>, group: i64) -> i64
     requires signal { signal < SIGNALS }
     requires phase { IsTrue (is_phase signal) }
     requires group { unsigned_abs group ≤ 2 ^ 43 }
     ensures near { IsTrue (counts ss.now signal) → (base point : List ℤ) → IsSeen entry.now base point →
-        (b r : Sighting) → AreSightings (seen_by entry.now.sv base point) b r → IsWithinHalf (wavelength signal) (y_of signal (number_at entry.now.sv.observed signal) group result b r) }
+        (b r : Sighting) → AreSightings (seen_by entry.now.sv.now base point) b r → IsWithinHalf (wavelength signal) (y_of signal (number_at entry.now.sv.now.observed signal) group result b r) }
     ensures unused { counts ss.now signal ≡ false → result ≡ pos 0 }
     ensures size { unsigned_abs result < 2 ^ 39 }
 {
@@ -82,10 +82,10 @@ fn shift_of(ss: &[usize], signal: usize, entry: &Entry, group: i64) -> i64
 }
 
 // The shifts with which, under this group, the observations of the phases that count are least
-fn shifts_of(ss: &[usize], entry: &Entry, group: i64) -> [i64; PHASES]
+fn shifts_of(ss: &[usize], entry: &Entry<'_>, group: i64) -> [i64; PHASES]
     requires group { unsigned_abs group ≤ 2 ^ 43 }
-    ensures near { (base point : List ℤ) → IsSeen entry.now base point → (s : ℕ) → s < SIGNALS → IsTrue (is_phase s) → IsTrue (counts ss.now s) → (b r : Sighting) → AreSightings (seen_by entry.now.sv base point) b r →
-        IsWithinHalf (wavelength s) (y_of s (number_at entry.now.sv.observed s) group (number_at result (band s)) b r) }
+    ensures near { (base point : List ℤ) → IsSeen entry.now base point → (s : ℕ) → s < SIGNALS → IsTrue (is_phase s) → IsTrue (counts ss.now s) → (b r : Sighting) → AreSightings (seen_by entry.now.sv.now base point) b r →
+        IsWithinHalf (wavelength s) (y_of s (number_at entry.now.sv.now.observed s) group (number_at result (band s)) b r) }
     ensures unused { IsZeroOff (phase_bands ss.now) result }
     ensures size { All (IsBelow (2 ^ 39)) result }
 {

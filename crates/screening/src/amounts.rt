@@ -1,13 +1,12 @@
 //! What a receiver observed of a satellite, and whether it may be used.
-ghost use Rattle.std.specs.Prelude.{◌≡◌, ◌^◌, ◌<◌, ◌≤ℤ◌, pos, IfSome, All};
-ghost use Rattle.std.specs.Option.{option_copied};
+ghost use Rattle.std.specs.Prelude.{◌≡◌, ◌^◌, ◌<◌, ◌≤ℤ◌, pos, Some, IfSome, All};
 ghost use Rattle.obs_rows.specs.declared.units.TheConstants.{SIGNALS};
 ghost use Rattle.obs_rows.specs.Signals.{fine_signals};
 ghost use Rattle.screening.specs.Sightings.{code_of};
 ghost use Rattle.screening.specs.Amounts.{types_of, value_in, value_of, is_usable_phase, is_usable_code, is_usable, usable_amount, amount_in, amounts_in, are_usable, amounts_of, amounts_at, AreUsable};
 
 use obs_rows::{BAND_DIGITS, SIGNALS, Signals, WAVELENGTHS, fine_signals};
-use obs_store::{Epoch, ObsType, SatObs, Value};
+use obs_store::{Epoch, ObsType, SatView, Value};
 
 /// The letters of the bands and the observation type of each signal.
 #[derive(Clone, Copy, Debug)]
@@ -35,17 +34,17 @@ pub fn types_of(signals: Signals) -> SignalTypes
 }
 
 /// The satellite's value of that type.
-pub fn value_in(sat: &SatObs, kind: Option<ObsType>) -> Option<Value>
+pub fn value_in(sat: &SatView<'_>, kind: Option<ObsType>) -> Option<Value>
     ensures { result ≡ value_in sat.now kind }
 {
     match kind {
-        Some(kind) => sat.values[kind.slot()],
+        Some(kind) => sat.value(kind),
         None => None,
     }
 }
 
 /// Its value of that signal.
-pub fn value_of(types: &SignalTypes, sat: &SatObs, signal: usize) -> Option<Value>
+pub fn value_of(types: &SignalTypes, sat: &SatView<'_>, signal: usize) -> Option<Value>
     requires { signal < SIGNALS }
     ensures { result ≡ value_of types.now sat.now signal }
 {
@@ -76,7 +75,7 @@ fn is_usable(signal: usize, value: Value) -> bool
     }
 }
 
-fn usable(types: &SignalTypes, sat: &SatObs, signal: usize) -> Option<i64>
+fn usable(types: &SignalTypes, sat: &SatView<'_>, signal: usize) -> Option<i64>
     requires { signal < SIGNALS }
     ensures { result ≡ usable_amount types.now sat.now signal }
 {
@@ -87,7 +86,7 @@ fn usable(types: &SignalTypes, sat: &SatObs, signal: usize) -> Option<i64>
 }
 
 // 0 where the signal has no amount that may be used.
-fn amount_in(types: &SignalTypes, sat: &SatObs, signal: usize) -> i64
+fn amount_in(types: &SignalTypes, sat: &SatView<'_>, signal: usize) -> i64
     requires { signal < SIGNALS }
     ensures { result ≡ amount_in types.now sat.now signal }
 {
@@ -97,7 +96,7 @@ fn amount_in(types: &SignalTypes, sat: &SatObs, signal: usize) -> i64
     }
 }
 
-fn are_usable(ss: &[usize], types: &SignalTypes, sat: &SatObs) -> bool
+fn are_usable(ss: &[usize], types: &SignalTypes, sat: &SatView<'_>) -> bool
     requires { All (λ s. s < SIGNALS) ss.now }
     ensures { result ≡ are_usable ss.now types.now sat.now }
 {
@@ -105,7 +104,7 @@ fn are_usable(ss: &[usize], types: &SignalTypes, sat: &SatObs) -> bool
 }
 
 // Of all signals.
-fn amounts_in(types: &SignalTypes, sat: &SatObs) -> [i64; SIGNALS]
+fn amounts_in(types: &SignalTypes, sat: &SatView<'_>) -> [i64; SIGNALS]
     ensures { result ≡ amounts_in types.now sat.now }
 {
     let mut amounts = [0; SIGNALS];
@@ -115,13 +114,12 @@ fn amounts_in(types: &SignalTypes, sat: &SatObs) -> [i64; SIGNALS]
     amounts
 }
 
-fn amounts_of(types: &SignalTypes, sat: Option<&SatObs>) -> Option<[i64; SIGNALS]>
-    ensures value { result ≡ amounts_of types.now (option_copied sat.entry) }
+fn amounts_of(types: &SignalTypes, sat: &SatView<'_>) -> Option<[i64; SIGNALS]>
+    ensures value { result ≡ amounts_of types.now (Some sat.now) }
     ensures usable { IfSome result (AreUsable (fine_signals types.now.signals)) }
     ensures code_from { IfSome result (λ a. pos (10 ^ 10) ≤ℤ code_of a) }
     ensures code_to { IfSome result (λ a. code_of a ≤ℤ pos (10 ^ 11)) }
 {
-    let sat = sat?;
     if !are_usable(fine_signals(types.signals), types, sat) {
         return None;
     }
@@ -135,5 +133,8 @@ pub fn amounts_at(types: &SignalTypes, epoch: &Epoch, number: u8) -> Option<[i64
     ensures code_from { IfSome result (λ a. pos (10 ^ 10) ≤ℤ code_of a) }
     ensures code_to { IfSome result (λ a. code_of a ≤ℤ pos (10 ^ 11)) }
 {
-    amounts_of(types, epoch.sats.find(number).as_ref())
+    match epoch.sats.view(number) {
+        Some(sat) => amounts_of(types, &sat),
+        None => None,
+    }
 }

@@ -1,13 +1,12 @@
 //! What epochs say of power and of lock.
 ghost use Rattle.std.specs.Prelude.{◌≡◌, ◌<◌, All};
 ghost use Rattle.std.specs.List.{list_any};
-ghost use Rattle.std.specs.Option.{option_copied};
 ghost use Rattle.obs_rows.specs.declared.units.TheConstants.{SIGNALS};
-ghost use Rattle.screening.specs.Marks.{is_lost, is_phase_lost, lost_phase, lost_at};
+ghost use Rattle.screening.specs.Marks.{is_lost, is_phase_lost, lost_at};
 
 use crate::amounts::{SignalTypes, value_of};
 use obs_rows::{WAVELENGTHS, fine_signals};
-use obs_store::{Epoch, SatObs, Value};
+use obs_store::{Epoch, SatView, Value};
 
 /// Whether an epoch says that power failed.
 pub fn power_failed(epochs: &[Epoch]) -> bool
@@ -26,33 +25,27 @@ fn is_lost(value: Option<Value>) -> bool
     }
 }
 
-fn is_phase_lost(types: &SignalTypes, sat: &SatObs, signal: usize) -> bool
+fn is_phase_lost(types: &SignalTypes, sat: &SatView<'_>, signal: usize) -> bool
     requires { signal < SIGNALS }
     ensures { result ≡ is_phase_lost types.now sat.now signal }
 {
     WAVELENGTHS[signal] > 0 && is_lost(value_of(types, sat, signal))
 }
 
-fn is_any_lost(ss: &[usize], types: &SignalTypes, sat: &SatObs) -> bool
+fn is_any_lost(ss: &[usize], types: &SignalTypes, sat: &SatView<'_>) -> bool
     requires { All (λ s. s < SIGNALS) ss.now }
     ensures { result ≡ list_any (is_phase_lost types.now sat.now) ss.now }
 {
     ss.iter().any(|s| is_phase_lost(types, sat, *s))
 }
 
-fn lost_phase(types: &SignalTypes, sat: Option<&SatObs>) -> bool
-    ensures { result ≡ lost_phase types.now (option_copied sat.entry) }
-{
-    let Some(sat) = sat else {
-        return false;
-    };
-    is_any_lost(fine_signals(types.signals), types, sat)
-}
-
 fn lost_at(types: &SignalTypes, number: u8, epoch: &Epoch) -> bool
     ensures { result ≡ lost_at types.now number epoch.now }
 {
-    lost_phase(types, epoch.sats.find(number).as_ref())
+    match epoch.sats.view(number) {
+        Some(sat) => is_any_lost(fine_signals(types.signals), types, &sat),
+        None => false,
+    }
 }
 
 /// Whether a phase of the satellite lost lock in one of the epochs.

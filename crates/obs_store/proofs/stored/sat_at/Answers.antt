@@ -8,4 +8,4 @@ pub returns : goal.returns
 returns c =
     let last : c.loop-before.before ≡ c.args.place = omega arith in
     let before : c.loop-before.first ≡ count_of (take c.args.place c.args.sats.now) = c.loop-before.invariant ∙ ap (λ k. count_of (take k c.args.sats.now)) last in
-    read_stored c.args.sats.now c.args.values.now c.args.place c.loop-before.first (record { number = 0; count = 0 }) c.first_sat.result c.requires.inside before c.first_sat.ensures
+    read_stored c.args.sats.now c.args.values.now c.args.place c.loop-before.first (record { number = 0; count = 0 }) c.whole.result c.requires.inside before (c.whole.ensures ∙ c.first.ensures)

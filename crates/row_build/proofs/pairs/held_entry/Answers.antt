@@ -25,11 +25,11 @@ returns-then-place-eq0-clause-entry c = λ n a at is.
     let here : slice_get c.args.held.now 0 ≡ Some n = subst (λ (k : ℕ). slice_get c.args.held.now k ≡ Some n) c.if-place-eq0.true at in
     let same : f.number ≡ n = same_Some f.number n (sym f.first ∙ ap (λ (xs : List ℕ). slice_get xs 0) (sym c.requires.held) ∙ here) in
     let arc : f.arc ≡ a = same_Some f.arc a (sym f.arc_is ∙ subst (λ (k : ℕ). slice_get c.args.from.now.arcs.now k ≡ Some a) (sym same) is) in
-    subst (λ (b : Arc). IsEntry c.args.from.now.screened.now.boxes c.args.pair b.sat c.args.first.now.sv) arc f.entry_is
+    subst (λ (b : Arc). IsEntry c.args.from.now.screened.now.boxes c.args.pair b.sat c.args.first.now.sv.now) arc f.entry_is
 
 pub returns-clause-entry : goal.returns-clause-entry
 returns-clause-entry c = λ n a at is.
     let m : ℕ = get_or c.args.held.now c.args.place 0 in
     let same : n ≡ m = same_Some n m (sym at ∙ slice_get-get_or c.args.held.now c.args.place 0 c.requires.inside) in
-    subst (λ (b : Arc). IsEntry c.args.from.now.screened.now.boxes c.args.pair b.sat c.entry_of.result.sv)
+    subst (λ (b : Arc). IsEntry c.args.from.now.screened.now.boxes c.args.pair b.sat c.entry_of.result.sv.now)
     (get_or_from_slice_get c.args.from.now.arcs.now m a _ (subst (λ (k : ℕ). slice_get c.args.from.now.arcs.now k ≡ Some a) same is)) c.entry_of.ensures.entry

@@ -23,7 +23,7 @@ pub returns-clause-rows : goal.returns-clause-rows
 returns-clause-rows c =
     let t = setting_from c.args.from.now c.args.scale in
     let p = c.finish.result in
-    let f = c.first_entry-first.result.sv in
+    let f = c.first_entry-first.result.sv.now in
     let g : ℤ = c.group_of-group.result in
     let plain : to_z w64 (of_z w64 g) ≡ g = to_z-of_z w64 g (record { sfits = c.group_of-group.type_inv }) in
     let group : p.group ≡ g = c.finish.ensures.group ∙ c.in_ok-rows.ensures.group ∙ c.in_ok-empty.ensures.group ∙ plain in
@@ -59,7 +59,7 @@ returns-in_err-rows-clause-overwidth c = λ e.
     let g : ℤ = c.group_of-group.result in
     let plain : to_z w64 (of_z w64 g) ≡ g = to_z-of_z w64 g (record { sfits = c.group_of-group.type_inv }) in
     let allowed : IsGroup t c.args.pair g = record {
-      entry = c.first_entry-first.result.sv;
+      entry = c.first_entry-first.result.sv.now;
       entry_is = c.first_entry-first.ensures.entry;
       allowed =
           c.group_of-group.ensures.allowed c.args.from.now.base.now c.args.from.now.point.now c.first_entry-first.ensures.seen c.args.scale c.requires.scale;

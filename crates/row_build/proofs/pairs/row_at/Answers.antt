@@ -23,7 +23,7 @@ pub returns-in-Some-clause-row : goal.returns-in-Some-clause-row
 returns-in-Some-clause-row c =
     let h = c.requires.number in
     let r = c.in-Some.row in
-    let v = c.args.entry.now.sv in
+    let v = c.args.entry.now.sv.now in
     let e = get_or_from_slice_get c.args.from.now.arcs.now c.args.number h.arc _ h.is in
     record {
       arc = h.arc;
@@ -47,7 +47,7 @@ returns-in-Some-clause-row c =
 pub returns-in-None-clause-far : goal.returns-in-None-clause-far
 returns-in-None-clause-far c = λ g.
     let h = c.requires.number in
-    let v = c.args.entry.now.sv in
+    let v = c.args.entry.now.sv.now in
     let e = get_or_from_slice_get c.args.from.now.arcs.now c.args.number h.arc _ h.is in
     record {
       group = c.args.group;

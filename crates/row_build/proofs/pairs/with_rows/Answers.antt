@@ -32,11 +32,11 @@ held_entry-entry-requires-clause-held c = c.requires.held ∙ ap (λ (n : ℕ). 
 
 pub held_entry-entry-requires-clause-first : goal.held_entry-entry-requires-clause-first
 held_entry-entry-requires-clause-first c =
-    subst (λ (n : ℕ). IsFirstEntry c.args.from.now.screened.now.boxes c.args.from.now.arcs.now n c.args.first.now.sv) (sym c.loop-place.invariant.0) c.requires.first
+    subst (λ (n : ℕ). IsFirstEntry c.args.from.now.screened.now.boxes c.args.from.now.arcs.now n c.args.first.now.sv.now) (sym c.loop-place.invariant.0) c.requires.first
 
 pub row_at-requires-clause-number : goal.row_at-requires-clause-number
 row_at-requires-clause-number c =
-    let p = of_pair c.args.from.now.screened.now.boxes c.args.from.now.arcs.now c.args.held.now c.loop-place.place c.args.rows.number c.loop-place.rows.number c.held_entry-entry.result.sv
+    let p = of_pair c.args.from.now.screened.now.boxes c.args.from.now.arcs.now c.args.held.now c.loop-place.place c.args.rows.number c.loop-place.rows.number c.held_entry-entry.result.sv.now
     c.requires.held c.loop-place-test.true c.held_entry-entry.ensures.entry c.loop-place.invariant.0 in
     subst (λ (n : ℕ). IsHeld c.args.from.now.arcs.now n (get_or c.args.held.now c.loop-place.place 0)) (sym p)
     (held_read c.args.from.now.arcs.now c.args.rows.number c.loop-place.place c.args.held.now c.requires.held c.loop-place-test.true)
@@ -45,7 +45,7 @@ pub row_at-requires-clause-entry : goal.row_at-requires-clause-entry
 row_at-requires-clause-entry c = λ a is.
     let m : ℕ = get_or c.args.held.now c.loop-place.place 0 in
     let e = c.held_entry-entry.ensures.entry m a (slice_get-get_or c.args.held.now c.loop-place.place 0 c.loop-place-test.true) is in
-    subst (λ (n : ℕ). IsEntry c.args.from.now.screened.now.boxes n a.sat c.held_entry-entry.result.sv) (sym e.of_pair) e
+    subst (λ (n : ℕ). IsEntry c.args.from.now.screened.now.boxes n a.sat c.held_entry-entry.result.sv.now) (sym e.of_pair) e
 
 pub push-requires-clause-room : goal.push-requires-clause-room
 push-requires-clause-room c =
@@ -64,7 +64,7 @@ pub returns-in_err-row-clause-far : goal.returns-in_err-row-clause-far
 returns-in_err-row-clause-far c = λ _ g.
     let t = setting_from c.args.from.now c.args.scale in
     let i = c.loop-place.invariant in
-    let p = of_pair c.args.from.now.screened.now.boxes c.args.from.now.arcs.now c.args.held.now c.loop-place.place c.args.rows.number c.loop-place.rows.number c.held_entry-entry.result.sv
+    let p = of_pair c.args.from.now.screened.now.boxes c.args.from.now.arcs.now c.args.held.now c.loop-place.place c.args.rows.number c.loop-place.rows.number c.held_entry-entry.result.sv.now
     c.requires.held c.loop-place-test.true c.held_entry-entry.ensures.entry i.0 in
     subst (λ (n : ℕ). HasFarRow t n) p
     (c.in_err-row.ensures.far (subst₂ (λ (n : ℕ) (k : ℤ). IsGroup t n k) (sym p) (sym (read_group c.loop-place.rows.group c.loop-place.rows.group_in ∙ i.2)) g))
@@ -75,7 +75,7 @@ loop-place-preserved c =
     let i = c.loop-place.invariant in
     let m : ℕ = get_or c.args.held.now c.loop-place.place 0 in
     let at : slice_get c.args.held.now c.loop-place.place ≡ Some m = slice_get-get_or c.args.held.now c.loop-place.place 0 c.loop-place-test.true in
-    let p = of_pair c.args.from.now.screened.now.boxes c.args.from.now.arcs.now c.args.held.now c.loop-place.place c.args.rows.number c.loop-place.rows.number c.held_entry-entry.result.sv
+    let p = of_pair c.args.from.now.screened.now.boxes c.args.from.now.arcs.now c.args.held.now c.loop-place.place c.args.rows.number c.loop-place.rows.number c.held_entry-entry.result.sv.now
     c.requires.held c.loop-place-test.true c.held_entry-entry.ensures.entry i.0 in
     let row : IsRow t c.args.rows.number c.args.rows.group c.in_ok-row.row = subst₂ (λ (n : ℕ) (k : ℤ). IsRow t n k c.in_ok-row.row) p
     (read_group c.loop-place.rows.group c.loop-place.rows.group_in ∙ i.2) c.in_ok-row.ensures.row in (

@@ -15,8 +15,8 @@ use Rattle.row_build.proofs.shifts.first_shifts.Goals as goal
 
 pub returns-clause-near : goal.returns-clause-near
 returns-clause-near c =
-    let f = c.first_entry-first.result.sv in
-    let n = c.entry_of-entry.result.sv in
+    let f = c.first_entry-first.result.sv.now in
+    let n = c.entry_of-entry.result.sv.now in
     let g : ℤ = c.group_of-group.result in
     record {
       first = f;

@@ -14,8 +14,8 @@ use Rattle.row_build.proofs.UnusedLaws.{bands_off}
 use Rattle.row_build.proofs.shifts.shifts_of.Goals as goal
 
 pub returns-clause-near : goal.returns-clause-near
-returns-clause-near c = λ base point known. three (λ (s : ℕ). IsTrue (counts c.args.ss.now s) → (b r : Sighting) → AreSightings (seen_by c.args.entry.now.sv base point) b r →
-    IsWithinHalf (wavelength s) (y_of s (number_at c.args.entry.now.sv.observed s) c.args.group
+returns-clause-near c = λ base point known. three (λ (s : ℕ). IsTrue (counts c.args.ss.now s) → (b r : Sighting) → AreSightings (seen_by c.args.entry.now.sv.now base point) b r →
+    IsWithinHalf (wavelength s) (y_of s (number_at c.args.entry.now.sv.now.observed s) c.args.group
     (number_at (to_z w64 (of_z w64 c.shift_of-l1.result) ∷ to_z w64 (of_z w64 c.shift_of-l2.result) ∷ to_z w64 (of_z w64 c.shift_of-l5.result) ∷ []) (band s)) b r))
     (λ i b r a. plain 0 c.shift_of-l1.result b r (to_z-of_z w64 c.shift_of-l1.result (record { sfits = c.shift_of-l1.type_inv }))
     (c.shift_of-l1.ensures.near i base point known b r a))
@@ -24,10 +24,10 @@ returns-clause-near c = λ base point known. three (λ (s : ℕ). IsTrue (counts
     (λ i b r a. plain 4 c.shift_of-l5.result b r (to_z-of_z w64 c.shift_of-l5.result (record { sfits = c.shift_of-l5.type_inv }))
     (c.shift_of-l5.ensures.near i base point known b r a))
   where
-    plain : (s : ℕ) (k : ℤ) (b r : Sighting) → to_z w64 (of_z w64 k) ≡ k → IsWithinHalf (wavelength s) (y_of s (number_at c.args.entry.now.sv.observed s) (to_z w64 (of_z w64 c.args.group)) k b r) →
-        IsWithinHalf (wavelength s) (y_of s (number_at c.args.entry.now.sv.observed s) c.args.group (to_z w64 (of_z w64 k)) b r)
-    plain s k b r e h = subst (λ (z : ℤ). IsWithinHalf (wavelength s) (y_of s (number_at c.args.entry.now.sv.observed s) c.args.group z b r)) (sym e)
-        (subst (λ (g : ℤ). IsWithinHalf (wavelength s) (y_of s (number_at c.args.entry.now.sv.observed s) g k b r)) (to_z-of_z w64 c.args.group c.ranges.group) h)
+    plain : (s : ℕ) (k : ℤ) (b r : Sighting) → to_z w64 (of_z w64 k) ≡ k → IsWithinHalf (wavelength s) (y_of s (number_at c.args.entry.now.sv.now.observed s) (to_z w64 (of_z w64 c.args.group)) k b r) →
+        IsWithinHalf (wavelength s) (y_of s (number_at c.args.entry.now.sv.now.observed s) c.args.group (to_z w64 (of_z w64 k)) b r)
+    plain s k b r e h = subst (λ (z : ℤ). IsWithinHalf (wavelength s) (y_of s (number_at c.args.entry.now.sv.now.observed s) c.args.group z b r)) (sym e)
+        (subst (λ (g : ℤ). IsWithinHalf (wavelength s) (y_of s (number_at c.args.entry.now.sv.now.observed s) g k b r)) (to_z-of_z w64 c.args.group c.ranges.group) h)
 
 pub returns-clause-unused : goal.returns-clause-unused
 returns-clause-unused c = bands_off c.args.ss.now _ _ _
