@@ -12,6 +12,8 @@
 
 mod entries;
 mod finished;
+mod row_entries;
+mod row_steps;
 mod shares;
 mod step;
 mod steps;
@@ -19,6 +21,7 @@ mod tables;
 
 pub use entries::is_small;
 pub use finished::finish;
+pub use row_steps::{PivotRows, PivotTable, step_through};
 pub use step::StepFault;
 pub use steps::{Stopped, take_steps};
-pub use tables::{fill_form_table, first_kept, form_table, front_factors};
+pub use tables::{fill_form_table, first_kept, form_table, front_factors, put_row};

@@ -17,6 +17,7 @@ mod first_entries;
 mod forms;
 mod fronts;
 mod rounding;
+mod row_fronts;
 
 pub use elimination::finish;
 pub use first_entries::nearest_shift;
