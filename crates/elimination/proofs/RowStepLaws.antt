@@ -23,11 +23,11 @@ Whole = Result (List Factor × List Column) Refusal
 
 -- ---- an entry by the steps so far
 pub left_none : (q : List (List ℤ)) (n r c : ℕ) (x : ℤ) → left_after q n r c 0 x ≡ x
-  unfolding left_after
+unfolding left_after
 left_none q n r c x = refl
 
 pub left_next : (q : List (List ℤ)) (n r c k : ℕ) (x : ℤ) → left_after q n r c (suc k) x ≡ left_entry q n r c k (left_after q n r c k x)
-  unfolding left_after
+unfolding left_after
 left_next q n r c k x = refl
 
 same : (r : ℕ) → nat_eq r r ≡ true

@@ -16,11 +16,11 @@ wide x y e h = ap (λ z. widened z) e ∙ widened_is y (omega arith)
 wide_size : (x y : ℤ) → x ≡ y → unsigned_abs y ≤ 2 ^ 52 → unsigned_abs (widened x) ≤ 2 ^ 52
 wide_size x y e h = subst (λ (z : ℤ). unsigned_abs z ≤ 2 ^ 52) (sym (wide x y e h)) h
 
-pub share_by-requires-clause-p_size : goal.share_by-requires-clause-p_size
-share_by-requires-clause-p_size c = wide_size c.at-p.result (entry c.args.pivots.now.rows c.args.j c.args.r) c.at-p.ensures.value (c.requires.pivots c.args.r (omega (arith, c.requires.row)) c.requires.row_in)
+pub share_by-share-requires-clause-p_size : goal.share_by-share-requires-clause-p_size
+share_by-share-requires-clause-p_size c = wide_size c.at-p.result (entry c.args.pivots.now.rows c.args.j c.args.r) c.at-p.ensures.value (c.requires.pivots c.args.r (omega (arith, c.requires.row)) c.requires.row_in)
 
-pub share_by-requires-clause-a_size : goal.share_by-requires-clause-a_size
-share_by-requires-clause-a_size c = wide_size c.at-a.result (entry c.args.pivots.now.rows c.args.j c.args.j) c.at-a.ensures.value
+pub share_by-share-requires-clause-a_size : goal.share_by-share-requires-clause-a_size
+share_by-share-requires-clause-a_size c = wide_size c.at-a.result (entry c.args.pivots.now.rows c.args.j c.args.j) c.at-a.ensures.value
     (c.requires.pivots c.args.j (omega arith) (omega (arith, c.requires.row, c.requires.row_in)))
 
 pub write_factor-requires-clause-p_size : goal.write_factor-requires-clause-p_size
