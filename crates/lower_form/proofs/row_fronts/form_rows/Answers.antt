@@ -14,8 +14,8 @@ below x e = omega (arith, ltb-true)
 pub put_row-requires-clause-entries : goal.put_row-requires-clause-entries
 put_row-requires-clause-entries c = λ k h g.
     let done : c.stepped_row.result ≡ true = c.if-not-stepped_row.false in
-    subst (λ (z : ℤ). unsigned_abs z < 2 ^ 52) (sym (c.stepped_row.ensures.value done (3 + k) (omega arith) (omega arith)))
-    (below _ (c.stepped_row.ensures.small done 3 (3 + k) (omega arith) (omega arith) (omega arith)))
+    below (item c.stepped_row.new.row (3 + k)) (subst (λ (z : ℤ). is_small z ≡ true) (sym (c.stepped_row.ensures.value done (3 + k) (omega arith) (omega arith)))
+    (c.stepped_row.ensures.small done 3 (3 + k) (omega arith) (omega arith) (omega arith)))
 
 pub loop-r-preserved : goal.loop-r-preserved
 loop-r-preserved c =

@@ -4,6 +4,7 @@ use Rattle.whole_math.proofs.Words.{as_w64}
 use Rattle.quadratic_form.specs.Elimination.{kept}
 use Rattle.form_tables.specs.Tables.{entry, item}
 use Rattle.normal_sum.specs.declared.normal.Normal.{Normal}
+use Rattle.elimination.specs.StepEntries.{is_small}
 use Rattle.elimination.proofs.SmallEntries.{small_entry}
 use Rattle.elimination.proofs.RowStepLaws.{no_rows, more_rows, pivot_sizes, pivots_positive}
 use Rattle.lower_form.specs.FirstRounding.{first_entry}
@@ -37,8 +38,8 @@ keep-requires-clause-own_size c =
     let j : ℕ = c.loop-j.j in
     let done : c.stepped_row.result ≡ true = c.if-not-stepped_row.false in
     let in_columns : j < c.args.normal.now.columns = inside c.args.normal.now c.loop-j.j c.loop-j-test.true in
-    subst (λ (z : ℤ). unsigned_abs z ≤ 2 ^ 52) (sym (c.stepped_row.ensures.value done j (omega arith) in_columns))
-    (small_entry _ (c.stepped_row.ensures.small done j j (omega arith) (omega arith) in_columns))
+    small_entry (item c.stepped_row.new.row j) (subst (λ (z : ℤ). is_small z ≡ true) (sym (c.stepped_row.ensures.value done j (omega arith) in_columns))
+    (c.stepped_row.ensures.small done j j (omega arith) (omega arith) in_columns))
 
 pub loop-j-preserved : goal.loop-j-preserved
 loop-j-preserved c =
