@@ -30,6 +30,8 @@ pub struct PivotRows {
 const LEAST_PIVOT: i64 = 1 << 20;
 
 /// Takes the entries of row r after its own through the step of column j; false where one is too large.
+// Never inlined: the compiler would take the share's ratio for a number of 128 bits, whose product takes three multiplications.
+#[inline(never)]
 fn step_others(
     row: &mut [i64; MOST_COLUMNS],
     rows: &PivotTable,
