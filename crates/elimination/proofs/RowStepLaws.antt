@@ -1,5 +1,5 @@
 -- Steps that are taken row by row are the steps of the form.
-use Rattle.std.proofs.Common.{◌≡◌, ◌≢◌, ◌⊎◌, ⊎_elim, ℕ, zero, suc, ◌+◌, ◌-◌, ◌^◌, ◌<◌, ◌≤◌, Bool, true, false, int_lt, nat_eq, cond, List, [], ◌∷◌, ℤ, pos, ◌-ℤ◌, ◌*ℤ◌, ◌<ℤ◌, Result, Ok, unsigned_abs, slice_index_or, arith, sym, ap, ap₂, ◌∙◌, refl, subst, below_more}
+use Rattle.std.proofs.Common.{◌≡◌, ◌≢◌, ◌⊎◌, ⊎_elim, ℕ, zero, suc, ◌+◌, ◌-◌, ◌^◌, ◌<◌, ◌≤◌, Bool, true, false, int_lt, nat_eq, cond, List, [], ℤ, pos, ◌-ℤ◌, ◌*ℤ◌, ◌<ℤ◌, Result, Ok, unsigned_abs, slice_index_or, arith, sym, ap, ap₂, ◌∙◌, refl, subst, below_more}
 use Rattle.std.proofs.lemmas.Bool.Decides.{nat_tests}
 use Rattle.whole_math.specs.Rounding.{ceil_div, nearest_div}
 use Rattle.whole_math.specs.Vectors.{len}

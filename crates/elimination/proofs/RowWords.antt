@@ -1,5 +1,5 @@
 -- Entries of 64 bits, as words.
-use Rattle.std.proofs.Common.{◌≡◌, ◌^◌, ◌≤◌, ℤ, pos, ◌<ℤ◌, unsigned_abs, FitsSigned, arith, to_z, of_z, sym, ap, ◌∙◌, subst}
+use Rattle.std.proofs.Common.{◌≡◌, ◌^◌, ◌≤◌, ℤ, pos, ◌<ℤ◌, unsigned_abs, arith, to_z, of_z, sym, ap, ◌∙◌, subst}
 use Rattle.std.proofs.lemmas.Int.{ints}
 use Rattle.std.specs.Int.{w64, w128}
 use Rattle.whole_math.proofs.Words.{as_w64}

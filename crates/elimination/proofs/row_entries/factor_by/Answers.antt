@@ -1,9 +1,7 @@
-use Rattle.std.proofs.Common.{◌≡◌, ◌^◌, ◌≤◌, ℤ, pos, ◌-ℤ◌, ◌*ℤ◌, neg_ℤ, true, unsigned_abs, arith, to_z, of_z, sym, ap, ◌∙◌, subst}
+use Rattle.std.proofs.Common.{◌≡◌, ◌^◌, ◌≤◌, ℤ, pos, ◌-ℤ◌, ◌*ℤ◌, unsigned_abs, arith, ap, ◌∙◌}
 use Rattle.std.proofs.lemmas.Int.{ints, to_z-of_z}
-use borrow.Author.Tests.{ltb-true}
 use Rattle.std.specs.Int.{w64}
 use Rattle.whole_math.specs.Rounding.{nearest_div}
-use Rattle.elimination.specs.StepEntries.{is_small}
 use Rattle.whole_math.proofs.Words.{as_w64}
 use Rattle.elimination.proofs.SmallEntries.{small_size}
 use Rattle.elimination.proofs.RowWords.{word}

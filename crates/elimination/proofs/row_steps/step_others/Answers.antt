@@ -1,6 +1,5 @@
-use Rattle.std.proofs.Common.{◌≡◌, ◌≢◌, ℕ, ◌^◌, ◌<◌, ◌≤◌, List, length, set, ℤ, pos, ◌<ℤ◌, true, unsigned_abs, slice_index_or, get_or-set_same, get_or-set_other, length-set, arith, sym, ◌∙◌, subst, below_more}
+use Rattle.std.proofs.Common.{◌≡◌, ◌≢◌, ℕ, ◌<◌, ◌≤◌, List, length, set, ℤ, pos, true, unsigned_abs, slice_index_or, get_or-set_same, get_or-set_other, length-set, arith, sym, ◌∙◌, subst, below_more}
 use Rattle.whole_math.proofs.Words.{as_w64}
-use Rattle.form_tables.specs.declared.sizes.TheConstants.{MOST_COLUMNS}
 use Rattle.form_tables.specs.Tables.{entry, item}
 use Rattle.elimination.specs.StepEntries.{is_small}
 use Rattle.elimination.specs.RowSteps.{left_other}

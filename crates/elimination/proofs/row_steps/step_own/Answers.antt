@@ -1,4 +1,4 @@
-use Rattle.std.proofs.Common.{◌≡◌, ◌≢◌, ℕ, ◌^◌, ◌<◌, ◌≤◌, length, set, ℤ, pos, ◌<ℤ◌, true, unsigned_abs, slice_index_or, get_or-set_same, get_or-set_other, arith, to_z, of_z, sym, ap, ap₂, ◌∙◌, refl, subst, rules}
+use Rattle.std.proofs.Common.{◌≡◌, ◌<◌, length, ℤ, pos, true, unsigned_abs, slice_index_or, get_or-set_same, get_or-set_other, arith, sym, ◌∙◌, refl, subst, rules}
 use Rattle.std.proofs.lemmas.Int.{to_z-of_z}
 use Rattle.std.specs.Int.{w64}
 use Rattle.whole_math.proofs.Words.{as_w64}

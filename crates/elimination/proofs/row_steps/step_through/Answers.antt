@@ -1,5 +1,5 @@
-use Rattle.std.proofs.Common.{◌≡◌, ◌≢◌, ◌⊎◌, inl, inr, ℕ, suc, ◌+◌, ◌<◌, ◌≤◌, List, ℤ, true, unsigned_abs, arith, sym, ap, ◌∙◌, refl, subst, below_more}
-use Rattle.form_tables.specs.Tables.{entry, item}
+use Rattle.std.proofs.Common.{◌≡◌, inl, inr, ℕ, suc, ◌+◌, ◌<◌, ◌≤◌, List, ℤ, true, arith, sym, ap, ◌∙◌, refl, subst, below_more}
+use Rattle.form_tables.specs.Tables.{item}
 use Rattle.elimination.specs.StepEntries.{is_small}
 use Rattle.elimination.specs.RowSteps.{left_entry, left_after, HasFactors}
 use Rattle.elimination.proofs.SmallEntries.{small_entry}

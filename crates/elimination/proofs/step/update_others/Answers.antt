@@ -1,4 +1,4 @@
-use Rattle.std.proofs.Common.{◌≡◌, ◌≢◌, inl, inr, ℕ, ◌^◌, ◌<◌, ◌≤◌, List, ℤ, ◌-ℤ◌, ◌*ℤ◌, true, false, unsigned_abs, refl, arith, to_z, of_z, sym, ap, ◌∙◌, subst, below_more}
+use Rattle.std.proofs.Common.{◌≡◌, ◌≢◌, inl, inr, ℕ, ◌^◌, ◌<◌, ◌≤◌, List, ℤ, ◌-ℤ◌, ◌*ℤ◌, true, false, unsigned_abs, refl, arith, to_z, of_z, ap, ◌∙◌, subst, below_more}
 use Rattle.std.proofs.lemmas.Int.{to_z-of_z}
 use Rattle.std.specs.Int.{w64, w128}
 use Rattle.whole_math.specs.Rounding.{nearest_div}

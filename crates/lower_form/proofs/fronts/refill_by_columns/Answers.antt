@@ -1,4 +1,4 @@
-use Rattle.std.proofs.Common.{◌≡◌, ◌⊎◌, ℕ, ◌-◌, ◌≤◌, List, ℤ, pos, arith, sym, ◌∙◌, subst}
+use Rattle.std.proofs.Common.{◌≡◌, ◌⊎◌, ℕ, ◌-◌, ◌≤◌, pos, arith, sym, ◌∙◌, subst}
 use Rattle.quadratic_form.specs.Places.{form_from}
 use Rattle.form_tables.specs.Tables.{entry, IsZeroOutside}
 use Rattle.normal_sum.specs.declared.normal.Normal.{Normal}

@@ -1,8 +1,6 @@
-use Rattle.std.proofs.Common.{◌≡◌, ℕ, ◌-◌, ◌≤◌, true, Ok, arith, sym, subst}
+use Rattle.std.proofs.Common.{ℕ, ◌-◌, subst}
 use Rattle.form_tables.specs.Tables.{IsZeroOutside}
-use Rattle.integer_form.specs.Factors.{stored}
-use Rattle.integer_form.specs.Kept.{form_of_table, IsBelowDiagonal}
-use Rattle.lower_form.specs.Fronts.{front_of}
+use Rattle.integer_form.specs.Kept.{IsBelowDiagonal}
 use Rattle.lower_form.proofs.fronts.refill_front.Goals as goal
 
 pub front_by_rows-requires-clause-factors_below : goal.front_by_rows-requires-clause-factors_below

@@ -1,4 +1,4 @@
-use Rattle.std.proofs.Common.{◌≡◌, ◌≢◌, ℕ, ◌<◌, ◌≤◌, List, length, set, ℤ, pos, true, unsigned_abs, slice_index_or, get_or-set_same, get_or-set_other, length-set, arith, to_z, of_z, sym, ap, ◌∙◌, subst, below_more}
+use Rattle.std.proofs.Common.{◌≡◌, ◌≢◌, ℕ, ◌<◌, ◌≤◌, length, set, ℤ, pos, true, get_or-set_same, get_or-set_other, length-set, arith, to_z, of_z, sym, ap, ◌∙◌, subst, below_more}
 use Rattle.std.specs.Int.{w64, w128}
 use Rattle.whole_math.proofs.Words.{as_w64}
 use Rattle.form_tables.specs.declared.sizes.TheConstants.{MOST_COLUMNS}

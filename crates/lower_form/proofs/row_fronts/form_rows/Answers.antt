@@ -1,7 +1,6 @@
-use Rattle.std.proofs.Common.{◌≡◌, ◌≢◌, ℕ, ◌+◌, ◌-◌, ◌^◌, ◌<◌, ◌≤◌, List, ℤ, true, unsigned_abs, arith, sym, ap, ◌∙◌, refl, subst, below_more}
+use Rattle.std.proofs.Common.{◌≡◌, ℕ, ◌+◌, ◌-◌, ◌^◌, ◌<◌, ◌≤◌, List, ℤ, true, unsigned_abs, arith, sym, ◌∙◌, refl, subst, below_more}
 use borrow.Author.Tests.{ltb-true}
 use Rattle.form_tables.specs.Tables.{entry, item}
-use Rattle.normal_sum.specs.declared.normal.Normal.{Normal}
 use Rattle.elimination.specs.StepEntries.{is_small}
 use Rattle.elimination.specs.RowSteps.{row_entry, HasFactors}
 use Rattle.elimination.proofs.RowStepLaws.{has_same}

@@ -1,4 +1,3 @@
-use Rattle.std.proofs.Common.{◌≡◌, ℕ, ◌+◌, ◌-◌, ◌<◌, ◌≤◌, true}
 use Rattle.lower_form.specs.FirstRounding.{first_entry}
 use Rattle.elimination.proofs.RowStepLaws.{pivot_sizes, pivots_positive}
 use Rattle.lower_form.proofs.RowFrontLaws.{front_taken}

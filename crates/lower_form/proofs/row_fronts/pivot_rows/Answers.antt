@@ -1,4 +1,4 @@
-use Rattle.std.proofs.Common.{◌≡◌, ◌≢◌, ℕ, ◌^◌, ◌<◌, ◌≤◌, List, length, set, ℤ, pos, int_lt, true, false, unsigned_abs, slice_index_or, get_or-set_same, get_or-set_other, length-set, arith, to_z, of_z, sym, ap, ◌∙◌, subst, rules}
+use Rattle.std.proofs.Common.{◌≡◌, ℕ, ◌^◌, ◌<◌, ◌≤◌, length, set, ℤ, pos, int_lt, true, false, unsigned_abs, get_or-set_same, get_or-set_other, length-set, arith, to_z, of_z, sym, ap, ◌∙◌, subst, rules}
 use Rattle.std.specs.Int.{w64}
 use Rattle.whole_math.proofs.Words.{as_w64}
 use Rattle.quadratic_form.specs.Elimination.{kept}

@@ -1,4 +1,4 @@
-use Rattle.std.proofs.Common.{◌≡◌, ℕ, ◌+◌, Result, Ok, Err, OnOk, List, sym, ◌∙◌, subst}
+use Rattle.std.proofs.Common.{ℕ, sym, ◌∙◌, subst}
 use Rattle.quadratic_form.specs.Lowering.{IsExponent}
 use Rattle.normal_sum.specs.Values.{form_of}
 use Rattle.obs_rows.specs.Signals.{fine_signals}
