@@ -8,3 +8,5 @@ pub mod KeptLaws
 pub mod FinishLaws
 pub mod NewRows
 pub mod Guesses
+pub mod RowStepLaws
+pub mod RowWords

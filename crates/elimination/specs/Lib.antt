@@ -3,3 +3,4 @@ pub mod Stops
 pub mod Taken
 pub mod Finish
 pub mod Shares
+pub mod RowSteps

@@ -7,11 +7,15 @@
 //! The steps stop in the first column whose pivot is below 2^20 (`StepFault::Weak`), that has a factor of 2^52 or more in
 //! size (`WideFactor`), or whose step gives such an entry (`WideEntry`); `Stopped::fault` and `finish` report it as a
 //! `LowerFault`. What steps that stop leave in their tables no clause says. `form_table`, `fill_form_table`,
-//! `front_factors` and `first_kept` hand on what the steps of the baseline's columns left. No memory is taken.
+//! `front_factors` and `first_kept` hand on what the steps of the baseline's columns left. `step_through` takes one row of a
+//! form through the steps of the baseline's columns by the rows of these columns (`PivotRows`), in 64 bits, and `put_row`
+//! writes it into a form. No memory is taken.
 #![tactic(auto)]
 
 mod entries;
 mod finished;
+mod row_entries;
+mod row_steps;
 mod shares;
 mod step;
 mod steps;
@@ -19,6 +23,7 @@ mod tables;
 
 pub use entries::is_small;
 pub use finished::finish;
+pub use row_steps::{PivotRows, PivotTable, step_through};
 pub use step::StepFault;
 pub use steps::{Stopped, take_steps};
-pub use tables::{fill_form_table, first_kept, form_table, front_factors};
+pub use tables::{fill_form_table, first_kept, form_table, front_factors, put_row};

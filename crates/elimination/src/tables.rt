@@ -2,7 +2,7 @@
 ghost use Rattle.std.specs.Prelude.{◌≡◌, ◌≢◌, ◌⊎◌, ℕ, ◌+◌, ◌^◌, ◌<◌, ◌≤◌, pos, slice_index_or, unsigned_abs};
 ghost use Rattle.quadratic_form.specs.Places.{form_from};
 ghost use Rattle.quadratic_form.specs.LowerSums.{SmallForm};
-ghost use Rattle.form_tables.specs.Tables.{entry, IsZeroOutside};
+ghost use Rattle.form_tables.specs.Tables.{entry, item, IsZeroOutside};
 ghost use Rattle.form_tables.specs.Matrices.{IsSymmetric, EntriesBelow};
 ghost use Rattle.integer_form.specs.Kept.{form_of_table, IsZeroFrom};
 
@@ -39,6 +39,25 @@ fn copy_row(table: &NormalTable, p: &mut FormTable, r: usize, n: usize)
     for c in r..n {
         let value = table.at(BASELINE_COLUMNS + r, BASELINE_COLUMNS + c);
         set_both(p, r, c, value as i64);
+    }
+}
+
+/// Writes row r of a form of n columns, from its own entry on, and its column, of a row that begins with the baseline's columns.
+pub fn put_row(row: &[i64; MOST_COLUMNS], p: &mut FormTable, r: usize, n: usize)
+    requires row_in { r < n }
+    requires columns_in { n ≤ MOST_FORM_COLUMNS }
+    requires entries { (c : ℕ) → r ≤ c → c < n → unsigned_abs (item row.now (3 + c)) < 2 ^ 52 }
+    requires symmetric { IsSymmetric p.old }
+    requires below { EntriesBelow (2 ^ 52) p.old }
+    requires outside { IsZeroOutside n n p.old }
+    ensures row { (c : ℕ) → r ≤ c → c < n → entry p.new r c ≡ item row.now (3 + c) }
+    ensures before { (i c : ℕ) → i < r → entry p.new i c ≡ entry p.old i c }
+    ensures symmetric { IsSymmetric p.new }
+    ensures below { EntriesBelow (2 ^ 52) p.new }
+    ensures outside { IsZeroOutside n n p.new }
+{
+    for c in r..n {
+        set_both(p, r, c, row[BASELINE_COLUMNS + c]);
     }
 }
 

@@ -16,6 +16,7 @@ ghost use Rattle.lower_form.specs.Forms.{IsFrontOf};
 ghost use Rattle.lower_form.specs.Rooms.{IsClean};
 
 use crate::rounding::{exponent, round};
+use crate::row_fronts::front_by_rows;
 use elimination::{
     StepFault, Stopped, fill_form_table, first_kept, form_table, front_factors, take_steps,
 };
@@ -122,9 +123,8 @@ impl FrontRoom {
     }
 }
 
-/// Writes the front of a normal matrix over another of as many columns, with the steps in this room. It is that of `front`,
-/// and is refused as that is.
-pub fn refill_front(
+/// Writes the front of a normal matrix over another of as many columns, by the steps column by column in this room.
+fn refill_by_columns(
     normal: &Normal,
     room: &mut FrontRoom,
     front: &mut FrontForm,
@@ -145,4 +145,27 @@ pub fn refill_front(
     front.d = d;
     front.l = l;
     Ok(())
+}
+
+/// Writes the front of a normal matrix over another of as many columns, with the steps in this room. It is that of `front`,
+/// and is refused as that is.
+pub fn refill_front(
+    normal: &Normal,
+    room: &mut FrontRoom,
+    front: &mut FrontForm,
+) -> Result<(), LowerFault>
+    requires clean { IsClean normal.now.columns room.old }
+    requires columns { front.old.columns ≡ normal.now.columns }
+    ensures front { OnOk result (IsFrontOf normal.now front.new) }
+    ensures few { OnOk result (front.new.h ≤ 77) }
+    ensures refused { IfErr result (λ e. (h : ℕ) → IsExponent h (form_of normal.now) → IsToldAs e (front_of h normal.now)) }
+    ensures clean { IsClean normal.now.columns room.new }
+    ensures columns { front.new.columns ≡ normal.now.columns }
+{
+    let h = exponent(normal);
+    if front_by_rows(normal, h, &mut front.d, &mut front.l, &mut front.p) {
+        front.h = h;
+        return Ok(());
+    }
+    refill_by_columns(normal, room, front)
 }

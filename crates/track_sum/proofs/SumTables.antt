@@ -10,7 +10,7 @@ use Rattle.form_tables.specs.declared.sizes.TheConstants.{BASELINE_COLUMNS, MOST
 use Rattle.form_tables.specs.Tables.{entry, zero_rows}
 use Rattle.integer_form.specs.declared.front_form.FrontForm.{FrontForm}
 use Rattle.integer_form.specs.Kept.{form_of_table}
-use Rattle.track_sum.specs.Fronts.{track_entry, track_form, AreExponents}
+use Rattle.track_sum.specs.Fronts.{track_form, AreExponents}
 use Rattle.track_sum.specs.declared.factors.PairFactors.{PairFactors}
 use Rattle.track_sum.specs.PairFronts.{IsFrontOfPair, AreFronts, brief}
 use Rattle.track_sum.specs.Factors.{AreFactors}

@@ -1,5 +1,5 @@
 //! What the front of one pair adds to the form of a track, entry by entry.
-ghost use Rattle.std.specs.Prelude.{◌≡◌, ℕ, ◌+◌, ◌-◌, ◌*◌, ◌^◌, ◌<◌, ◌≤◌, pos, ◌-ℤ◌, unsigned_abs};
+ghost use Rattle.std.specs.Prelude.{◌≡◌, ℕ, ◌+◌, ◌-◌, ◌*◌, ◌^◌, ◌<◌, ◌≤◌, pos, ◌+ℤ◌, ◌-ℤ◌, ◌*ℤ◌, unsigned_abs};
 ghost use Rattle.whole_math.specs.Rounding.{floor_div, nearest_div};
 ghost use Rattle.form_tables.specs.Tables.{entry};
 ghost use Rattle.form_tables.specs.declared.sizes.TheConstants.{MOST_FORM_COLUMNS};
@@ -37,13 +37,57 @@ fn own_part(entry: i64, shift: u32, order: usize) -> i128
     floor_shift(entry as i128, shift) - order as i128
 }
 
+/// A number over 2^shift downward.
+fn floor_short(number: i64, shift: u32) -> i64
+    requires few { shift < 64 }
+    ensures value { result ≡ floor_div number (2 ^ shift) }
+    ensures size { unsigned_abs result ≤ unsigned_abs number }
+{
+    number >> shift
+}
+
+/// 2^exponent
+fn short_power(exponent: u32) -> i64
+    requires few { exponent ≤ 60 }
+    ensures value { result ≡ pos (2 ^ exponent) }
+    ensures size { unsigned_abs result ≤ 2 ^ 60 }
+{
+    1 << exponent
+}
+
+/// 2 · entry + unit
+fn twice_and_unit(entry: i64, unit: i64) -> i64
+    requires entry_size { unsigned_abs entry ≤ 2 ^ 52 }
+    requires unit_size { unsigned_abs unit ≤ 2 ^ 60 }
+    ensures value { result ≡ (pos 2 *ℤ entry) +ℤ unit }
+    ensures size { unsigned_abs result ≤ 2 ^ 61 }
+{
+    2 * entry + unit
+}
+
+/// An entry over 2^shift to the nearest, in 64 bits.
+fn nearest_short(entry: i64, shift: u32) -> i64
+    requires entry_size { unsigned_abs entry ≤ 2 ^ 52 }
+    requires few { shift ≤ 60 }
+    ensures value { result ≡ nearest_div entry (2 ^ shift) }
+    ensures size { unsigned_abs result ≤ 2 ^ 61 }
+{
+    floor_short(twice_and_unit(entry, short_power(shift)), shift + 1)
+}
+
 /// An entry off the diagonal over 2^shift to the nearest.
 fn other_part(entry: i64, shift: u32) -> i128
+    requires entry_size { unsigned_abs entry ≤ 2 ^ 52 }
     requires few { shift ≤ 90 }
     ensures value { result ≡ nearest_div entry (2 ^ shift) }
     ensures size { unsigned_abs result ≤ 2 ^ 64 }
 {
-    nearest_shift(entry as i128, shift)
+    // Fronts of a track have nearly the same exponent, so the shift is mostly short.
+    if shift <= 60 {
+        nearest_short(entry, shift) as i128
+    } else {
+        nearest_shift(entry as i128, shift)
+    }
 }
 
 /// What a pair adds to the entry in row r and column c.

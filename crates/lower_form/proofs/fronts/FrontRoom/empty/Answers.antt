@@ -1,4 +1,4 @@
-use Rattle.std.proofs.Common.{ℕ, List, ℤ, ap, ◌∙◌}
+use Rattle.std.proofs.Common.{List, ℤ, ap, ◌∙◌}
 use Rattle.form_tables.specs.declared.sizes.TheConstants.{MOST_COLUMNS, MOST_FACTORS}
 use Rattle.form_tables.specs.Tables.{entry}
 use Rattle.form_tables.proofs.TableLaws.{zero_entry}

@@ -1,0 +1,27 @@
+use Rattle.std.proofs.Common.{◌≡◌, ℕ, zero, suc, ◌<◌, ◌≤◌, ℤ, true, sym, ap, ◌∙◌, subst}
+use Rattle.form_tables.specs.Tables.{item}
+use Rattle.elimination.specs.StepEntries.{is_small}
+use Rattle.elimination.specs.RowSteps.{left_after, row_entry}
+use Rattle.elimination.proofs.SmallEntries.{small_entry}
+use Rattle.elimination.proofs.RowStepLaws.{left_none}
+use Rattle.lower_form.specs.FirstRounding.{first_entry}
+use Rattle.lower_form.proofs.row_fronts.stepped_row.Goals as goal
+
+pub step_through-requires-clause-entries : goal.step_through-requires-clause-entries
+step_through-requires-clause-entries c = λ k h g. small_entry (item c.first_row.new.row k) (c.first_row.ensures.small c.if-not-first_row.false k h g)
+
+pub returns-clause-value : goal.returns-clause-value
+returns-clause-value c = λ e k h g. c.step_through.ensures.value e k h g
+    ∙ ap (λ z. left_after c.args.pivots.now.rows c.args.normal.now.columns c.args.r k c.args.count z) (c.first_row.ensures.value c.if-not-first_row.false k h g)
+
+pub returns-clause-small : goal.returns-clause-small
+returns-clause-small c = λ e m k a h g. go e m k a h g
+  where
+    first : (k : ℕ) → c.args.r ≤ k → k < c.args.normal.now.columns → item c.first_row.new.row k ≡ first_entry c.args.normal.now c.args.h c.args.r k
+    first k h g = c.first_row.ensures.value c.if-not-first_row.false k h g
+
+    go : c.step_through.result ≡ true → (m k : ℕ) → m ≤ c.args.count → c.args.r ≤ k → k < c.args.normal.now.columns →
+        is_small (row_entry (first_entry c.args.normal.now c.args.h) c.args.pivots.now.rows c.args.normal.now.columns m c.args.r k) ≡ true
+    go e zero k a h g = subst (λ (z : ℤ). is_small z ≡ true) (first k h g ∙ sym (left_none c.args.pivots.now.rows c.args.normal.now.columns c.args.r k (first_entry c.args.normal.now c.args.h c.args.r k)))
+        (c.first_row.ensures.small c.if-not-first_row.false k h g)
+    go e (suc m) k a h g = subst (λ (z : ℤ). is_small (left_after c.args.pivots.now.rows c.args.normal.now.columns c.args.r k (suc m) z) ≡ true) (first k h g) (c.step_through.ensures.small e m k a h g)
