@@ -1,17 +1,7 @@
-//! Each option of `fix` in both forms and in each place, and what is refused of them.
+//! Each option of `fix` in both forms and in each place.
 use crate::command_words_tests::words_of;
-use command_words::{Job, WordFault, read_words};
-use std::alloc::{AllocError, Global};
+use command_words::{Job, read_words};
 use std::test::Fail;
-
-// `fix`, three files and these words.
-fn fix_with(alloc: Global, options: &[&str]) -> Result<Vec<String>, AllocError> {
-    let mut list = words_of(alloc, ["fix", "B", "R", "N"].as_slice())?;
-    for word in options {
-        list.push(String::from_str(alloc, *word)?)?;
-    }
-    Ok(list)
-}
 
 // The numbers of a job with options, in the order of their table.
 fn numbers_of(job: &Job) -> [u64; 9] {
@@ -92,61 +82,6 @@ fn reads_each_option(rt: HostRuntime) -> Result<(), Fail> {
             Ok(job) => assert_eq!(rt; numbers_of(&job), want, "at {words:?}"),
             Err(_) => panic!(&rt; "no job: {words:?}"),
         }
-    }
-    Ok(())
-}
-
-#[test]
-fn refuses_options(rt: HostRuntime) -> Result<(), Fail> {
-    let alloc = rt.alloc();
-    let rows = [
-        ["--ratio="].as_slice(),
-        &["--ratio"],
-        &["--ratio", "1000", "--ratio", "1000"],
-        &["--ratio=1000", "--ratio=1000"],
-        &["--ratio=1000", "--ratio", "1000"],
-        &["--rati", "1000"],
-        &["--rati=1000"],
-        &["--ratio", "999"],
-        &["--ratio", "100001"],
-        &["--ratio=999"],
-        &["--ratio", "0000000000000001000"],
-        &["--ratio", "+5"],
-        &["--ratio=+5"],
-        &["--ratio", "-1"],
-        &["--ratio=-1"],
-        &["--ratio", "-"],
-        &["--ratio", "--"],
-        &["--ratio", "--mask", "0"],
-        &["--ratio", ""],
-        &["--ratio", "1e3"],
-        &["--budget", "0"],
-        &["--budget", "100000001"],
-        &["--mask", "901"],
-        &["--gap", "5000001"],
-        &["--jump", "0"],
-        &["--jump", "1001"],
-        &["--arc", "1"],
-        &["--arc", "3601"],
-        &["--step", "0"],
-        &["--step", "1001"],
-        &["--first", "20000"],
-        &["--count", "0"],
-        &["--count", "3601"],
-        &["--=1000"],
-        &["-ratio", "1000"],
-        &["--Ratio", "1000"],
-        &["--help"],
-        &["-h"],
-        &["--version"],
-        &["-V"],
-        &["help"],
-        &[""],
-    ];
-    for options in rows {
-        let list = fix_with(alloc, options)?;
-        let found = read_words(alloc, &list).err();
-        assert_eq!(rt; found, Some(WordFault::Usage), "at {options:?}");
     }
     Ok(())
 }

@@ -1,5 +1,5 @@
 //! Words and the jobs that they ask for, by the rules alone.
-use command_words::{File, Job, Part, WordFault, read_words};
+use command_words::{File, Job, Part, read_words};
 use std::alloc::{AllocError, Global};
 use std::test::Fail;
 
@@ -120,80 +120,6 @@ fn reads_jobs(rt: HostRuntime) -> Result<(), Fail> {
             Ok(job) => assert_eq!(rt; asked(&job), want, "at {words:?}"),
             Err(_) => panic!(&rt; "no job: {words:?}"),
         }
-    }
-    Ok(())
-}
-
-#[test]
-fn refuses_words(rt: HostRuntime) -> Result<(), Fail> {
-    let alloc = rt.alloc();
-    let rows = [
-        [].as_slice(),
-        &[""],
-        &["zero"],
-        &["zero", "--"],
-        &["zero", "F", "F"],
-        &["zero", "-x"],
-        &["zero", "-1"],
-        &["zero", "--help"],
-        &["zero", "F", "--ratio", "2000"],
-        &["zero", "F", "--ratio=2000"],
-        &["zero", "--", "F", "--"],
-        &["Zero", "F"],
-        &["--", "zero", "F"],
-        &["--help"],
-        &["-h"],
-        &["help"],
-        &["help", "zero"],
-        &["orbit", "N", "G33", "0"],
-        &["orbit", "N", "G00", "0"],
-        &["orbit", "N", "g01", "0"],
-        &["orbit", "N", "G1", "0"],
-        &["orbit", "N", "G001", "0"],
-        &["orbit", "N", "G01", ""],
-        &["orbit", "N", "G01", "+5"],
-        &["orbit", "N", "G01", "-5"],
-        &["orbit", "N", "G01", "5 "],
-        &["orbit", "N", "G01", "0000000000000000000"],
-        &["migrate"],
-        &["migrate", "F", "F"],
-        &["migrate", "F", "--ratio=2000"],
-        &["track", "B", "R"],
-        &["check-track", "F", "--ratio=2000"],
-        &["checktrack", "F"],
-        &["fix", "a", "b"],
-        &["arcs", "B", "R"],
-        &["arcs", "B", "R", "N", "N"],
-        &["arcs", "B", "R", "N", "--gap"],
-        &["arcs", "B", "R", "N", "--gap="],
-        &["arcs", "B", "R", "N", "--gap", "-1"],
-        &["arcs", "B", "R", "N", "--gap", "--", "1"],
-        &["arcs", "B", "R", "N", "--gap=+1"],
-        &["arcs", "B", "R", "N", "--gap=5000001"],
-        &["arcs", "B", "R", "N", "--gap=1", "--gap=1"],
-        &["arcs", "B", "R", "N", "--ga=1"],
-        &["arcs", "B", "R", "N", "--gaps=1"],
-        &["arcs", "B", "R", "N", "--ratio=2000"],
-        &["arcs", "B", "R", "N", "--budget", "1"],
-        &["arcs", "B", "R", "N", "--jump=0"],
-        &["arcs", "B", "R", "N", "--arc=1"],
-        &["arcs", "B", "R", "N", "--count=3601"],
-        &["arcs", "B", "R", "N", "--mask=0000000000000000000"],
-        &["sim", "Base", "1", "60", "8"],
-        &["sim", "r", "1", "60", "8"],
-        &["sim", "runs", "1", "60", "8"],
-        &["sim", "run", "1", "60"],
-        &["sim", "run", "1", "60", "8", "--budget=1"],
-        &["sim", "base", "4294967296", "60", "8"],
-        &["sim", "base", "1", "0", "8"],
-        &["sim", "base", "1", "3601", "8"],
-        &["sim", "base", "1", "60", "3"],
-        &["sim", "base", "1", "60", "16"],
-    ];
-    for words in rows {
-        let list = words_of(alloc, words)?;
-        let found = read_words(alloc, &list).err();
-        assert_eq!(rt; found, Some(WordFault::Usage), "at {words:?}");
     }
     Ok(())
 }
