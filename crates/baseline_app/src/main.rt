@@ -51,31 +51,15 @@
 #![tactic(auto)]
 
 #[cfg(test)]
-mod decline_tests;
+mod command_tests;
 #[cfg(test)]
 mod failing_tests;
 #[cfg(test)]
 mod fault_order_tests;
-#[cfg(test)]
-mod fix_tests;
-#[cfg(test)]
-mod forged_tests;
 mod laws;
-#[cfg(test)]
-mod malformed_tests;
-#[cfg(test)]
-mod migrate_tests;
-#[cfg(test)]
-mod session_texts;
-#[cfg(test)]
-mod sim_run_tests;
-#[cfg(test)]
-mod small_cert_tests;
 #[cfg(test)]
 mod tests;
 mod top;
-#[cfg(test)]
-mod track_tests;
 
 use line_source::{HostFiles, HostSink};
 use std::alloc::AllocError;
