@@ -63,7 +63,8 @@ fn reads_arcs(rt: HostRuntime) {
             flaw(19, What::BadRange),
         ),
     ];
-    for (line, free, left, want) in bad {
+    for row in bad.iter() {
+        let (line, free, left, want) = *row;
         if line.len() <= 4096 {
             assert_eq!(rt; arc_in(Version::Two, ON_12, free, left, line), Err(want));
         }
@@ -112,7 +113,8 @@ fn reads_rows(rt: HostRuntime) {
             flaw(15, What::BadRange),
         ),
     ];
-    for (line, pair, least, want) in bad {
+    for row in bad.iter() {
+        let (line, pair, least, want) = *row;
         if line.len() <= 4096 {
             assert!(rt; row_in(ON_12, &arcs, pair, least, line) == Err(want));
         }
@@ -149,7 +151,8 @@ fn reads_signals(rt: HostRuntime) {
         (Version::Two, b"signals 125 C Q W"),
         (Version::Two, b"signals 125 C W Q "),
     ];
-    for (version, line) in bad {
+    for row in bad.iter() {
+        let (version, line) = *row;
         assert_eq!(rt; signals_in(version, line), Err(flaw(1, What::BadLine)));
     }
     assert_eq!(rt; system_in(b"system E"), Ok(b'E'));

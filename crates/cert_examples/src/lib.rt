@@ -1,4 +1,4 @@
-//! Certificates that are read, written, checked and shown, against an independent model. There is nothing here but tests.
+//! Certificates that are read, written and shown. There is nothing here but tests.
 #![tactic(auto)]
 
 #[cfg(test)]

@@ -1,4 +1,4 @@
-//! Certificates, in parts, and what is printed of them.
+//! Certificates, in parts.
 
 // Six epochs of five satellites, between the line of the budget and that of the values.
 pub(crate) const SESSION: [&str; 50] = [
@@ -54,40 +54,6 @@ pub(crate) const SESSION: [&str; 50] = [
     "move -594 18 -117",
 ];
 
-// How far each of its observations lies from the mean of its pair.
-pub(crate) const RESIDUALS: [&str; 30] = [
-    "0 0 -101 101 520 520",
-    "0 1 56 -122 -119 -119",
-    "0 2 -6 3 -114 -114",
-    "0 3 7 -9 -135 -135",
-    "0 4 44 27 -152 -152",
-    "1 0 -25 79 353 353",
-    "1 1 0 -7 102 102",
-    "1 2 76 97 -765 -765",
-    "1 3 -28 -184 -135 -135",
-    "1 4 -23 14 445 445",
-    "2 0 37 64 -374 -374",
-    "2 1 -69 2 372 372",
-    "2 2 -85 -115 -141 -141",
-    "2 3 51 158 466 466",
-    "2 4 66 -110 -324 -324",
-    "3 0 14 -19 -341 -341",
-    "3 1 36 -48 -111 -111",
-    "3 2 -70 -59 -3 -3",
-    "3 3 -36 -3 -221 -221",
-    "3 4 56 128 676 676",
-    "4 0 -51 -51 -230 -230",
-    "4 1 47 84 -150 -150",
-    "4 2 84 61 -112 -112",
-    "4 3 -78 -24 -88 -88",
-    "4 4 -3 -70 581 581",
-    "5 0 -39 -13 279 279",
-    "5 1 -40 53 -549 -549",
-    "5 2 37 -57 -228 -228",
-    "5 3 26 148 -28 -28",
-    "5 4 16 -131 526 526",
-];
-
 // Two satellites in one pair, before the rows.
 pub(crate) const SMALL: [&str; 9] = [
     "system G",
@@ -104,22 +70,5 @@ pub(crate) const SMALL: [&str; 9] = [
 pub(crate) const NOTHING: [&str; 3] = [
     "row 0 0 0 0 0 0 0 0 0 0 0 0",
     "row 1 0 0 0 0 0 0 0 0 0 0 0",
-    "declined weak fine 0 -6",
-];
-
-pub(crate) const MADE_UP: [&str; 7] = [
-    "row 0 0 0 0 0 0 0 0 0 0 0 0",
-    "row 1 0 0 0 0 0 0 0 0 0 0 0",
-    "z1 0 0",
-    "z2 0 1",
-    "move 0 0 0",
-    "values 35 0 0 0",
-    "fixed",
-];
-
-// The largest radii that a certificate may have.
-pub(crate) const WIDEST: [&str; 3] = [
-    "row 0 0 0 0 0 1048576 0 0 0 1048576 1048576 1048576",
-    "row 1 0 0 0 0 1048576 0 0 0 1048576 1048576 1048576",
     "declined weak fine 0 -6",
 ];

@@ -1,4 +1,4 @@
-//! What the readers of Galileo's files take and refuse. There is nothing here but tests.
+//! What the readers of Galileo's files give. There is nothing here but tests.
 #![tactic(auto)]
 
 #[cfg(test)]

@@ -1,7 +1,6 @@
-//! Navigation files of Galileo: a real record, the numbers of satellites, and the places of refusals.
+//! Navigation files of Galileo: a real record.
 use decimal_text::Dec;
-use gal_nav::{NavFault, read_gal_nav};
-use rinex_head::{At, What};
+use gal_nav::read_gal_nav;
 use std::alloc::{AllocError, Global};
 use std::test::Fail;
 
@@ -50,29 +49,6 @@ fn reads_a_real_record(rt: HostRuntime) -> Result<(), Fail> {
     ];
     for (found, mant, exp) in rows {
         assert_eq!(rt; found, Dec { mant, exp }, "at {mant}");
-    }
-    Ok(())
-}
-
-#[test]
-fn takes_numbers_to_36(rt: HostRuntime) -> Result<(), Fail> {
-    let of_gps =
-        "     3.04           N: GNSS NAV DATA    G                   RINEX VERSION / TYPE\n";
-    let old = "     2.11           NAVIGATION DATA                         RINEX VERSION / TYPE\n";
-    let (_, behind) = RECORD.split_at(3);
-    let cases: [([&str; 4], Option<(u32, u32, What)>); 6] = [
-        ([FIRST, END, "E36", behind], None),
-        ([FIRST, END, "E37", behind], Some((3, 1, What::BadSat))),
-        ([FIRST, END, "G37", behind], None),
-        ([of_gps, END, "E36", behind], Some((1, 41, What::Kind))),
-        ([old, END, "E36", behind], Some((1, 1, What::Version))),
-        ([FIRST, END, "E36 2016", ""], Some((3, 10, What::BadField))),
-    ];
-    for (parts, place) in cases {
-        let text = text_of(rt.alloc(), &parts)?;
-        assert!(rt; text.len() < 5_000);
-        let want = place.map(|(line, column, what)| NavFault::Refused(At { line, column, what }));
-        assert_eq!(rt; read_gal_nav(rt.alloc(), text.as_bytes()).err(), want);
     }
     Ok(())
 }

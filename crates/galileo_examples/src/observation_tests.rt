@@ -1,8 +1,7 @@
-//! Observation files of Galileo: a real one, the numbers of satellites, and the places of refusals.
-use gal_obs::{ObsFault, read_gal_obs};
+//! Observation files of Galileo: a real one, and the greatest number of a satellite.
+use gal_obs::read_gal_obs;
 use gps_time::Tick;
 use obs_store::{ObsFile, ObsType, Value};
-use rinex_head::{At, What};
 use std::alloc::{AllocError, Global};
 use std::process::Abort;
 use std::test::Fail;
@@ -28,23 +27,15 @@ const REAL: [&str; 4] = [
     "> 2016 04 06 20 38 18.0000000  0  2\nE08  23502062.923   123503837.034        -505.273          53.000    23502066.836    92227296.474        -377.317          54.500  \nE11  28010068.919   147193688.4851        934.513          36.250    28010076.725   109917345.8921        697.847          37.500  \n",
 ];
 
-fn read(rt: &impl Abort, alloc: Global, parts: &[&str]) -> Result<Result<ObsFile, At>, AllocError> {
+fn read_well(rt: &impl Abort, alloc: Global, parts: &[&str]) -> Result<ObsFile, AllocError> {
     let mut text = String::new(alloc);
     for part in parts {
         text.push_str(part)?;
     }
     assert!(rt; text.len() <= 67_108_864);
     match read_gal_obs(alloc, text.as_bytes()) {
-        Ok(file) => Ok(Ok(file)),
-        Err(ObsFault::Refused(at)) => Ok(Err(at)),
-        Err(ObsFault::NoMemory) => panic!(rt; "no memory"),
-    }
-}
-
-fn read_well(rt: &impl Abort, alloc: Global, parts: &[&str]) -> Result<ObsFile, AllocError> {
-    match read(rt, alloc, parts)? {
         Ok(file) => Ok(file),
-        Err(at) => panic!(rt; "refused at line {}", at.line),
+        Err(_) => panic!(rt; "not read"),
     }
 }
 
@@ -93,36 +84,5 @@ fn reads_numbers_to_36(rt: HostRuntime) -> Result<(), Fail> {
     let sats = &epochs[0].sats;
     assert_eq!(rt; sats.len(), 1);
     assert_eq!(rt; sats.at(0).number, 36);
-    Ok(())
-}
-
-#[test]
-fn refuses_at_the_first_place(rt: HostRuntime) -> Result<(), Fail> {
-    let of_gps =
-        "     3.04           OBSERVATION DATA    G                   RINEX VERSION / TYPE\n";
-    let old = "     2.11           OBSERVATION DATA    M (MIXED)           RINEX VERSION / TYPE\n";
-    let [gps, _, _, _] = REAL;
-    let scale = "E  10                                                       SYS / SCALE FACTOR\n";
-    let other = "G  10                                                       SYS / SCALE FACTOR\n";
-    let own = "  2024     1     1     0     0    0.0000000     GAL         TIME OF FIRST OBS\n";
-    let time = "  2024     1     1     0     0    0.0000000     GLO         TIME OF FIRST OBS\n";
-    let cases: [([&str; 5], u32, u32, What); 10] = [
-        (["", "", "", "", ""], 1, 1, What::Version),
-        ([old, TYPES, END, "", ""], 1, 1, What::Version),
-        ([of_gps, TYPES, END, "", ""], 1, 41, What::Kind),
-        ([MIXED, gps, END, "", ""], 4, 1, What::NoGal),
-        ([FIRST, TYPES, scale, END, ""], 3, 1, What::GalScale),
-        ([FIRST, TYPES, other, own, time], 5, 49, What::TimeSystem),
-        ([FIRST, TYPES, TYPES, END, ""], 3, 1, What::Types),
-        ([FIRST, TYPES, END, EPOCH, "E37"], 5, 1, What::BadSat),
-        ([FIRST, TYPES, END, EPOCH, "E00"], 5, 1, What::BadSat),
-        ([FIRST, TYPES, END, EPOCH, ""], 5, 1, What::Truncated),
-    ];
-    for (parts, line, column, what) in cases {
-        match read(&rt, rt.alloc(), &parts)? {
-            Ok(_) => panic!(&rt; "read"),
-            Err(at) => assert_eq!(rt; at, At { line, column, what }, "at {line}"),
-        }
-    }
     Ok(())
 }

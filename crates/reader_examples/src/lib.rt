@@ -14,8 +14,6 @@ mod obs_store_tests;
 #[cfg(test)]
 mod rinex2_accepted_tests;
 #[cfg(test)]
-mod rinex2_refused_tests;
-#[cfg(test)]
 mod rinex2_sample;
 #[cfg(test)]
 mod rinex_head_tests;
@@ -29,5 +27,3 @@ mod rinex_obs_tests;
 mod slow_files;
 #[cfg(test)]
 mod texts;
-#[cfg(test)]
-mod zero_rows_tests;

@@ -36,11 +36,6 @@ pub const SAT_12_REST: &str = "        44.000         30.250  ";
 
 pub const LATER: &str = " 24  1  1  0  1  0.0000000  0  0";
 
-pub const TEN_TYPES: &str =
-    "    10    C1    L1    L2    P2    D1    S1    S2    D2    C2# / TYPES OF OBSERV";
-
-pub const THIRTEEN: &str = " 24  1  1  0  0 30.0000000  0 13G01G02G03G04G05G06G07G08G09G10G11G12";
-
 /// The file, line by line.
 pub const FILE: [&str; 13] = [
     FIRST,
@@ -79,19 +74,4 @@ pub fn read(alloc: Global, text: &str) -> Result<ObsFile, ObsFault> {
         return Err(ObsFault::NoMemory);
     }
     read_obs2(alloc, text.as_bytes())
-}
-
-/// What the sample gives with these lines between the first `before` of its own and those from number `behind` on, both up to 13.
-pub fn read_changed(
-    alloc: Global,
-    before: usize,
-    lines: &[&str],
-    behind: usize,
-) -> Result<ObsFile, ObsFault> {
-    let sample = &FILE;
-    let mut text = String::new(alloc);
-    push_lines(&mut text, &sample[..before.min(13)])?;
-    push_lines(&mut text, lines)?;
-    push_lines(&mut text, &sample[behind.min(13)..])?;
-    read(alloc, &text)
 }

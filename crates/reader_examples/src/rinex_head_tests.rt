@@ -1,4 +1,4 @@
-//! Header lines and versions of files, and the reasons of refusals.
+//! Header lines and versions of files.
 use line_source::Line;
 use rinex_head::{At, Version, What, head_line, version_of};
 
@@ -71,41 +71,5 @@ fn reads_versions(rt: HostRuntime) {
     };
     for bytes in NO_VERSIONS.iter() {
         assert_eq!(rt; version_of(&line(bytes)), Err(refused));
-    }
-}
-
-// Each reason as a user reads it.
-static REASONS: [(What, &str); 24] = [
-    (What::Version, "version not 3.00 to 3.05"),
-    (What::ObsVersion, "version not 2.10 to 2.11 or 3.00 to 3.05"),
-    (What::Kind, "not this kind of file"),
-    (What::NoEnd, "no end of header"),
-    (What::Types, "bad list of observation types"),
-    (What::NoGps, "no GPS observation types"),
-    (What::Scale, "GPS scale factor"),
-    (What::TimeSystem, "time system not GPS"),
-    (What::BadField, "bad field"),
-    (What::BadDate, "bad date"),
-    (What::Order, "epochs out of order"),
-    (What::Flag, "bad epoch flag"),
-    (What::Moving, "antenna moved"),
-    (What::Changed, "types or scale changed after header"),
-    (What::BadSat, "bad satellite name"),
-    (What::Twice, "satellite twice in epoch"),
-    (What::Truncated, "file ends early"),
-    (What::LongLine, "line too long"),
-    (What::TooMany, "too many epochs or records"),
-    (What::BadLine, "bad line"),
-    (What::BadRange, "number out of range"),
-    (What::HalfCycle, "wavelength factor not 1"),
-    (What::NoGal, "no Galileo observation types"),
-    (What::GalScale, "Galileo scale factor"),
-];
-
-#[test]
-fn says_each_reason(rt: HostRuntime) {
-    for row in REASONS.iter() {
-        let (what, text) = *row;
-        assert_eq!(rt; what.text(), text);
     }
 }

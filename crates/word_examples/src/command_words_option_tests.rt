@@ -1,17 +1,8 @@
-//! Each option of `fix` in both forms and in each place, and what is refused of them.
+//! Each option of `fix` in both forms and in each place.
 use crate::command_words_tests::words_of;
-use command_words::{Job, WordFault, read_words};
+use command_words::{Job, read_words};
 use std::alloc::{AllocError, Global};
 use std::test::Fail;
-
-// `fix`, three files and these words.
-fn fix_with(alloc: Global, options: &[&str]) -> Result<Vec<String>, AllocError> {
-    let mut list = words_of(alloc, ["fix", "B", "R", "N"].as_slice())?;
-    for word in options {
-        list.push(String::from_str(alloc, *word)?)?;
-    }
-    Ok(list)
-}
 
 // The numbers of a job with options, in the order of their table.
 fn numbers_of(job: &Job) -> [u64; 9] {
@@ -40,113 +31,62 @@ fn with(place: usize, number: u64) -> [u64; 9] {
     numbers
 }
 
-#[test]
-fn reads_each_option(rt: HostRuntime) -> Result<(), Fail> {
-    let alloc = rt.alloc();
-    let rows = [
-        (["fix", "B", "R", "N"].as_slice(), with(9, 0)),
-        (&["arcs", "B", "R", "N"], with(9, 0)),
-        (&["fix", "--ratio", "1000", "B", "R", "N"], with(0, 1_000)),
-        (&["fix", "B", "--ratio", "1000", "R", "N"], with(0, 1_000)),
-        (&["fix", "B", "R", "--ratio", "1000", "N"], with(0, 1_000)),
-        (&["fix", "B", "R", "N", "--ratio", "1000"], with(0, 1_000)),
-        (&["fix", "--ratio=100000", "B", "R", "N"], with(0, 100_000)),
-        (&["fix", "B", "--ratio=100000", "R", "N"], with(0, 100_000)),
-        (&["fix", "B", "R", "--ratio=100000", "N"], with(0, 100_000)),
-        (&["fix", "B", "R", "N", "--ratio=100000"], with(0, 100_000)),
-        (
-            &["fix", "B", "R", "N", "--ratio", "0002000"],
-            with(0, 2_000),
-        ),
-        (&["fix", "--budget", "1", "B", "R", "N"], with(1, 1)),
-        (
-            &["fix", "B", "R", "N", "--budget=100000000"],
-            with(1, 100_000_000),
-        ),
-        (&["fix", "B", "--mask", "0", "R", "N"], with(2, 0)),
-        (&["arcs", "B", "R", "N", "--mask=900"], with(2, 900)),
-        (&["fix", "--gap", "0", "B", "R", "N"], with(3, 0)),
-        (
-            &["arcs", "B", "R", "--gap=5000000", "N"],
-            with(3, 5_000_000),
-        ),
-        (&["fix", "B", "R", "--jump", "1", "N"], with(4, 1)),
-        (&["arcs", "--jump=1000", "B", "R", "N"], with(4, 1_000)),
-        (&["fix", "B", "R", "N", "--arc", "2"], with(5, 2)),
-        (&["arcs", "B", "--arc=3600", "R", "N"], with(5, 3_600)),
-        (&["fix", "--step", "1000", "B", "R", "N"], with(6, 1_000)),
-        (&["arcs", "B", "R", "N", "--step=1"], with(6, 1)),
-        (&["fix", "B", "--first", "19999", "R", "N"], with(7, 19_999)),
-        (&["arcs", "B", "R", "--first=0", "N"], with(7, 0)),
-        (&["fix", "B", "R", "--count", "1", "N"], with(8, 1)),
-        (&["arcs", "--count=3600", "B", "R", "N"], with(8, 3_600)),
-        (
-            &["fix", "--ratio=1000", "--", "-1", "--ratio", "-"],
-            with(0, 1_000),
-        ),
-        (&["fix", "-", "fix", "arcs"], with(9, 0)),
-    ];
-    for (words, want) in rows {
-        let list = words_of(alloc, words)?;
-        match read_words(alloc, &list) {
-            Ok(job) => assert_eq!(rt; numbers_of(&job), want, "at {words:?}"),
-            Err(_) => panic!(&rt; "no job: {words:?}"),
-        }
+// Words, and the number that they set at its place in the table; at place 9 there is none.
+const ROWS: [(&[&str], usize, u64); 29] = [
+    (&["fix", "B", "R", "N"], 9, 0),
+    (&["arcs", "B", "R", "N"], 9, 0),
+    (&["fix", "--ratio", "1000", "B", "R", "N"], 0, 1_000),
+    (&["fix", "B", "--ratio", "1000", "R", "N"], 0, 1_000),
+    (&["fix", "B", "R", "--ratio", "1000", "N"], 0, 1_000),
+    (&["fix", "B", "R", "N", "--ratio", "1000"], 0, 1_000),
+    (&["fix", "--ratio=100000", "B", "R", "N"], 0, 100_000),
+    (&["fix", "B", "--ratio=100000", "R", "N"], 0, 100_000),
+    (&["fix", "B", "R", "--ratio=100000", "N"], 0, 100_000),
+    (&["fix", "B", "R", "N", "--ratio=100000"], 0, 100_000),
+    (&["fix", "B", "R", "N", "--ratio", "0002000"], 0, 2_000),
+    (&["fix", "--budget", "1", "B", "R", "N"], 1, 1),
+    (
+        &["fix", "B", "R", "N", "--budget=100000000"],
+        1,
+        100_000_000,
+    ),
+    (&["fix", "B", "--mask", "0", "R", "N"], 2, 0),
+    (&["arcs", "B", "R", "N", "--mask=900"], 2, 900),
+    (&["fix", "--gap", "0", "B", "R", "N"], 3, 0),
+    (&["arcs", "B", "R", "--gap=5000000", "N"], 3, 5_000_000),
+    (&["fix", "B", "R", "--jump", "1", "N"], 4, 1),
+    (&["arcs", "--jump=1000", "B", "R", "N"], 4, 1_000),
+    (&["fix", "B", "R", "N", "--arc", "2"], 5, 2),
+    (&["arcs", "B", "--arc=3600", "R", "N"], 5, 3_600),
+    (&["fix", "--step", "1000", "B", "R", "N"], 6, 1_000),
+    (&["arcs", "B", "R", "N", "--step=1"], 6, 1),
+    (&["fix", "B", "--first", "19999", "R", "N"], 7, 19_999),
+    (&["arcs", "B", "R", "--first=0", "N"], 7, 0),
+    (&["fix", "B", "R", "--count", "1", "N"], 8, 1),
+    (&["arcs", "--count=3600", "B", "R", "N"], 8, 3_600),
+    (
+        &["fix", "--ratio=1000", "--", "-1", "--ratio", "-"],
+        0,
+        1_000,
+    ),
+    (&["fix", "-", "fix", "arcs"], 9, 0),
+];
+
+// The numbers of the job that the words ask for.
+fn read_numbers(alloc: Global, words: &[&str]) -> Result<Option<[u64; 9]>, AllocError> {
+    let list = words_of(alloc, words)?;
+    match read_words(alloc, &list) {
+        Ok(job) => Ok(Some(numbers_of(&job))),
+        Err(_) => Ok(None),
     }
-    Ok(())
 }
 
 #[test]
-fn refuses_options(rt: HostRuntime) -> Result<(), Fail> {
-    let alloc = rt.alloc();
-    let rows = [
-        ["--ratio="].as_slice(),
-        &["--ratio"],
-        &["--ratio", "1000", "--ratio", "1000"],
-        &["--ratio=1000", "--ratio=1000"],
-        &["--ratio=1000", "--ratio", "1000"],
-        &["--rati", "1000"],
-        &["--rati=1000"],
-        &["--ratio", "999"],
-        &["--ratio", "100001"],
-        &["--ratio=999"],
-        &["--ratio", "0000000000000001000"],
-        &["--ratio", "+5"],
-        &["--ratio=+5"],
-        &["--ratio", "-1"],
-        &["--ratio=-1"],
-        &["--ratio", "-"],
-        &["--ratio", "--"],
-        &["--ratio", "--mask", "0"],
-        &["--ratio", ""],
-        &["--ratio", "1e3"],
-        &["--budget", "0"],
-        &["--budget", "100000001"],
-        &["--mask", "901"],
-        &["--gap", "5000001"],
-        &["--jump", "0"],
-        &["--jump", "1001"],
-        &["--arc", "1"],
-        &["--arc", "3601"],
-        &["--step", "0"],
-        &["--step", "1001"],
-        &["--first", "20000"],
-        &["--count", "0"],
-        &["--count", "3601"],
-        &["--=1000"],
-        &["-ratio", "1000"],
-        &["--Ratio", "1000"],
-        &["--help"],
-        &["-h"],
-        &["--version"],
-        &["-V"],
-        &["help"],
-        &[""],
-    ];
-    for options in rows {
-        let list = fix_with(alloc, options)?;
-        let found = read_words(alloc, &list).err();
-        assert_eq!(rt; found, Some(WordFault::Usage), "at {options:?}");
+fn reads_each_option(rt: HostRuntime) -> Result<(), Fail> {
+    for row in ROWS.iter() {
+        let (words, place, number) = *row;
+        let found = read_numbers(rt.alloc(), words)?;
+        assert_eq!(rt; found, Some(with(place, number)), "at {words:?}");
     }
     Ok(())
 }

@@ -13,5 +13,3 @@ mod command_words_tests;
 mod job_answers_tests;
 #[cfg(test)]
 mod outcome_report_tests;
-#[cfg(test)]
-mod report_text_tests;
