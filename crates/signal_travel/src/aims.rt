@@ -71,41 +71,47 @@ fn narrowed(x: i128) -> i64
     if x < 0 || x > 1 << 62 { 0 } else { x as i64 }
 }
 
-// The upper half of a product
-fn high(a: i64, b: i64) -> i64 {
-    (a as i128 * b as i128 >> 64) as i64
+// A range in metres, where the roots begin
+const USUAL_RANGE: i64 = 23_000_000;
+
+// The number, or the nearest from 1 to 2^62
+fn limited(x: i64) -> i64
+    ensures low { pos 1 ≤ℤ result }
+    ensures high { result ≤ℤ pos (2 ^ 62) }
+{
+    if x < 1 {
+        1
+    } else if x > 1 << 62 {
+        1 << 62
+    } else {
+        x
+    }
 }
 
-// The square of 25,000 km in 2^-9 m², about which a polynomial gives the inverse of the root
-const USUAL_SQUARE: i64 = 320_000_000_000_000_000;
-
-// 2^84 over the root of a square in 2^-9 m², in metres, to a thousandth from 19,500 km to 29,500 km: a polynomial through four points,
-// so that no number is divided
-fn rough_inverse(square: i64) -> i64 {
-    let apart = square.wrapping_sub(USUAL_SQUARE).wrapping_mul(32);
-    let inner = high(apart, -1_604_269_342_355_439_872).wrapping_add(1_060_190_928_604_171_520);
-    let inner = high(apart, inner).wrapping_add(-695_790_898_604_316_800);
-    high(apart, inner).wrapping_add(772_999_523_287_537_664)
-}
-
-// The inverse from one less near, by Newton's rule
-fn nearer_inverse(square: i64, inverse: i64) -> i64 {
-    let share = high(square << 3, high(inverse, inverse));
-    let factor = (3i64 << 52).wrapping_sub(share);
-    high(inverse, factor << 9) << 2
+// About the root of a square in 2^-9 m², in metres, from one less near, by Heron's rule
+fn nearer_root(square: i64, root: i64) -> i64
+    requires low { pos 0 ≤ℤ square }
+    requires high { square ≤ℤ pos (2 ^ 62) }
+    requires root_low { pos 1 ≤ℤ root }
+    requires root_high { root ≤ℤ pos (2 ^ 62) }
+    ensures low { pos 1 ≤ℤ result }
+    ensures high { result ≤ℤ pos (2 ^ 62) }
+{
+    limited((root + (square / root >> 9)) >> 1)
 }
 
 // About the root of a square in 2^-9 m², in 2^-26 m
-fn rough_root(square: i64) -> i64 {
-    let inverse = nearer_inverse(square, nearer_inverse(square, rough_inverse(square)));
-    let root = high(square << 3, inverse) >> 32;
-    // What is left over twice the root, in 2^-46 m: the inverse is that of the root with its fraction, which the second term makes good
+fn rough_root(square: i64) -> i64
+    requires low { pos 0 ≤ℤ square }
+    requires high { square ≤ℤ pos (2 ^ 62) }
+{
+    let first = nearer_root(square, USUAL_RANGE);
+    let second = nearer_root(square, first);
+    let root = nearer_root(square, second);
+    // What is left over twice the root
     let left = square.wrapping_sub(root.wrapping_mul(root) << 9);
-    let more = high(left << 16, inverse);
-    let moved = more << 9;
-    let rest = high(high(moved, moved), inverse) >> 20;
-    root.wrapping_mul(1 << 26)
-        .wrapping_add(more.wrapping_add(rest) >> 20)
+    let more = (left << 20) / root >> 4;
+    root.wrapping_mul(1 << 26).wrapping_add(more)
 }
 
 // The range in 2^-26 m with the Earth's turn in it to the second order: with a = ω (y p − x q) / c and b = ω (x p + y q) / c it is
