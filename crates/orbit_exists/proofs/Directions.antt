@@ -13,7 +13,8 @@ use Rattle.orbit_model.proofs.Orders.{cert_r, cancel_r, root_r}
 use Rattle.orbit_model.proofs.NearRoots.{root_nn, near_low}
 use Rattle.orbit_model.proofs.ChangeCertificates.{range_square}
 use Rattle.orbit_exists.specs.Directions.{HasMeanDirection}
-use Rattle.orbit_exists.proofs.Roots.{near_root_exists, quotient_exists}
+use Rattle.rational.proofs.Quotients.{quotient_exists}
+use Rattle.orbit_exists.proofs.Roots.{near_root_exists}
 
 -- a long vector less a displacement is no point: 2 |d - m|² = |d|² - 2 |m|² + |d - 2 m|²
 far_after : (x y z a b c : Rational) → of_whole (pos 139240000000000) ≤ʳ add_r (add_r (mul_r x x) (mul_r y y)) (mul_r z z)
