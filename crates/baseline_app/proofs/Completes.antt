@@ -110,7 +110,7 @@ run_usage words work result out err run is job asked = elim (run.written) [
   | inl written ↦ elim (run.answer) [
     | inl answer ↦ subst IsJobStatus (sym written.same ∙ is) (job_status answer.job work.told run.end answer.ends.ends_so)
     | inr (inl usage) ↦ usage.none job asked
-    | inr (inr none) ↦ let s = ap (λ (e : Ending). e.status) none in absurd (cc (s, written.same, is))
+    | inr (inr none) ↦ let status_is = ap (λ (e : Ending). e.status) none in absurd (cc (status_is, written.same, is))
   ]
   | inr (inl by_out) ↦ absurd (cc (by_out.fault, is))
   | inr (inr by_err) ↦ absurd (cc (by_err.fault, is))
@@ -122,8 +122,8 @@ pub run_write : (words : List (List ℕ)) (work : FileWork) (result : Status) (o
 run_write words work result out err run is = elim (run.written) [
   | inl written ↦ elim (run.answer) [
     | inl answer ↦ absurd (subst IsJobStatus (sym written.same ∙ is) (job_status answer.job work.told run.end answer.ends.ends_so))
-    | inr (inl usage) ↦ let s = ap (λ (e : Ending). e.status) usage.end_is in absurd (cc (s, written.same, is))
-    | inr (inr none) ↦ let s = ap (λ (e : Ending). e.status) none in absurd (cc (s, written.same, is))
+    | inr (inl usage) ↦ let usage_status_is = ap (λ (e : Ending). e.status) usage.end_is in absurd (cc (usage_status_is, written.same, is))
+    | inr (inr none) ↦ let status_is = ap (λ (e : Ending). e.status) none in absurd (cc (status_is, written.same, is))
   ]
   | inr (inl by_out) ↦ inl (stop_rose by_out.out_part.stops)
   | inr (inr by_err) ↦ inr (stop_rose by_err.err_part.stops)

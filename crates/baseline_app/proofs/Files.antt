@@ -40,12 +40,12 @@ pub text_asked : (work : FileWork) (r : Result JobOutput JobStop) (text : TextJo
     → IsDoneOver work (file_words job) IsPairLine (JobEnds job work.told) r
 text_asked work r text name word job asked is same words weaker done =
     let at_word : IsDoneOver work (word ∷ []) NoLine (TextEnds text work.told word) r = subst (λ (n : List ℕ). IsDoneOver work (n ∷ []) NoLine (TextEnds text work.told n) r) same done in
-    let so : IsDoneOver work (word ∷ []) IsPairLine (JobEnds asked work.told) r = record {
+    let is_done : IsDoneOver work (word ∷ []) IsPairLine (JobEnds asked work.told) r = record {
       opened = at_word.opened;
       ended = ended_weaker r _ _ (λ end over. one_over work (word ∷ []) (TextEnds text work.told word) (JobEnds asked work.told) end (weaker end) over) at_word.ended;
     } in
     subst (λ (j : Job). IsDoneOver work (file_words j) IsPairLine (JobEnds j work.told) r) (sym is)
-    (subst (λ (ns : List (List ℕ)). IsDoneOver work ns IsPairLine (JobEnds asked work.told) r) (sym words) so)
+    (subst (λ (ns : List (List ℕ)). IsDoneOver work ns IsPairLine (JobEnds asked work.told) r) (sym words) is_done)
 
 -- any job, which the words give
 pub job_asked : (work : FileWork) (r : Result JobOutput JobStop) (job asked : Job) → job ≡ asked → IsDoneOver work (file_words asked) IsPairLine (JobEnds asked work.told) r
@@ -96,7 +96,7 @@ files_used work job (Ok a) result out err done written = files_over work job (en
 files_used work job (Err (stop.Ended a)) result out err done written = files_over work job (ending_of a) result out err done.opened done.ended written
 files_used work job (Err stop.NoMemory) result out err done written = record {
   opened = done.opened;
-  sure = λ all is. let s = no_memory_status result ReadFault out err written is (λ e. absurd (cc (e))) in absurd (cc (s));
+  sure = λ all is. let status_is = no_memory_status result ReadFault out err written is (λ e. absurd (cc (e))) in absurd (cc (status_is));
 }
 
 -- ---- what a run ends with
@@ -118,13 +118,13 @@ fault_rose : (words : List (List ℕ)) (work : FileWork) (end : Ending) (result 
     → IsDelivered end result out err → result ≡ ReadFault → Rose work.faults work.faults_now
 fault_rose words work end result out err (inl answer) written is = answer.ends.fault (delivered_status end result ReadFault out err written is (λ e. absurd (cc (e))))
 fault_rose words work end result out err (inr usage) written is =
-    let s = delivered_status end result ReadFault out err written is (λ e. absurd (cc (e))) in
-    let t = ap (λ (e : Ending). e.status) usage.end_is in
-    absurd (cc (s, t))
+    let status_is = delivered_status end result ReadFault out err written is (λ e. absurd (cc (e))) in
+    let usage_status_is = ap (λ (e : Ending). e.status) usage.end_is in
+    absurd (cc (status_is, usage_status_is))
 
 pub run_read : (words : List (List ℕ)) (work : FileWork) (r : Result JobOutput JobStop) (result : Status) (out err : SinkChange)
     → IfEnded r (λ end. AnswersJob words work end ⊎ AnswersUsage words end) → IsDelivered (end_of r) result out err → result ≡ ReadFault
     → Rose work.faults work.faults_now
 run_read words work (Ok a) result out err ends written is = fault_rose words work (ending_of a) result out err ends written is
 run_read words work (Err (stop.Ended a)) result out err ends written is = fault_rose words work (ending_of a) result out err ends written is
-run_read words work (Err stop.NoMemory) result out err ends written is = let s = no_memory_status result ReadFault out err written is (λ e. absurd (cc (e))) in absurd (cc (s))
+run_read words work (Err stop.NoMemory) result out err ends written is = let status_is = no_memory_status result ReadFault out err written is (λ e. absurd (cc (e))) in absurd (cc (status_is))

@@ -99,10 +99,10 @@ arcs_ends o end b r n (inr refused) = inr refused
 fixed_tail : (b r : ObsFile) (n : Records) (o : Options) (cert : Cert) (t : Tail) → cert.tail ≡ t → (is_fixed (answer.Full cert) ≡ true → IsFixedFor b r n o (answer.Full cert))
     → IsBestWhereFixed cert.session t
 fixed_tail b r n o cert (tail.Fixed h moved best top) is fixed =
-    let f : IsFixedFor b r n o (answer.Full cert) = fixed (rw is refl) in
-    let same : f.cert ≡ cert = let e = f.answer_is in cc in
-    let strictly : (c : Cert) → f.cert ≡ c → IsStrictlyBest c.session (first_of f.fix.best) f.fix.moved = λ c e. subst (λ (x : Cert). IsStrictlyBest x.session (first_of f.fix.best) f.fix.moved) e f.fix.strictly_best in
-    let tails : tail.Fixed h moved best top ≡ tail.Fixed f.fix.h f.fix.moved f.fix.best f.fix.top = sym is ∙ (sym (ap (λ (x : Cert). x.tail) same) ∙ f.fix.tail_is) in
+    let fixed_answer : IsFixedFor b r n o (answer.Full cert) = fixed (rw is refl) in
+    let same : fixed_answer.cert ≡ cert = let e = fixed_answer.answer_is in cc in
+    let strictly : (c : Cert) → fixed_answer.cert ≡ c → IsStrictlyBest c.session (first_of fixed_answer.fix.best) fixed_answer.fix.moved = λ c e. subst (λ (x : Cert). IsStrictlyBest x.session (first_of fixed_answer.fix.best) fixed_answer.fix.moved) e fixed_answer.fix.strictly_best in
+    let tails : tail.Fixed h moved best top ≡ tail.Fixed fixed_answer.fix.h fixed_answer.fix.moved fixed_answer.fix.best fixed_answer.fix.top = sym is ∙ (sym (ap (λ (x : Cert). x.tail) same) ∙ fixed_answer.fix.tail_is) in
     subst (λ (u : Tail). IsBestWhereFixed cert.session u) (sym tails) (strictly cert same)
 fixed_tail b r n o cert (tail.Unseparated h moved best top) is fixed = tt
 fixed_tail b r n o cert (tail.Weak column pivot) is fixed = tt
@@ -118,12 +118,12 @@ best_answer b r n o (answer.Full cert) fixed = fixed_tail b r n o cert cert.tail
 
 fix_ends : (o : Options) (end : Ending) (b r : ObsFile) (n : Records) → EndsOnFiles AnswersFix o b r n end → EndsWithOutcome b r n o end ⊎ IsPairRefused b r o end
 fix_ends o end b r n (inl answered) =
-    let a = answered.answer in
-    inl (record { outcome = a.outcome; is = a.is; best = best_answer b r n o a.outcome.answer a.fixed; whole = a.whole; end_is = a.end_is })
+    let given_answer = answered.answer in
+    inl (record { outcome = given_answer.outcome; is = given_answer.is; best = best_answer b r n o given_answer.outcome.answer given_answer.fixed; whole = given_answer.whole; end_is = given_answer.end_is })
 fix_ends o end b r n (inr refused) = inr refused
 
 track_ends : (o : Options) (end : Ending) (b r : ObsFile) (n : Records) → EndsOnFiles AnswersTrack o b r n end → EndsWithTrack b r n o end ⊎ IsPairRefused b r o end
-track_ends o end b r n (inl answered) = let a = answered.answer in inl (record { outcome = a.outcome; is = a.is; whole = a.whole; end_is = a.end_is })
+track_ends o end b r n (inl answered) = let given_answer = answered.answer in inl (record { outcome = given_answer.outcome; is = given_answer.is; whole = given_answer.whole; end_is = given_answer.end_is })
 track_ends o end b r n (inr refused) = inr refused
 
 -- ---- each job
@@ -175,7 +175,7 @@ pub have_refused : (words : List (List ℕ)) (work : FileWork) (result : Status)
     → HaveRefused work.told work.left (file_words j) result (GainsUnlessFault err)
 have_refused words work result out err run j asked = elim (asked_ends j words work run.end asked run.answer) [
   | inl over ↦ refused_told work.told work.left (file_words j) run.end result out err run.written (λ is. elim (over.refused is) [ inl file ↦ inl file | inr line ↦ inr line.0 ])
-  | inr none ↦ λ is. let s = delivered_status run.end result Refused out err run.written is (λ e. absurd (cc (e))) in absurd (cc (s, none))
+  | inr none ↦ λ is. let status_is = delivered_status run.end result Refused out err run.written is (λ e. absurd (cc (e))) in absurd (cc (status_is, none))
 ]
 
 -- a read fault that is written is that of the ending
@@ -191,7 +191,7 @@ pub have_fault : (words : List (List ℕ)) (work : FileWork) (result : Status) (
     → HaveFault work.sure (file_words j) result (GainsUnlessFault err)
 have_fault words work result out err run j asked = elim (asked_ends j words work run.end asked run.answer) [
   | inl over ↦ fault_told work (file_words j) run.end result out err run.written over.named
-  | inr none ↦ λ is. let s = delivered_status run.end result ReadFault out err run.written is (λ e. absurd (cc (e))) in absurd (cc (s, none))
+  | inr none ↦ λ is. let status_is = delivered_status run.end result ReadFault out err run.written is (λ e. absurd (cc (e))) in absurd (cc (status_is, none))
 ]
 
 pub is_complete : (j : Job) (told : List ℕ → Option (List ℕ)) (result : Status) (out err : SinkChange) → runs.IsComplete j told result out err → IsComplete j told result out err

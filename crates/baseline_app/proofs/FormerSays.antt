@@ -153,10 +153,10 @@ check_verdict told name text c (Not cause) out is whole spelled verdict only bes
 
 pub check_said : (told : List ℕ → Option (List ℕ)) (name : List ℕ) (status : Status) (out : SinkChange) → SaysOfText check_job told name status out → SaysOfCheck told name status out
 check_said told name status out s =
-    let a = s.answer in
-    let e = a.answer in
-    said_at (λ (st : Status). SaysOfCheck told name st out) s.end _ status e.end_is s.status_is
-    (check_verdict told name s.text a.cert e.verdict out s.is a.whole a.spelled e.is e.only e.best e.by_ratio (gained s.end _ out e.end_is s.printed))
+    let answered = s.answer in
+    let ended = answered.answer in
+    said_at (λ (st : Status). SaysOfCheck told name st out) s.end _ status ended.end_is s.status_is
+    (check_verdict told name s.text answered.cert ended.verdict out s.is answered.whole answered.spelled ended.is ended.only ended.best ended.by_ratio (gained s.end _ out ended.end_is s.printed))
 
 left_shown : (told : List ℕ → Option (List ℕ)) (name text : List ℕ) (c : Cert) (shown : Bool) (out : SinkChange) → IsTextOf told name text → IsWhole c → text ≡ spelling c
     → has_vectors c.tail ≡ shown → Appends out.old out.new (residuals_text c) → SaysOfResiduals told name (verdict_status shown) out
@@ -166,25 +166,25 @@ left_shown told name text c false out is whole spelled vectors written = record 
 pub residuals_said : (told : List ℕ → Option (List ℕ)) (name : List ℕ) (status : Status) (out : SinkChange) → SaysOfText residuals_job told name status out
     → SaysOfResiduals told name status out
 residuals_said told name status out s =
-    let a = s.answer in
-    said_at (λ (st : Status). SaysOfResiduals told name st out) s.end _ status a.answer s.status_is
-    (left_shown told name s.text a.cert (has_vectors a.cert.tail) out s.is a.whole a.spelled refl (gained s.end _ out a.answer s.printed))
+    let answered = s.answer in
+    said_at (λ (st : Status). SaysOfResiduals told name st out) s.end _ status answered.answer s.status_is
+    (left_shown told name s.text answered.cert (has_vectors answered.cert.tail) out s.is answered.whole answered.spelled refl (gained s.end _ out answered.answer s.printed))
 
 pub migrate_said : (told : List ℕ → Option (List ℕ)) (name : List ℕ) (status : Status) (out : SinkChange) → SaysOfText migrate_job told name status out → SaysMigrated told name status out
 migrate_said told name status out s =
-    let a = s.answer in
-    let e = a.answer in
+    let answered = s.answer in
+    let ended = answered.answer in
     record {
       text = s.text;
       is = s.is;
-      old = a.old;
-      old_whole = a.whole;
-      spelled = a.spelled;
-      cert = e.cert;
-      whole = e.whole;
-      migrated = e.migrated;
-      status_is = sym (ap (λ (x : Ending). x.status) e.end_is) ∙ s.status_is;
-      printed = gained s.end _ out e.end_is s.printed;
+      old = answered.old;
+      old_whole = answered.whole;
+      spelled = answered.spelled;
+      cert = ended.cert;
+      whole = ended.whole;
+      migrated = ended.migrated;
+      status_is = sym (ap (λ (x : Ending). x.status) ended.end_is) ∙ s.status_is;
+      printed = gained s.end _ out ended.end_is s.printed;
     }
 
 check_track_verdict : (told : List ℕ → Option (List ℕ)) (name text : List ℕ) (c : TrackCert) (v : Verdict) (out : SinkChange) → IsTextOf told name text → IsWholeTrackCert c
@@ -217,44 +217,44 @@ check_track_verdict told name text c (Not cause) out is whole spelled verdict on
 pub check_track_said : (told : List ℕ → Option (List ℕ)) (name : List ℕ) (status : Status) (out : SinkChange) → SaysOfText check_track_job told name status out
     → SaysOfCheckTrack told name status out
 check_track_said told name status out s =
-    let a = s.answer in
-    let e = a.answer in
-    said_at (λ (st : Status). SaysOfCheckTrack told name st out) s.end _ status e.end_is s.status_is
-    (check_track_verdict told name s.text a.cert e.verdict out s.is a.whole a.spelled e.is e.only e.best e.by_ratio (gained s.end _ out e.end_is s.printed))
+    let answered = s.answer in
+    let ended = answered.answer in
+    said_at (λ (st : Status). SaysOfCheckTrack told name st out) s.end _ status ended.end_is s.status_is
+    (check_track_verdict told name s.text answered.cert ended.verdict out s.is answered.whole answered.spelled ended.is ended.only ended.best ended.by_ratio (gained s.end _ out ended.end_is s.printed))
 
 -- ---- commands on a session
 pub arcs_said : (told : List ℕ → Option (List ℕ)) (base rover nav : List ℕ) (o : Options) (status : Status) (out : SinkChange) → SaysOfSession AnswersArcs told base rover nav o status out
     → SaysOfArcs told base rover nav o status out
 arcs_said told base rover nav o status out s =
-    let a = s.answer in
-    said_at (λ (st : Status). SaysOfArcs told base rover nav o st out) s.end _ status a.end_is s.status_is (record {
+    let answered = s.answer in
+    said_at (λ (st : Status). SaysOfArcs told base rover nav o st out) s.end _ status answered.end_is s.status_is (record {
       base_file = s.base_file;
       rover_file = s.rover_file;
       records = s.records;
       are_files = s.are_files;
-      kept = a.kept;
-      short = a.short;
-      are = a.are;
-      printed = gained s.end _ out a.end_is s.printed;
+      kept = answered.kept;
+      short = answered.short;
+      are = answered.are;
+      printed = gained s.end _ out answered.end_is s.printed;
     })
 
 fix_outcome : (told : List ℕ → Option (List ℕ)) (base rover nav : List ℕ) (o : Options) (status : Status) (out : SinkChange)
     (s : SaysOfSession AnswersFix told base rover nav o status out) → Appends out.old out.new (answer_text s.answer.outcome.answer) → (fixed : Bool)
     → is_fixed s.answer.outcome.answer ≡ fixed → SaysOfFix told base rover nav o (verdict_status fixed) out
 fix_outcome told base rover nav o status out s printed true fixed =
-    let f : IsFixedFor s.base_file s.rover_file s.records o s.answer.outcome.answer = s.answer.fixed fixed in
+    let fixed_answer : IsFixedFor s.base_file s.rover_file s.records o s.answer.outcome.answer = s.answer.fixed fixed in
     record {
       outcome = s.answer.outcome;
       have = record { base_file = s.base_file; rover_file = s.rover_file; records = s.records; are_files = s.are_files; is = s.answer.is };
-      cert = f.cert;
-      answer_is = f.answer_is;
-      whole = subst IsWholeAnswer f.answer_is s.answer.whole;
-      fix = f.fix;
-      by_ratio = f.by_ratio;
-      certified = f.certified;
-      only = f.only;
-      stands = f.stands;
-      printed = subst (λ (t : Answer). Appends out.old out.new (answer_text t)) f.answer_is printed;
+      cert = fixed_answer.cert;
+      answer_is = fixed_answer.answer_is;
+      whole = subst IsWholeAnswer fixed_answer.answer_is s.answer.whole;
+      fix = fixed_answer.fix;
+      by_ratio = fixed_answer.by_ratio;
+      certified = fixed_answer.certified;
+      only = fixed_answer.only;
+      stands = fixed_answer.stands;
+      printed = subst (λ (t : Answer). Appends out.old out.new (answer_text t)) fixed_answer.answer_is printed;
     }
 fix_outcome told base rover nav o status out s printed false none = record {
   outcome = s.answer.outcome;
@@ -274,19 +274,19 @@ track_outcome : (told : List ℕ → Option (List ℕ)) (base rover nav : List �
     (s : SaysOfSession AnswersTrack told base rover nav o status out) → Appends out.old out.new (track_answer_text s.answer.outcome.answer) → (fixed : Bool)
     → is_track_fixed s.answer.outcome.answer ≡ fixed → SaysOfTrack told base rover nav o (verdict_status fixed) out
 track_outcome told base rover nav o status out s printed true fixed =
-    let f : IsTrackFixedFor s.base_file s.rover_file s.records o s.answer.outcome.answer = s.answer.fixed fixed in
+    let fixed_answer : IsTrackFixedFor s.base_file s.rover_file s.records o s.answer.outcome.answer = s.answer.fixed fixed in
     record {
       outcome = s.answer.outcome;
       have = record { base_file = s.base_file; rover_file = s.rover_file; records = s.records; are_files = s.are_files; is = s.answer.is };
-      cert = f.cert;
-      answer_is = f.answer_is;
-      whole = subst IsWholeTrackAnswer f.answer_is s.answer.whole;
-      fix = f.fix;
-      by_ratio = f.by_ratio;
-      certified = f.certified;
-      only = f.only;
-      stands = f.stands;
-      printed = subst (λ (t : TrackAnswer). Appends out.old out.new (track_answer_text t)) f.answer_is printed;
+      cert = fixed_answer.cert;
+      answer_is = fixed_answer.answer_is;
+      whole = subst IsWholeTrackAnswer fixed_answer.answer_is s.answer.whole;
+      fix = fixed_answer.fix;
+      by_ratio = fixed_answer.by_ratio;
+      certified = fixed_answer.certified;
+      only = fixed_answer.only;
+      stands = fixed_answer.stands;
+      printed = subst (λ (t : TrackAnswer). Appends out.old out.new (track_answer_text t)) fixed_answer.answer_is printed;
     }
 track_outcome told base rover nav o status out s printed false none = record {
   outcome = s.answer.outcome;

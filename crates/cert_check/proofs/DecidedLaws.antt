@@ -69,7 +69,7 @@ top_below t l g = omega (arith, ints)
 pub vectors_fit : (s : Session) (f : Form) (budget h : ℕ) (m : List ℤ) (best : TwoBest) (top : ℤ) → IsFormOf s f → s.scale ≡ 0 → AreFound s f budget h m best top →
     ((z : List ℤ) → length z ≡ integers_of f → neg_ℤ (pos (2 ^ 63)) ≤ℤ value_of f z) → pos 0 ≤ℤ top → top ≤ℤ pos (2 ^ 119) → AreVectors (fine_signals s.signals) s.arcs h m best top
 vectors_fit s f budget h m best top o fine found from l g =
-    let r : InRange best.p1 best.p2 = values_in_range s f best o fine found.best_is from in
+    let bests_in_range : InRange best.p1 best.p2 = values_in_range s f best o fine found.best_is from in
     record {
       moved_in = all_narrow m found.narrow;
       values = record {
@@ -77,8 +77,8 @@ vectors_fit s f budget h m best top o fine found from l g =
         size = found.best_is.size ∙ integers_are s f o fine;
         first_in = found.best_is.first_small;
         second_in = found.best_is.second_small;
-        p1_in = r.first;
-        p2_in = r.second;
+        p1_in = bests_in_range.first;
+        p2_in = bests_in_range.second;
         top_in = top_below top l g;
       };
     }

@@ -53,8 +53,8 @@ fix_said s ratio budget t d (Not cause.Tail) far said = unlike far said refl
 
 form_ends : (s : Session) (f : Form) (ratio budget : ℕ) (d t : Tail) (v : Verdict) → IsFormOf s f → IsDecision s f ratio budget d → IsSaidOf d t v → Ends s ratio budget t v
 form_ends s f ratio budget (Fixed h m best top) t v of_rows is said =
-    let d : Found s budget = record { form = f; of_rows = of_rows; h = h; moved = m; best = best; top = top; found = is.0 } in
-    decided d (fix_said s ratio budget t d v is.1 said)
+    let found_form : Found s budget = record { form = f; of_rows = of_rows; h = h; moved = m; best = best; top = top; found = is.0 } in
+    decided found_form (fix_said s ratio budget t found_form v is.1 said)
 form_ends s f ratio budget (Unseparated h m best top) t v of_rows is said =
     decided (record { form = f; of_rows = of_rows; h = h; moved = m; best = best; top = top; found = is.0 }) (near is.1 said)
 form_ends s f ratio budget (Weak column pivot) t v of_rows is said = absurd is

@@ -37,15 +37,15 @@ pub record SameForm (f g : Form) : Type 0 where
 
 pub same_form : (s : Session) (f g : Form) → IsFormOf s f → IsFormOf s g → SameForm f g
 same_form s f g a b =
-    let n = a.normal in
-    let m = b.normal in
-    let same = same_normal s.arcs (counted s.signals s.scale) s.pairs n m a.of_rows b.of_rows in
-    let h : f.h ≡ g.h = exponent_unique f.h g.h (form_of n) a.lowered.exponent (subst (λ (c : List Column). IsExponent g.h c) (sym same.form) b.lowered.exponent) in
+    let normal = a.normal in
+    let other_normal = b.normal in
+    let same = same_normal s.arcs (counted s.signals s.scale) s.pairs normal other_normal a.of_rows b.of_rows in
+    let same_exponent : f.h ≡ g.h = exponent_unique f.h g.h (form_of normal) a.lowered.exponent (subst (λ (c : List Column). IsExponent g.h c) (sym same.form) b.lowered.exponent) in
     let taken : Ok (stored f.d f.l f.columns 0 3, form_of_table f.p (f.columns - 3)) ≡ Ok (stored g.d g.l g.columns 0 3, form_of_table g.p (g.columns - 3)) =
-    sym a.lowered.front ∙ same_front f.h n m same ∙ ap (λ (e : ℕ). front_of e m) h ∙ b.lowered.front in
+    sym a.lowered.front ∙ same_front f.h normal other_normal same ∙ ap (λ (e : ℕ). front_of e other_normal) same_exponent ∙ b.lowered.front in
     let pair : (stored f.d f.l f.columns 0 3, form_of_table f.p (f.columns - 3)) ≡ (stored g.d g.l g.columns 0 3, form_of_table g.p (g.columns - 3)) = cc in
     record {
-      h = h;
+      h = same_exponent;
       columns = a.lowered.columns ∙ same.columns ∙ sym b.lowered.columns;
       baseline = ap (λ (p : List Factor × List Column). p.0) pair;
       form = ap (λ (p : List Factor × List Column). p.1) pair;
@@ -87,14 +87,14 @@ fix_of s budget d = Fixed d.h d.moved d.best d.top
 
 pub one_found : (s : Session) (budget : ℕ) (d e : Found s budget) → AreSameNumbers d.h e.h d.moved e.moved d.best e.best d.top e.top
 one_found s budget d e =
-    let a = d.found in
-    let b = e.found in
+    let found = d.found in
+    let other_found = e.found in
     let form = same_form s d.form e.form d.of_rows e.of_rows in
-    let best = same_best d.form e.form d.best e.best form a.best_is b.best_is in
-    let moved : d.moved ≡ e.moved = a.moved_is ∙ same_move d.form e.form (first_of d.best) (first_of e.best) form best.first_is ∙ sym b.moved_is in
+    let best = same_best d.form e.form d.best e.best form found.best_is other_found.best_is in
+    let moved : d.moved ≡ e.moved = found.moved_is ∙ same_move d.form e.form (first_of d.best) (first_of e.best) form best.first_is ∙ sym other_found.moved_is in
     record {
-      h_is = a.h_is ∙ form.h ∙ sym b.h_is;
+      h_is = found.h_is ∙ form.h ∙ sym other_found.h_is;
       moved_is = moved;
       best_is = best;
-      top_is = a.top_is ∙ (λ t. top (form.h t) s.arcs (fine_signals s.signals) s.pairs (best.first_is t) (moved t)) ∙ sym b.top_is;
+      top_is = found.top_is ∙ (λ t. top (form.h t) s.arcs (fine_signals s.signals) s.pairs (best.first_is t) (moved t)) ∙ sym other_found.top_is;
     }

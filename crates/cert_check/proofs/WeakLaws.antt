@@ -83,10 +83,10 @@ told_weak column pivot wide_entry e = absurd cc
 
 pub weak_fits : (s : Session) (column : ℕ) (pivot : ℤ) → IsRefused s (Weak column pivot) → IsWeak column pivot
 weak_fits s column pivot h =
-    let n : Normal = h.normal in
-    let t : IsToldAs (Weak column pivot) (elimination_of h.h n) = h.told in
-    let p : IsPivot 0 (n.columns - 1) column pivot = weak_of (form_small (first_form h.h n)) (n.columns - 1) (first_form h.h n) column pivot refl (t.1.0 ∙ ap Err (told_weak column pivot t.0 t.1.1)) in
-    record { column_to = small n.columns column n.columns_to p.column; pivot_in = p.size }
+    let normal : Normal = h.normal in
+    let is_told : IsToldAs (Weak column pivot) (elimination_of h.h normal) = h.told in
+    let is_pivot : IsPivot 0 (normal.columns - 1) column pivot = weak_of (form_small (first_form h.h normal)) (normal.columns - 1) (first_form h.h normal) column pivot refl (is_told.1.0 ∙ ap Err (told_weak column pivot is_told.0 is_told.1.1)) in
+    record { column_to = small normal.columns column normal.columns_to is_pivot.column; pivot_in = is_pivot.size }
   where
     small : (c i : ℕ) → c ≤ MOST_COLUMNS → i < 0 + (c - 1) → i < MOST_FACTORS
     small c i h g = omega arith

@@ -142,14 +142,14 @@ sat_small Two n h = omega arith
 took_numbers : (version : Version) (bands : List ℕ) (datum : Bool) (ns : List Number) (a : Arc) → AreGood PHASES bands → length ns ≡ 3 + length bands
     → arc_numbers version bands datum ns ≡ Ok a → TookNumbers bands datum ns a
 took_numbers version bands datum ns a good five e =
-    let p = arc_parts version bands datum ns a e in
+    let arc_holds = arc_parts version bands datum ns a e in
     let own = take (length bands) (drop 3 ns) in
     let many : length own ≡ length bands = length-take-le (length bands) (drop 3 ns) (omega (arith, length-drop 3 ns, five)) in
-    let placed = were_placed PHASES SHIFTS bands own a.shift good many p.shift in
+    let placed = were_placed PHASES SHIFTS bands own a.shift good many arc_holds.shift in
     let shifts = select bands a.shift in
-    let are : values ns ≡ pos a.sat ∷ pos a.first ∷ pos a.last ∷ shifts = three_values ns (length bands) (pos a.sat) (pos a.first) (pos a.last) shifts five p.sat.value p.first.value p.last.value placed.are in
-    let small : AreSmall (pos a.sat ∷ pos a.first ∷ pos a.last ∷ shifts) = (sat_small version a.sat p.sat.to, (omega (arith, p.first.to), (omega (arith, p.last.to), shifts_small shifts placed.inside))) in
-    record { kind = p.kind; are = are; small = subst AreSmall (sym are) small }
+    let are : values ns ≡ pos a.sat ∷ pos a.first ∷ pos a.last ∷ shifts = three_values ns (length bands) (pos a.sat) (pos a.first) (pos a.last) shifts five arc_holds.sat.value arc_holds.first.value arc_holds.last.value placed.are in
+    let small : AreSmall (pos a.sat ∷ pos a.first ∷ pos a.last ∷ shifts) = (sat_small version a.sat arc_holds.sat.to, (omega (arith, arc_holds.first.to), (omega (arith, arc_holds.last.to), shifts_small shifts placed.inside))) in
+    record { kind = arc_holds.kind; are = are; small = subst AreSmall (sym are) small }
 
 -- lists that are equal, part by part
 same_parts : (xs ys us vs : List ℤ) → length xs ≡ length us → xs ++ ys ≡ us ++ vs → (xs ≡ us) × (ys ≡ vs)

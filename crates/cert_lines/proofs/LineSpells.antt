@@ -136,10 +136,10 @@ group_small Two z h = below_small (2 ^ 55) z (omega arith) h
 pub pair_spells : (version : Version) (least number tag count : ℕ) (group : ℤ) → least ≤ number → number < MOST_PAIRS → tag < 2 ^ 63 → unsigned_abs group < group_limit version → 1 ≤ count
     → count ≤ MOST_SATELLITES → pair_in version least (pair_line number tag group count) ≡ Ok (pair_head number tag group count)
 pair_spells version least number tag count group from to tag_to group_in count_from count_to =
-    let zs : List ℤ = pos number ∷ pos tag ∷ group ∷ pos count ∷ [] in
-    let small : AreSmall zs = (omega (arith, to), (omega (arith, tag_to), (group_small version group group_in, (omega (arith, count_to), tt)))) in
+    let numbers : List ℤ = pos number ∷ pos tag ∷ group ∷ pos count ∷ [] in
+    let small : AreSmall numbers = (omega (arith, to), (omega (arith, tag_to), (group_small version group group_in, (omega (arith, count_to), tt)))) in
     let inside : IsIn (groups version) group = group_is version group group_in in
-    rw (line_written (codes "pair") zs small) (pair_numbers version least number tag count group (placed (1 + 4) zs) (placed_values (1 + 4) zs small) from (omega (arith, to))
+    rw (line_written (codes "pair") numbers small) (pair_numbers version least number tag count group (placed (1 + 4) numbers) (placed_values (1 + 4) numbers small) from (omega (arith, to))
     (omega (arith, tag_to)) inside count_from count_to)
 
 -- ---- a row's line
@@ -178,19 +178,19 @@ row_parts : (ns : List Number) (n arc : ℕ) (y : List ℤ) (ry : ℤ) (u ru : L
     → RowParts ns n arc y ry u ru
 row_parts ns n arc y ry u ru many three three_too have =
     let first = tail_at ns (pos arc) (y ++ (ry ∷ (u ++ ru))) have in
-    let ys = split_values (drop 1 ns) y (ry ∷ (u ++ ru)) first in
-    let y_is = subst (λ (k : ℕ). HaveValues (take k (drop 1 ns)) y) many ys.0 in
-    let behind_y = subst (λ (l : List Number). HaveValues l (ry ∷ (u ++ ru))) (drop-drop n 1 ns) (subst (λ (k : ℕ). HaveValues (drop k (drop 1 ns)) (ry ∷ (u ++ ru))) many ys.1) in
+    let signals_split = split_values (drop 1 ns) y (ry ∷ (u ++ ru)) first in
+    let y_is = subst (λ (k : ℕ). HaveValues (take k (drop 1 ns)) y) many signals_split.0 in
+    let behind_y = subst (λ (l : List Number). HaveValues l (ry ∷ (u ++ ru))) (drop-drop n 1 ns) (subst (λ (k : ℕ). HaveValues (drop k (drop 1 ns)) (ry ∷ (u ++ ru))) many signals_split.1) in
     let ry_is : (number_at (drop (1 + n) ns) 0).value ≡ ry = head_at (drop (1 + n) ns) ry (u ++ ru) behind_y in
     let none : Number = record { column = 0; value = pos 0 } in
     let same : 1 + n + 0 ≡ 1 + n = omega arith in
     let there : number_at (drop (1 + n) ns) 0 ≡ number_at ns (1 + n) = get_or-drop (1 + n) ns 0 none ∙ ap (λ (k : ℕ). number_at ns k) same in
     let behind_ry = subst (λ (l : List Number). HaveValues l (u ++ ru)) (drop-drop 1 (1 + n) ns) (tail_at (drop (1 + n) ns) ry (u ++ ru) behind_y) in
-    let us = split_values (drop (1 + n + 1) ns) u ru behind_ry in
-    let u_is = subst (λ (k : ℕ). HaveValues (take k (drop (1 + n + 1) ns)) u) three us.0 in
+    let directions_split = split_values (drop (1 + n + 1) ns) u ru behind_ry in
+    let u_is = subst (λ (k : ℕ). HaveValues (take k (drop (1 + n + 1) ns)) u) three directions_split.0 in
     let four_on : 1 + n + 1 + 3 ≡ 1 + n + 4 = omega arith in
     let behind_u = subst (λ (k : ℕ). HaveValues (drop k ns) ru) four_on
-    (subst (λ (l : List Number). HaveValues l ru) (drop-drop 3 (1 + n + 1) ns) (subst (λ (k : ℕ). HaveValues (drop k (drop (1 + n + 1) ns)) ru) three us.1)) in
+    (subst (λ (l : List Number). HaveValues l ru) (drop-drop 3 (1 + n + 1) ns) (subst (λ (k : ℕ). HaveValues (drop k (drop (1 + n + 1) ns)) ru) three directions_split.1)) in
     let rus = split_values (drop (1 + n + 4) ns) ru [] (subst (λ (l : List ℤ). HaveValues (drop (1 + n + 4) ns) l) (sym (append-nil ru)) behind_u) in
     record {
       arc_is = head_at ns (pos arc) (y ++ (ry ∷ (u ++ ru))) have;
@@ -209,8 +209,8 @@ arc_at_spelled arcs number least r n is of_pair from = by_get (slice_get arcs r.
 
     by_get : (o : Option Arc) → slice_get arcs r.arc ≡ o → arc_at arcs number least n ≡ Ok r.arc
     by_get None e =
-        let d : Arc = record { sat = 0; first = 0; last = 0; datum = true; shift = [] } in
-        let some = slice_get-get_or arcs r.arc d of_pair.arc_in in
+        let arc : Arc = record { sat = 0; first = 0; last = 0; datum = true; shift = [] } in
+        let some = slice_get-get_or arcs r.arc arc of_pair.arc_in in
         absurd (cc (e, some))
     by_get (Some a) e =
         let from_first : nat_le a.first number ≡ true = grind (arith, nat_tests, of_pair.from_first a e) in
@@ -220,28 +220,28 @@ arc_at_spelled arcs number least r n is of_pair from = by_get (slice_get arcs r.
 -- how many numbers stand in a row's line
 pub row_count : (ss : List ℕ) (r : Row) → IsWholeRow r → length (row_numbers ss r) ≡ behind_y ss + 7
 row_count ss r whole =
-    let y = select ss r.y in
-    let many : length y ≡ length ss = length-map ss (λ p. get_or r.y p (pos 0)) in
-    omega (arith, length-append y (r.ry ∷ (r.u ++ r.ru)), length-append r.u r.ru, many, whole.u, whole.ru)
+    let chosen = select ss r.y in
+    let many : length chosen ≡ length ss = length-map ss (λ p. get_or r.y p (pos 0)) in
+    omega (arith, length-append chosen (r.ry ∷ (r.u ++ r.ru)), length-append r.u r.ru, many, whole.u, whole.ru)
 
 pub row_spells : (ss : List ℕ) (arcs : List Arc) (number least : ℕ) (r : Row) → length arcs ≤ 200 → IsOfPair arcs number r → IsWholeRow r → least ≤ r.arc
     → row_in ss arcs number least (row_line ss r) ≡ Ok r.arc
 row_spells ss arcs number least r few of_pair whole from =
-    let zs = row_numbers ss r in
+    let numbers = row_numbers ss r in
     let own = select ss r.y in
     let small = row_small ss arcs number r few of_pair in
     let count = row_count ss r whole in
     let many : length own ≡ length ss = length-map ss (λ p. get_or r.y p (pos 0)) in
-    let ns = placed (1 + 3) zs in
-    let written : numbers_behind (codes "row") (behind_y ss + 7) (row_line ss r) ≡ Ok ns = subst (λ (k : ℕ). numbers_behind (codes "row") k (row_line ss r) ≡ Ok ns) count
-    (line_written (codes "row") zs small) in
-    let parts = row_parts ns (length ss) r.arc own r.ry r.u r.ru many whole.u whole.ru (placed_values (1 + 3) zs small) in
-    let y = ap (λ (v : Result (List ℤ) Flaw). and_then v (λ vs. Ok (spread SIGNALS ss vs)))
-    (values_at OBSERVATIONS (take (length ss) (drop 1 ns)) own parts.y_is (select_in (IsWithin (2 ^ 34)) OBSERVATIONS ss r.y (omega arith) (λ z h. within_is (2 ^ 34) z h) r.y_in)) in
-    let ry = range_at RADII (number_at ns (behind_y ss)) r.ry parts.ry_is r.ry_in in
-    let u = values_at DIRECTIONS (take 3 (drop (behind_y ss + 1) ns)) r.u parts.u_is (are_in (IsWithin (2 ^ 24)) DIRECTIONS r.u (λ z h. within_is (2 ^ 24) z h) r.u_in) in
-    let ru = values_at RADII (take 3 (drop (behind_y ss + 4) ns)) r.ru parts.ru_is (are_in IsRadius RADII r.ru (λ z h. h) r.ru_in) in
-    rw (written, arc_at_spelled arcs number least r (number_at ns 0) parts.arc_is of_pair from, y, ry, u, ru) refl
+    let placed_numbers = placed (1 + 3) numbers in
+    let written : numbers_behind (codes "row") (behind_y ss + 7) (row_line ss r) ≡ Ok placed_numbers = subst (λ (k : ℕ). numbers_behind (codes "row") k (row_line ss r) ≡ Ok placed_numbers) count
+    (line_written (codes "row") numbers small) in
+    let parts = row_parts placed_numbers (length ss) r.arc own r.ry r.u r.ru many whole.u whole.ru (placed_values (1 + 3) numbers small) in
+    let signals_read = ap (λ (v : Result (List ℤ) Flaw). and_then v (λ vs. Ok (spread SIGNALS ss vs)))
+    (values_at OBSERVATIONS (take (length ss) (drop 1 placed_numbers)) own parts.y_is (select_in (IsWithin (2 ^ 34)) OBSERVATIONS ss r.y (omega arith) (λ z h. within_is (2 ^ 34) z h) r.y_in)) in
+    let radius_read = range_at RADII (number_at placed_numbers (behind_y ss)) r.ry parts.ry_is r.ry_in in
+    let directions_read = values_at DIRECTIONS (take 3 (drop (behind_y ss + 1) placed_numbers)) r.u parts.u_is (are_in (IsWithin (2 ^ 24)) DIRECTIONS r.u (λ z h. within_is (2 ^ 24) z h) r.u_in) in
+    let radii_read = values_at RADII (take 3 (drop (behind_y ss + 4) placed_numbers)) r.ru parts.ru_is (are_in IsRadius RADII r.ru (λ z h. h) r.ru_in) in
+    rw (written, arc_at_spelled arcs number least r (number_at placed_numbers 0) parts.arc_is of_pair from, signals_read, radius_read, directions_read, radii_read) refl
 
 -- ---- an arc's line
 

@@ -42,11 +42,11 @@ split_same (x ∷ xs) ys (z ∷ zs) ws l e =
 
 pub numbers_same : (word : List ℕ) (n : ℕ) (xs ys : List ℤ) → length xs ≡ n → length ys ≡ n → AreSmall xs → AreSmall ys → word ++ behind_blanks xs ≡ word ++ behind_blanks ys → xs ≡ ys
 numbers_same word n xs ys lx ly sx sy e =
-    let a : numbers_behind word n (word ++ behind_blanks xs) ≡ Ok (placed (1 + length word) xs) = subst
+    let left_read : numbers_behind word n (word ++ behind_blanks xs) ≡ Ok (placed (1 + length word) xs) = subst
     (λ (k : ℕ). numbers_behind word k (word ++ behind_blanks xs) ≡ Ok (placed (1 + length word) xs)) lx (line_written word xs sx) in
-    let b : numbers_behind word n (word ++ behind_blanks ys) ≡ Ok (placed (1 + length word) ys) = subst
+    let right_read : numbers_behind word n (word ++ behind_blanks ys) ≡ Ok (placed (1 + length word) ys) = subst
     (λ (k : ℕ). numbers_behind word k (word ++ behind_blanks ys) ≡ Ok (placed (1 + length word) ys)) ly (line_written word ys sy) in
-    let both : Ok (placed (1 + length word) xs) ≡ Ok (placed (1 + length word) ys) = sym a ∙ ap (λ (l : List ℕ). numbers_behind word n l) e ∙ b in
+    let both : Ok (placed (1 + length word) xs) ≡ Ok (placed (1 + length word) ys) = sym left_read ∙ ap (λ (l : List ℕ). numbers_behind word n l) e ∙ right_read in
     let same : placed (1 + length word) xs ≡ placed (1 + length word) ys = cc in
     sym (values_placed (1 + length word) xs sx) ∙ ap values same ∙ values_placed (1 + length word) ys sy
 
@@ -80,21 +80,21 @@ pub row_line_same : (l2 l5 : ℕ) (arcs arcs' : List Arc) (k k' : ℕ) (r s : Ro
     → IsWholeRow s → HasUsedY l2 l5 r → HasUsedY l2 l5 s
     → row_line (used_signals l2 l5) r ≡ row_line (used_signals l2 l5) s → r ≡ s
 row_line_same l2 l5 arcs arcs' k k' r s few few' of_r of_s wr ws ur us e =
-    let ss = used_signals l2 l5 in
+    let signals = used_signals l2 l5 in
     let good = signals_good l2 l5 in
-    let yr = select ss r.y in
-    let ys = select ss s.y in
-    let all = numbers_same (codes "row") (behind_y ss + 7) (row_numbers ss r) (row_numbers ss s) (row_count ss r wr) (row_count ss s ws) (row_small ss arcs k r few of_r)
-    (row_small ss arcs' k' s few' of_s) e in
-    let first = cons_same (pos r.arc) (pos s.arc) (yr ++ (r.ry ∷ (r.u ++ r.ru))) (ys ++ (s.ry ∷ (s.u ++ s.ru))) all in
+    let left_values = select signals r.y in
+    let right_values = select signals s.y in
+    let all = numbers_same (codes "row") (behind_y signals + 7) (row_numbers signals r) (row_numbers signals s) (row_count signals r wr) (row_count signals s ws) (row_small signals arcs k r few of_r)
+    (row_small signals arcs' k' s few' of_s) e in
+    let first = cons_same (pos r.arc) (pos s.arc) (left_values ++ (r.ry ∷ (r.u ++ r.ru))) (right_values ++ (s.ry ∷ (s.u ++ s.ru))) all in
     let arc_z : pos r.arc ≡ pos s.arc = first.0 in
     let arc : r.arc ≡ s.arc = cc in
-    let many : length yr ≡ length ys = length-map ss (λ p. get_or r.y p (pos 0)) ∙ sym (length-map ss (λ p. get_or s.y p (pos 0))) in
-    let selected = split_same yr (r.ry ∷ (r.u ++ r.ru)) ys (s.ry ∷ (s.u ++ s.ru)) many first.1 in
-    let y : r.y ≡ s.y = sym (good.whole r.y wr.y ur) ∙ ap (λ (vs : List ℤ). spread SIGNALS ss vs) selected.0 ∙ good.whole s.y ws.y us in
+    let many : length left_values ≡ length right_values = length-map signals (λ p. get_or r.y p (pos 0)) ∙ sym (length-map signals (λ p. get_or s.y p (pos 0))) in
+    let selected = split_same left_values (r.ry ∷ (r.u ++ r.ru)) right_values (s.ry ∷ (s.u ++ s.ru)) many first.1 in
+    let same_signals : r.y ≡ s.y = sym (good.whole r.y wr.y ur) ∙ ap (λ (vs : List ℤ). spread SIGNALS signals vs) selected.0 ∙ good.whole s.y ws.y us in
     let rest = cons_same r.ry s.ry (r.u ++ r.ru) (s.u ++ s.ru) selected.1 in
-    let u = split_same r.u r.ru s.u s.ru (wr.u ∙ sym ws.u) rest.1 in
-    row_same r s arc y rest.0 u.0 u.1
+    let split_same_way = split_same r.u r.ru s.u s.ru (wr.u ∙ sym ws.u) rest.1 in
+    row_same r s arc same_signals rest.0 split_same_way.0 split_same_way.1
 
 pub rows_same : (l2 l5 : ℕ) (arcs arcs' : List Arc) (k k' : ℕ) (rows rows' : List Row) (rest rest' : List (List ℕ)) → length arcs ≤ 200 → length arcs' ≤ 200 → All (IsOfPair arcs k) rows
     → All (IsOfPair arcs' k') rows' → All IsWholeRow rows → All IsWholeRow rows'
@@ -104,8 +104,8 @@ rows_same l2 l5 arcs arcs' k k' [] [] rest rest' few few' o o' w w' u u' l e = (
 rows_same l2 l5 arcs arcs' k k' [] (s ∷ rows') rest rest' few few' o o' w w' u u' l e = absurd (omega (arith, l))
 rows_same l2 l5 arcs arcs' k k' (r ∷ rows) [] rest rest' few few' o o' w w' u u' l e = absurd (omega (arith, l))
 rows_same l2 l5 arcs arcs' k k' (r ∷ rows) (s ∷ rows') rest rest' few few' o o' w w' u u' l e =
-    let ss = used_signals l2 l5 in
-    let lines = cons_same (row_line ss r) (row_line ss s) (row_lines ss rows ++ rest) (row_lines ss rows' ++ rest') e in
+    let signals = used_signals l2 l5 in
+    let lines = cons_same (row_line signals r) (row_line signals s) (row_lines signals rows ++ rest) (row_lines signals rows' ++ rest') e in
     let one = row_line_same l2 l5 arcs arcs' k k' r s few few' (All-head (IsOfPair arcs k) r rows o) (All-head (IsOfPair arcs' k') s rows' o') (All-head IsWholeRow r rows w)
     (All-head IsWholeRow s rows' w')
     (All-head (HasUsedY l2 l5) r rows u) (All-head (HasUsedY l2 l5) s rows' u') lines.0 in
@@ -119,9 +119,9 @@ rows_same l2 l5 arcs arcs' k k' (r ∷ rows) (s ∷ rows') rest rest' few few' o
 pub pair_line_same : (p q : PairRows) → pair_line p.number p.tag.0 p.group (length p.rows) ≡ pair_line q.number q.tag.0 q.group (length q.rows)
     → (p.number ≡ q.number) × (p.tag.0 ≡ q.tag.0) × (p.group ≡ q.group) × (length p.rows ≡ length q.rows)
 pair_line_same p q e =
-    let a = pair_spells Two 0 p.number p.tag.0 (length p.rows) p.group (omega arith) p.number_in p.tag_in p.group_in p.some_rows p.few_rows in
-    let b = pair_spells Two 0 q.number q.tag.0 (length q.rows) q.group (omega arith) q.number_in q.tag_in q.group_in q.some_rows q.few_rows in
-    let heads : Ok (pair_head p.number p.tag.0 p.group (length p.rows)) ≡ Ok (pair_head q.number q.tag.0 q.group (length q.rows)) = sym a ∙ ap (λ (l : List ℕ). pair_in Two 0 l) e ∙ b in
+    let left_read = pair_spells Two 0 p.number p.tag.0 (length p.rows) p.group (omega arith) p.number_in p.tag_in p.group_in p.some_rows p.few_rows in
+    let right_read = pair_spells Two 0 q.number q.tag.0 (length q.rows) q.group (omega arith) q.number_in q.tag_in q.group_in q.some_rows q.few_rows in
+    let heads : Ok (pair_head p.number p.tag.0 p.group (length p.rows)) ≡ Ok (pair_head q.number q.tag.0 q.group (length q.rows)) = sym left_read ∙ ap (λ (l : List ℕ). pair_in Two 0 l) e ∙ right_read in
     let head : pair_head p.number p.tag.0 p.group (length p.rows) ≡ pair_head q.number q.tag.0 q.group (length q.rows) = cc in
     (ap (λ (x : PairHead). x.number) head, ap (λ (x : PairHead). x.tag.0) head, ap (λ (x : PairHead). x.group) head, ap (λ (x : PairHead). x.count) head)
 
@@ -134,16 +134,16 @@ arcs_same l2 l5 [] [] rest rest' h h' u u' w w' l e = (refl, e)
 arcs_same l2 l5 [] (b ∷ arcs') rest rest' h h' u u' w w' l e = absurd (omega (arith, l))
 arcs_same l2 l5 (a ∷ arcs) [] rest rest' h h' u u' w w' l e = absurd (omega (arith, l))
 arcs_same l2 l5 (a ∷ arcs) (b ∷ arcs') rest rest' h h' u u' w w' l e =
-    let ss = used_signals l2 l5 in
+    let signals = used_signals l2 l5 in
     let in_a = All-head IsArcInRange a arcs h in
     let in_b = All-head IsArcInRange b arcs' h' in
-    let lines = cons_same (arc_line ss a) (arc_line ss b) (arc_lines ss arcs ++ rest) (arc_lines ss arcs' ++ rest') e in
-    let x = arc_spells Two l2 l5 1 2 a in_a in_a.sat_to (All-head (HasUsedShifts ss) a arcs u) (All-head IsWholeArc a arcs w) (stands a.datum) in
-    let y = arc_spells Two l2 l5 1 2 b in_b in_b.sat_to (All-head (HasUsedShifts ss) b arcs' u') (All-head IsWholeArc b arcs' w') (stands b.datum) in
-    let both : Ok a ≡ Ok b = sym x ∙ ap (λ (l : List ℕ). arc_in Two ss 1 2 l) lines.0 ∙ y in
+    let lines = cons_same (arc_line signals a) (arc_line signals b) (arc_lines signals arcs ++ rest) (arc_lines signals arcs' ++ rest') e in
+    let left_read = arc_spells Two l2 l5 1 2 a in_a in_a.sat_to (All-head (HasUsedShifts signals) a arcs u) (All-head IsWholeArc a arcs w) (stands a.datum) in
+    let right_read = arc_spells Two l2 l5 1 2 b in_b in_b.sat_to (All-head (HasUsedShifts signals) b arcs' u') (All-head IsWholeArc b arcs' w') (stands b.datum) in
+    let both : Ok a ≡ Ok b = sym left_read ∙ ap (λ (l : List ℕ). arc_in Two signals 1 2 l) lines.0 ∙ right_read in
     let one : a ≡ b = cc in
-    let more = arcs_same l2 l5 arcs arcs' rest rest' (All-tail IsArcInRange a arcs h) (All-tail IsArcInRange b arcs' h') (All-tail (HasUsedShifts ss) a arcs u)
-    (All-tail (HasUsedShifts ss) b arcs' u') (All-tail IsWholeArc a arcs w) (All-tail IsWholeArc b arcs' w')
+    let more = arcs_same l2 l5 arcs arcs' rest rest' (All-tail IsArcInRange a arcs h) (All-tail IsArcInRange b arcs' h') (All-tail (HasUsedShifts signals) a arcs u)
+    (All-tail (HasUsedShifts signals) b arcs' u') (All-tail IsWholeArc a arcs w) (All-tail IsWholeArc b arcs' w')
     (omega (arith, l)) lines.1 in
     ((λ i. one i ∷ more.0 i), more.1)
   where
@@ -155,7 +155,7 @@ pub counted_arcs_same : (l2 l5 : ℕ) (arcs arcs' : List Arc) (rest rest' : List
     → All (HasUsedShifts (used_signals l2 l5)) arcs' → All IsWholeArc arcs → All IsWholeArc arcs'
     → counted_arcs (used_signals l2 l5) arcs ++ rest ≡ counted_arcs (used_signals l2 l5) arcs' ++ rest' → (arcs ≡ arcs') × (rest ≡ rest')
 counted_arcs_same l2 l5 arcs arcs' rest rest' h h' u u' w w' e =
-    let ss = used_signals l2 l5 in
-    let lines = cons_same (count_line (codes "arcs") (length arcs)) (count_line (codes "arcs") (length arcs')) (arc_lines ss arcs ++ rest) (arc_lines ss arcs' ++ rest') e in
+    let signals = used_signals l2 l5 in
+    let lines = cons_same (count_line (codes "arcs") (length arcs)) (count_line (codes "arcs") (length arcs')) (arc_lines signals arcs ++ rest) (arc_lines signals arcs' ++ rest') e in
     let count = count_same (codes "arcs") (length arcs) (length arcs') (omega (arith, h.few)) (omega (arith, h'.few)) lines.0 in
     arcs_same l2 l5 arcs arcs' rest rest' h.ranges h'.ranges u u' w w' count lines.1

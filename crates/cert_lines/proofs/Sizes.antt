@@ -25,7 +25,7 @@ pub within_small : (m : ℕ) (z : ℤ) → m < 2 ^ 126 → IsWithin m z → size
 within_small m z few h = rw (size_is z) (omega (arith, few, h))
 
 pub radius_small : (z : ℤ) → IsRadius z → size_of z < 2 ^ 126
-radius_small (pos n) h = let to = h.1 in omega (arith, ints)
+radius_small (pos n) h = let at_most = h.1 in omega (arith, ints)
 radius_small (negsuc n) h = let from = h.0 in absurd (omega (arith, ints))
 
 pub each_small : (P : ℤ → Type 0) (zs : List ℤ) → ((z : ℤ) → P z → size_of z < 2 ^ 126) → All P zs → AreSmall zs
@@ -66,11 +66,11 @@ shifts_small bands a is = select_small (IsBelow (2 ^ 40)) bands a.shift (omega a
 
 pub row_small : (ss : List ℕ) (arcs : List Arc) (number : ℕ) (r : Row) → length arcs ≤ 200 → IsOfPair arcs number r → AreSmall (row_numbers ss r)
 row_small ss arcs number r few is =
-    let y = select_small (IsWithin (2 ^ 34)) ss r.y (omega arith) (λ z h. within_small (2 ^ 34) z (omega arith) h) r.y_in in
-    let u = each_small (IsWithin (2 ^ 24)) r.u (λ z h. within_small (2 ^ 24) z (omega arith) h) r.u_in in
-    let ru = each_small IsRadius r.ru radius_small r.ru_in in
+    let signals_small = select_small (IsWithin (2 ^ 34)) ss r.y (omega arith) (λ z h. within_small (2 ^ 34) z (omega arith) h) r.y_in in
+    let directions_small = each_small (IsWithin (2 ^ 24)) r.u (λ z h. within_small (2 ^ 24) z (omega arith) h) r.u_in in
+    let radii_small = each_small IsRadius r.ru radius_small r.ru_in in
     let arc : r.arc < 2 ^ 126 = omega (arith, few, is.arc_in) in
-    (arc, small_append (select ss r.y) (r.ry ∷ (r.u ++ r.ru)) y (radius_small r.ry r.ry_in, small_append r.u r.ru u ru))
+    (arc, small_append (select ss r.y) (r.ry ∷ (r.u ++ r.ru)) signals_small (radius_small r.ry r.ry_in, small_append r.u r.ru directions_small radii_small))
 
 pub point_small : (p : List ℤ) → IsPoint p → AreSmall p
 point_small p is = each_small (IsWithin MOST_COORDINATE) p (λ z h. within_small MOST_COORDINATE z (omega arith) h) is

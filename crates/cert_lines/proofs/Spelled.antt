@@ -60,12 +60,12 @@ pub were_placed : (n : ℕ) (range : Range) (places : List ℕ) (ns : List Numbe
     → WerePlaced n range places ns zs
 were_placed n range places ns zs good many e =
     let both = and_then_took (all_within range ns) (λ (vs : List ℤ). Ok (spread n places vs)) zs e in
-    let vs : List ℤ = both.0 in
-    let are : vs ≡ values ns = all_passed range ns vs both.1 in
-    let put : spread n places vs ≡ zs = cc (both.2) in
-    let count : length vs ≡ length places = ap length are ∙ values-length ns ∙ many in
-    let back : select places zs ≡ vs = ap (λ (l : List ℤ). select places l) (sym put) ∙ good.back vs count in
-    record { are = sym are ∙ sym back; inside = subst (AreIn range) (sym back) (passed_in range ns vs both.1) }
+    let passed_values : List ℤ = both.0 in
+    let are : passed_values ≡ values ns = all_passed range ns passed_values both.1 in
+    let put : spread n places passed_values ≡ zs = cc (both.2) in
+    let count : length passed_values ≡ length places = ap length are ∙ values-length ns ∙ many in
+    let back : select places zs ≡ passed_values = ap (λ (l : List ℤ). select places l) (sym put) ∙ good.back passed_values count in
+    record { are = sym are ∙ sym back; inside = subst (AreIn range) (sym back) (passed_in range ns passed_values both.1) }
 
 observations_small : (zs : List ℤ) → AreIn OBSERVATIONS zs → AreSmall zs
 observations_small zs inside = in_small 17_179_869_184 OBSERVATIONS zs (lit< tt) (record { low = omega (arith, ints); high = omega (arith, ints) }) inside
@@ -83,10 +83,10 @@ row_spelled ss line ns s yn un rn x v arc y ry u ru good read many same ax vx sx
     let first : (number_at s 0).value ≡ pos arc = ap (λ (n : Number). n.value) (sym ax) ∙ vx in
     let middle : (number_at s (behind_y ss)).value ≡ ry = ap (λ (n : Number). n.value) (sym av) ∙ sym vv in
     let placed = were_placed SIGNALS OBSERVATIONS ss yn y good my (sym py) in
-    let ys : values (take (length ss) (drop 1 s)) ≡ select ss y = ap values (sym ay) ∙ placed.are in
-    let us : values (take 3 (drop (behind_y ss + 1) s)) ≡ u = ap values (sym au) ∙ sym (all_passed DIRECTIONS un u (sym pu)) in
-    let rs : values (take 3 (drop (behind_y ss + 4) s)) ≡ ru = ap values (sym ar) ∙ sym (all_passed RADII rn ru (sym pr)) in
-    let are : values s ≡ pos arc ∷ (select ss y ++ (ry ∷ (u ++ ru))) = row_values s (length ss) count ∙ (λ i. first i ∷ (ys i ++ (middle i ∷ (us i ++ rs i)))) in
+    let signals_are : values (take (length ss) (drop 1 s)) ≡ select ss y = ap values (sym ay) ∙ placed.are in
+    let directions_are : values (take 3 (drop (behind_y ss + 1) s)) ≡ u = ap values (sym au) ∙ sym (all_passed DIRECTIONS un u (sym pu)) in
+    let radii_are : values (take 3 (drop (behind_y ss + 4) s)) ≡ ru = ap values (sym ar) ∙ sym (all_passed RADII rn ru (sym pr)) in
+    let are : values s ≡ pos arc ∷ (select ss y ++ (ry ∷ (u ++ ru))) = row_values s (length ss) count ∙ (λ i. first i ∷ (signals_are i ++ (middle i ∷ (directions_are i ++ radii_are i)))) in
     let fits : AreSmall (pos arc ∷ (select ss y ++ (ry ∷ (u ++ ru)))) =
     (omega arith, small_append (select ss y) (ry ∷ (u ++ ru)) (observations_small (select ss y) placed.inside) (omega (arith, sv), small_append u ru (all_small u su) (all_small ru sr))) in
     let whole : values ns ≡ pos arc ∷ (select ss y ++ (ry ∷ (u ++ ru))) = ap values (sym same) ∙ are in
@@ -105,14 +105,14 @@ pub row_put : (ss : List ℕ) (line numbers a b c d end : List ℕ) (number ry :
     → b ≡ 32 ∷ (signed_decimal ry ++ c) → c ≡ behind_blanks (take 3 u) ++ d → d ≡ behind_blanks (take 3 ru) ++ end → length end ≡ 0
     → y ≡ spread SIGNALS ss (take (length ss) seen) → r.y ≡ y → r.ry ≡ ry → r.u ≡ u → r.ru ≡ ru → line ≡ row_line ss r
 row_put ss line numbers a b c d end number ry seen y u ru r good many three three_too test left en is ea eb ec ed none put y_is ry_is u_is ru_is =
-    let el : line ≡ codes "row" ++ numbers = behind_word (codes "row") line test ∙ ap (λ (l : List ℕ). codes "row" ++ l) (sym left) in
+    let line_is : line ≡ codes "row" ++ numbers = behind_word (codes "row") line test ∙ ap (λ (l : List ℕ). codes "row" ++ l) (sym left) in
     let own = take (length ss) seen in
     let count : length own ≡ length ss = omega (arith, length-take (length ss) seen, good.few, many) in
     let back : own ≡ select ss r.y = sym (ap (λ (l : List ℤ). select ss l) (y_is ∙ put) ∙ good.back own count) in
     let first : numbers ≡ 32 ∷ (signed_decimal (pos r.arc) ++ a) = en ∙ ap (λ (z : ℤ). 32 ∷ (signed_decimal z ++ a)) is in
     let all_u : c ≡ behind_blanks u ++ d = ec ∙ ap (λ (l : List ℤ). behind_blanks l ++ d) (take_all 3 u (omega (arith, three))) in
     let all_ru : d ≡ behind_blanks ru ++ end = ed ∙ ap (λ (l : List ℤ). behind_blanks l ++ end) (take_all 3 ru (omega (arith, three_too))) in
-    row_taken r.arc own ry u ru line numbers a b c d end el first ea eb all_u all_ru none
+    row_taken r.arc own ry u ru line numbers a b c d end line_is first ea eb all_u all_ru none
     ∙ (λ i. codes "row" ++ behind_blanks (pos r.arc ∷ (back i ++ (sym ry_is i ∷ (sym u_is i ++ sym ru_is i)))))
 
 -- the arc of a row whose parts were read

@@ -35,11 +35,11 @@ pub values_read : (line : List ℕ) (ns s : List Number) (w x y z : Number) (h :
     → y ≡ number_at s 2 → p2 ≡ y.value → IsBelow (2 ^ 126) p2 → z ≡ number_at s 3 → top ≡ z.value → IsBelow (2 ^ 126) top → line ≡ values_line h p1 p2 top
 values_read line ns s w x y z h p1 p2 top read many same aw vw sw ax vx sx ay vy sy az vz sz =
     let four : length s ≡ 4 = ap length same ∙ many in
-    let e0 = value_at s 0 w (pos h) aw vw in
-    let e1 = value_at s 1 x p1 ax (sym vx) in
-    let e2 = value_at s 2 y p2 ay (sym vy) in
-    let e3 = value_at s 3 z top az (sym vz) in
-    let whole : values ns ≡ pos h ∷ p1 ∷ p2 ∷ top ∷ [] = ap values (sym same) ∙ four_values s four ∙ (λ i. e0 i ∷ e1 i ∷ e2 i ∷ e3 i ∷ []) in
+    let exponent_is = value_at s 0 w (pos h) aw vw in
+    let first_is = value_at s 1 x p1 ax (sym vx) in
+    let second_is = value_at s 2 y p2 ay (sym vy) in
+    let top_is = value_at s 3 z top az (sym vz) in
+    let whole : values ns ≡ pos h ∷ p1 ∷ p2 ∷ top ∷ [] = ap values (sym same) ∙ four_values s four ∙ (λ i. exponent_is i ∷ first_is i ∷ second_is i ∷ top_is i ∷ []) in
     let fits : AreSmall (pos h ∷ p1 ∷ p2 ∷ top ∷ []) = (omega arith, (below_small p1 sx, (below_small p2 sy, (below_small top sz, tt)))) in
     line_read (codes "values") 4 line ns (sym read) (subst AreSmall (sym whole) fits) ∙ ap (λ (zs : List ℤ). codes "values" ++ behind_blanks zs) whole
 

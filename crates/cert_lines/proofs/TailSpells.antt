@@ -32,9 +32,9 @@ value_numbers h p1 p2 top (a ∷ b ∷ c ∷ d ∷ e ∷ ns) have to b1 b2 b3 = 
 
 pub values_spell : (h : ℕ) (p1 p2 top : ℤ) → h ≤ 127 → IsBelow (2 ^ 126) p1 → IsBelow (2 ^ 126) p2 → IsBelow (2 ^ 126) top → values_in (values_line h p1 p2 top) ≡ Ok (form_values h p1 p2 top)
 values_spell h p1 p2 top to b1 b2 b3 =
-    let zs : List ℤ = pos h ∷ p1 ∷ p2 ∷ top ∷ [] in
+    let numbers : List ℤ = pos h ∷ p1 ∷ p2 ∷ top ∷ [] in
     let small = values_small h p1 p2 top to b1 b2 b3 in
-    rw (line_written (codes "values") zs small) (value_numbers h p1 p2 top (placed (1 + 6) zs) (placed_values (1 + 6) zs small) to b1 b2 b3)
+    rw (line_written (codes "values") numbers small) (value_numbers h p1 p2 top (placed (1 + 6) numbers) (placed_values (1 + 6) numbers small) to b1 b2 b3)
 
 weak_numbers : (last column : ℕ) (pivot : ℤ) (ns : List Number) → HaveValues ns (pos column ∷ pivot ∷ []) → column ≤ last → IsIn PIVOTS pivot
     → and_then (natural_within 0 last (number_at ns 0)) (λ column. and_then (within_range PIVOTS (number_at ns 1)) (λ pivot. Ok (weak_pivot column pivot))) ≡ Ok (weak_pivot column pivot)
@@ -46,10 +46,10 @@ weak_numbers last column pivot (a ∷ b ∷ c ∷ ns) have to inside = absurd ha
 pub weak_spells : (words : List ℕ) (last column : ℕ) (pivot : ℤ) → column < 2 ^ 126 → IsBelow (2 ^ 52) pivot → column ≤ last
     → weak_in words last (weak_line words column pivot) ≡ Ok (weak_pivot column pivot)
 weak_spells words last column pivot few below to =
-    let zs : List ℤ = pos column ∷ pivot ∷ [] in
+    let numbers : List ℤ = pos column ∷ pivot ∷ [] in
     let small = weak_small column pivot few below in
     let inside = below_is (2 ^ 52) 4_503_599_627_370_495 pivot refl below in
-    rw (line_written words zs small) (weak_numbers last column pivot (placed (1 + length words) zs) (placed_values (1 + length words) zs small) to inside)
+    rw (line_written words numbers small) (weak_numbers last column pivot (placed (1 + length words) numbers) (placed_values (1 + length words) numbers small) to inside)
 
 -- ---- the last line
 

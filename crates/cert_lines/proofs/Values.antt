@@ -88,12 +88,12 @@ row_values ns n e =
     let three_on : 1 + n + 1 + 3 ≡ 1 + n + 4 = omega arith in
     let first : values ns ≡ (number_at ns 0).value ∷ values (drop 1 ns) = ap values (drop_more ns 0 none (omega (arith, e))) in
     let middle : values (drop (1 + n) ns) ≡ (number_at ns (1 + n)).value ∷ values (drop (1 + n + 1) ns) = ap values (drop_more ns (1 + n) none (omega (arith, e))) in
-    let y : values (drop 1 ns) ≡ values (take n (drop 1 ns)) ++ values (drop (1 + n) ns) = split n 1 ns in
-    let u : values (drop (1 + n + 1) ns) ≡ values (take 3 (drop (1 + n + 1) ns)) ++ values (drop (1 + n + 4) ns) = split 3 (1 + n + 1) ns
+    let signals_behind : values (drop 1 ns) ≡ values (take n (drop 1 ns)) ++ values (drop (1 + n) ns) = split n 1 ns in
+    let directions_behind : values (drop (1 + n + 1) ns) ≡ values (take 3 (drop (1 + n + 1) ns)) ++ values (drop (1 + n + 4) ns) = split 3 (1 + n + 1) ns
     ∙ ap (λ (k : ℕ). values (take 3 (drop (1 + n + 1) ns)) ++ values (drop k ns)) three_on in
-    let ru : drop (1 + n + 4) ns ≡ take 3 (drop (1 + n + 4) ns) = sym (take_all 3 (drop (1 + n + 4) ns) (omega (arith, length-drop (1 + n + 4) ns, e))) in
-    first ∙ ap (λ (zs : List ℤ). (number_at ns 0).value ∷ zs) (y ∙ ap (λ (zs : List ℤ). values (take n (drop 1 ns)) ++ zs)
-    (middle ∙ ap (λ (zs : List ℤ). (number_at ns (1 + n)).value ∷ zs) (u ∙ ap (λ (l : List Number). values (take 3 (drop (1 + n + 1) ns)) ++ values l) ru)))
+    let radii_are_last : drop (1 + n + 4) ns ≡ take 3 (drop (1 + n + 4) ns) = sym (take_all 3 (drop (1 + n + 4) ns) (omega (arith, length-drop (1 + n + 4) ns, e))) in
+    first ∙ ap (λ (zs : List ℤ). (number_at ns 0).value ∷ zs) (signals_behind ∙ ap (λ (zs : List ℤ). values (take n (drop 1 ns)) ++ zs)
+    (middle ∙ ap (λ (zs : List ℤ). (number_at ns (1 + n)).value ∷ zs) (directions_behind ∙ ap (λ (l : List Number). values (take 3 (drop (1 + n + 1) ns)) ++ values l) radii_are_last)))
   where
     split : (k n : ℕ) (ns : List Number) → values (drop n ns) ≡ values (take k (drop n ns)) ++ values (drop (n + k) ns)
     split k n ns =

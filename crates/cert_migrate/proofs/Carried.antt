@@ -51,10 +51,10 @@ carried_ys y = at y 0 ∷ at y 1 ∷ at y 2 ∷ at y 3 ∷ pos 0 ∷ pos 0 ∷ [
 
 pub ys_in : (y : List ℤ) → All (IsWithin (2 ^ 34)) y → All (IsWithin (2 ^ 34)) (carried_ys y)
 ys_in y h =
-    let P : ℤ → Type 0 = IsWithin (2 ^ 34) in
-    let none : P (pos 0) = omega arith in
-    let each : (k : ℕ) → P (at y k) = λ k. all_at P y k (pos 0) none h in
-    All-from_recursion P (carried_ys y) (each 0, (each 1, (each 2, (each 3, (none, (none, tt))))))
+    let in_limit : ℤ → Type 0 = IsWithin (2 ^ 34) in
+    let none : in_limit (pos 0) = omega arith in
+    let each : (k : ℕ) → in_limit (at y k) = λ k. all_at in_limit y k (pos 0) none h in
+    All-from_recursion in_limit (carried_ys y) (each 0, (each 1, (each 2, (each 3, (none, (none, tt))))))
 
 abbrev pub carried_row : OldRow → Row
 carried_row o = record { arc = o.arc; y = carried_ys o.y; ry = o.ry; u = o.u; ru = o.ru; y_in = ys_in o.y o.y_in; ry_in = o.ry_in; u_in = o.u_in; ru_in = o.ru_in }
@@ -138,7 +138,7 @@ carried_session s = record {
 }
 
 arc_back : (a : OldArc) → IsWholeOldArc a → a ≡ old_arc (lifted_arc a)
-arc_back a w = let e = two_are a.shift w in λ i. record { sat = a.sat; first = a.first; last = a.last; datum = a.datum; shift = e i }
+arc_back a w = let two_shifts_are = two_are a.shift w in λ i. record { sat = a.sat; first = a.first; last = a.last; datum = a.datum; shift = two_shifts_are i }
 
 arcs_back : (arcs : List OldArc) → All IsWholeOldArc arcs → arcs ≡ map old_arc (map lifted_arc arcs)
 arcs_back [] w = refl

@@ -67,14 +67,14 @@ second_code arcs z k = none_if z (is_some_free (slice_get (map lifted_arc arcs) 
 -- ---- ranges
 in_range : (a : OldArc) → IsOldArcInRange a → IsArcInRange (lifted_arc a)
 in_range a h =
-    let P : ℤ → Type 0 = IsBelow (2 ^ 40) in
-    let zero_in : P (pos 0) = omega arith in
+    let under_limit : ℤ → Type 0 = IsBelow (2 ^ 40) in
+    let zero_in : under_limit (pos 0) = omega arith in
     record {
       sat_from = h.sat_from;
       sat_to = omega (arith, h.sat_to);
       order = h.order;
       last_in = h.last_in;
-      shifts_in = All-from_recursion P (at a.shift 0 ∷ at a.shift 1 ∷ pos 0 ∷ []) (all_at P a.shift 0 (pos 0) zero_in h.shifts_in, (all_at P a.shift 1 (pos 0) zero_in h.shifts_in, (zero_in, tt)));
+      shifts_in = All-from_recursion under_limit (at a.shift 0 ∷ at a.shift 1 ∷ pos 0 ∷ []) (all_at under_limit a.shift 0 (pos 0) zero_in h.shifts_in, (all_at under_limit a.shift 1 (pos 0) zero_in h.shifts_in, (zero_in, tt)));
     }
 
 pub arcs_lifted : (arcs : List OldArc) → AreOldArcs arcs → AreArcs (map lifted_arc arcs)

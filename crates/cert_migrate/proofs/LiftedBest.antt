@@ -44,10 +44,10 @@ best_lifted : (old : OldSession) (s : Session) (z m : List ℤ) → IsLiftedSess
 best_lifted old s z m i best = record {
   entries = best.entries ∙ integers_are old s i;
   best = λ observed held w entries other b.
-      let ss = counted_are s i.scale in
+      let counted_signals_are = counted_are s i.scale in
       let new : sum_of_squares s.arcs (fine_signals s.signals) s.pairs z (moved m) (scaled observed) <ʳ sum_of_squares s.arcs (fine_signals s.signals) s.pairs w (scaled_baseline b) (scaled observed) =
-      subst (λ (ss : List ℕ). sum_of_squares s.arcs ss s.pairs z (moved m) (scaled observed) <ʳ sum_of_squares s.arcs ss s.pairs w (scaled_baseline b) (scaled observed)) ss
-      (best.best (scaled observed) (subst (λ (ss : List ℕ). AreData ss s.pairs (scaled observed)) (sym ss) (data_scaled old s i observed held)) w (entries ∙ sym (integers_are old s i)) other
+      subst (λ (counted_signals_are : List ℕ). sum_of_squares s.arcs counted_signals_are s.pairs z (moved m) (scaled observed) <ʳ sum_of_squares s.arcs counted_signals_are s.pairs w (scaled_baseline b) (scaled observed)) counted_signals_are
+      (best.best (scaled observed) (subst (λ (counted_signals_are : List ℕ). AreData counted_signals_are s.pairs (scaled observed)) (sym counted_signals_are) (data_scaled old s i observed held)) w (entries ∙ sym (integers_are old s i)) other
       (scaled_baseline b)) in
       less_back (mul_r unit_ratio unit_ratio) (old_sum old.arcs old.pairs z (in_old_unit m) observed) (old_sum old.arcs old.pairs w b observed)
       (sum_of_squares s.arcs (fine_signals s.signals) s.pairs z (moved m) (scaled observed)) (sum_of_squares s.arcs (fine_signals s.signals) s.pairs w (scaled_baseline b) (scaled observed))
@@ -77,17 +77,17 @@ ratio_lifted : (old : OldSession) (s : Session) (ratio : ℕ) (z m : List ℤ) �
 ratio_lifted old s ratio z m i best = record {
   entries = best.entries ∙ integers_are old s i;
   best = λ observed held w entries other b.
-      let f : Rational = mul_r unit_ratio unit_ratio in
-      let ss = counted_are s i.scale in
+      let factor : Rational = mul_r unit_ratio unit_ratio in
+      let counted_signals_are = counted_are s i.scale in
       let ours : Rational = sum_of_squares s.arcs (fine_signals s.signals) s.pairs z (moved m) (scaled observed) in
       let theirs : Rational = sum_of_squares s.arcs (fine_signals s.signals) s.pairs w (scaled_baseline b) (scaled observed) in
       let new : times ratio ours <ʳ times 1000 theirs =
-      subst (λ (ss : List ℕ). times ratio (sum_of_squares s.arcs ss s.pairs z (moved m) (scaled observed)) <ʳ times 1000 (sum_of_squares s.arcs ss s.pairs w (scaled_baseline b) (scaled observed))) ss
-      (best.best (scaled observed) (subst (λ (ss : List ℕ). AreData ss s.pairs (scaled observed)) (sym ss) (data_scaled old s i observed held)) w (entries ∙ sym (integers_are old s i)) other
+      subst (λ (counted_signals_are : List ℕ). times ratio (sum_of_squares s.arcs counted_signals_are s.pairs z (moved m) (scaled observed)) <ʳ times 1000 (sum_of_squares s.arcs counted_signals_are s.pairs w (scaled_baseline b) (scaled observed))) counted_signals_are
+      (best.best (scaled observed) (subst (λ (counted_signals_are : List ℕ). AreData counted_signals_are s.pairs (scaled observed)) (sym counted_signals_are) (data_scaled old s i observed held)) w (entries ∙ sym (integers_are old s i)) other
       (scaled_baseline b)) in
-      less_back f (times ratio (old_sum old.arcs old.pairs z (in_old_unit m) observed)) (times 1000 (old_sum old.arcs old.pairs w b observed)) (times ratio ours) (times 1000 theirs) (pos_nn 529)
-      (times_scaled ratio f (old_sum old.arcs old.pairs z (in_old_unit m) observed) ours (sum_lifted old s z (in_old_unit m) (moved m) observed i (move_scaled m)))
-      (times_scaled 1000 f (old_sum old.arcs old.pairs w b observed) theirs (sum_lifted old s w b (scaled_baseline b) observed i (baseline_scaled b))) new;
+      less_back factor (times ratio (old_sum old.arcs old.pairs z (in_old_unit m) observed)) (times 1000 (old_sum old.arcs old.pairs w b observed)) (times ratio ours) (times 1000 theirs) (pos_nn 529)
+      (times_scaled ratio factor (old_sum old.arcs old.pairs z (in_old_unit m) observed) ours (sum_lifted old s z (in_old_unit m) (moved m) observed i (move_scaled m)))
+      (times_scaled 1000 factor (old_sum old.arcs old.pairs w b observed) theirs (sum_lifted old s w b (scaled_baseline b) observed i (baseline_scaled b))) new;
 }
 
 pub ratio_where_fixed : (old : OldSession) (s : Session) (ratio : ℕ) (t : Tail) → IsLiftedSession old s → IsBestByRatioWhereFixed ratio s t → IsOldBestByRatioWhereFixed ratio old t

@@ -25,13 +25,13 @@ same_near c c' r r' k q e f h = subst (λ (x : List ℤ). Near (at x k) (at r' k
 
 row_in_boxes : (o : OldRow) (r : Row) (q : OldObserved) → IsLiftedRow o r → IsInOldBoxes o q → IsInBoxes old_signals r (scaled_row q)
 row_in_boxes o r q i h =
-    let N : List ℤ → ℤ → Type 0 = λ ys ry. All (λ (s : ℕ). Near (at ys s) ry (mul_r unit_ratio (q.y s))) old_signals in
-    let P : ℕ → Type 0 = λ s. Near (at (lifted_ys o.y) s) (lifted_radius o.ry) (mul_r unit_ratio (q.y s)) in
+    let near_in_old : List ℤ → ℤ → Type 0 = λ ys ry. All (λ (s : ℕ). Near (at ys s) ry (mul_r unit_ratio (q.y s))) old_signals in
+    let near_in_new : ℕ → Type 0 = λ s. Near (at (lifted_ys o.y) s) (lifted_radius o.ry) (mul_r unit_ratio (q.y s)) in
     let each : (s : ℕ) → Near (at o.y s) o.ry (q.y s) → Near (lifted_y (at o.y s)) (lifted_radius o.ry) (mul_r unit_ratio (q.y s)) = λ s. near_lifted (at o.y s) o.ry (q.y s) in
-    let four : N (lifted_ys o.y) (lifted_radius o.ry) =
-    All-from_recursion P old_signals (each 0 (h.y 0 0 (omega arith)), (each 1 (h.y 1 0 (omega arith)), (each 2 (h.y 2 0 (omega arith)), (each 3 (h.y 3 0 (omega arith)), tt)))) in
+    let four : near_in_old (lifted_ys o.y) (lifted_radius o.ry) =
+    All-from_recursion near_in_new old_signals (each 0 (h.y 0 0 (omega arith)), (each 1 (h.y 1 0 (omega arith)), (each 2 (h.y 2 0 (omega arith)), (each 3 (h.y 3 0 (omega arith)), tt)))) in
     record {
-      y = subst (λ (ry : ℤ). N r.y ry) (sym i.ry) (subst (λ (ys : List ℤ). N ys (lifted_radius o.ry)) (sym i.y) four);
+      y = subst (λ (ry : ℤ). near_in_old r.y ry) (sym i.ry) (subst (λ (ys : List ℤ). near_in_old ys (lifted_radius o.ry)) (sym i.y) four);
       u1 = same_near o.u r.u o.ru r.ru 0 q.u1 i.u i.ru h.u1;
       u2 = same_near o.u r.u o.ru r.ru 1 q.u2 i.u i.ru h.u2;
       u3 = same_near o.u r.u o.ru r.ru 2 q.u3 i.u i.ru h.u3;

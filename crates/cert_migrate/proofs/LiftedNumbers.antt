@@ -17,9 +17,9 @@ pub near_lifted : (y ry : ℤ) (q : Rational) → Near y ry q → Near (lifted_y
 near_lifted y ry q h =
     let p : ℤ = nearest_div (pos 23 *ℤ y) 32 in
     let c : ℤ = ceil_div (pos 23 *ℤ ry) 32 in
-    let i : IsNearest (pos 23 *ℤ y) 32 p = nearest_is (pos 23 *ℤ y) 32 (lit< tt) in
-    let j : IsCeil (pos 23 *ℤ ry) 32 c = ceil_is (pos 23 *ℤ ry) 32 (lit< tt) in
-    (low (p -ℤ (c +ℤ pos 1)) (y -ℤ ry) q.num (pos q.den) (pos_nn q.den) (tall p c i.0 j.0) h.0, high (p +ℤ (c +ℤ pos 1)) (y +ℤ ry) q.num (pos q.den) (pos_nn q.den) (wide p c i.1 j.0) h.1)
+    let is_nearest : IsNearest (pos 23 *ℤ y) 32 p = nearest_is (pos 23 *ℤ y) 32 (lit< tt) in
+    let is_ceil : IsCeil (pos 23 *ℤ ry) 32 c = ceil_is (pos 23 *ℤ ry) 32 (lit< tt) in
+    (low (p -ℤ (c +ℤ pos 1)) (y -ℤ ry) q.num (pos q.den) (pos_nn q.den) (tall p c is_nearest.0 is_ceil.0) h.0, high (p +ℤ (c +ℤ pos 1)) (y +ℤ ry) q.num (pos q.den) (pos_nn q.den) (wide p c is_nearest.1 is_ceil.0) h.1)
   where
     tall : (p c : ℤ) → (pos 2 *ℤ (p *ℤ pos 32)) ≤ℤ ((pos 2 *ℤ (pos 23 *ℤ y)) +ℤ pos 32) → (pos 23 *ℤ ry) ≤ℤ (c *ℤ pos 32) → (pos 32 *ℤ (p -ℤ (c +ℤ pos 1))) ≤ℤ (pos 23 *ℤ (y -ℤ ry))
     tall p c a b = omega (arith, ints)
@@ -53,9 +53,9 @@ word_within x h = subst (IsWithin (2 ^ 34)) (sym (word x h)) h
 pub six_within : (a b c d : ℤ) → IsWithin (2 ^ 34) a → IsWithin (2 ^ 34) b → IsWithin (2 ^ 34) c → IsWithin (2 ^ 34) d
     → All (IsWithin (2 ^ 34)) (to_z w64 (of_z w64 a) ∷ to_z w64 (of_z w64 b) ∷ to_z w64 (of_z w64 c) ∷ to_z w64 (of_z w64 d) ∷ pos 0 ∷ pos 0 ∷ [])
 six_within a b c d ha hb hc hd =
-    let P : ℤ → Type 0 = IsWithin (2 ^ 34) in
-    let none : P (pos 0) = omega arith in
-    All-from_recursion P (to_z w64 (of_z w64 a) ∷ to_z w64 (of_z w64 b) ∷ to_z w64 (of_z w64 c) ∷ to_z w64 (of_z w64 d) ∷ pos 0 ∷ pos 0 ∷ [])
+    let in_limit : ℤ → Type 0 = IsWithin (2 ^ 34) in
+    let none : in_limit (pos 0) = omega arith in
+    All-from_recursion in_limit (to_z w64 (of_z w64 a) ∷ to_z w64 (of_z w64 b) ∷ to_z w64 (of_z w64 c) ∷ to_z w64 (of_z w64 d) ∷ pos 0 ∷ pos 0 ∷ [])
     (word_within a ha, (word_within b hb, (word_within c hc, (word_within d hd, (none, (none, tt))))))
 
 pub radius_kept : (x : ℤ) → IsRadius x → IsRadius (to_z w64 (of_z w64 x))

@@ -47,8 +47,8 @@ row_of_pair arcs n o r i h =
     λ a e. lifted_from (slice_get arcs o.arc) a (sym (slice_get-map lifted_arc arcs o.arc) ∙ ap (λ (k : ℕ). slice_get (map lifted_arc arcs) k) (sym i.arc) ∙ e) in
     record {
       arc_in = subst (λ (k : ℕ). k < length (map lifted_arc arcs)) (sym i.arc) (subst (λ (m : ℕ). o.arc < m) (sym (length-map arcs lifted_arc)) h.arc_in);
-      from_first = λ a e. let b = from a e in subst (λ (x : Arc). x.first ≤ n) b.1.1 (h.from_first b.0 b.1.0);
-      to_last = λ a e. let b = from a e in subst (λ (x : Arc). n ≤ x.last) b.1.1 (h.to_last b.0 b.1.0);
+      from_first = λ a e. let first_carried = from a e in subst (λ (x : Arc). x.first ≤ n) first_carried.1.1 (h.from_first first_carried.0 first_carried.1.0);
+      to_last = λ a e. let last_carried = from a e in subst (λ (x : Arc). n ≤ x.last) last_carried.1.1 (h.to_last last_carried.0 last_carried.1.0);
     }
 
 pair_has_arcs : (arcs : List OldArc) (o : OldPair) (p : PairRows) → IsLikePair o p → HasOldArcs arcs o → HasItsArcs (map lifted_arc arcs) p

@@ -38,11 +38,11 @@ cycles_scaled c o n e =
 row_scaled : (arcs : List OldArc) (z : List ℤ) (b c : Baseline) (s : ℕ) (o : OldRow) (r : Row) (q : OldObserved) → IsSameSignal arcs z s → AreScaledBaselines unit_ratio b c → IsLiftedRow o r
     → residual (map lifted_arc arcs) old_signals z c s r (scaled_row q) ≈ mul_r unit_ratio (old_residual arcs z b s o q)
 row_scaled arcs z b c s o r q same h i =
-    let n : ℤ = old_integer arcs z o.arc s in
-    let there : integer (map lifted_arc arcs) old_signals z r.arc s ≡ n = ap (λ (k : ℕ). integer (map lifted_arc arcs) old_signals z k s) i.arc ∙ same.integer_is o.arc in
-    let cycles : of_whole (cycle s *ℤ integer (map lifted_arc arcs) old_signals z r.arc s) ≈ mul_r unit_ratio (of_whole (old_cycle s *ℤ n)) =
-    subst (λ (m : ℤ). of_whole (cycle s *ℤ m) ≈ mul_r unit_ratio (of_whole (old_cycle s *ℤ n))) (sym there) (cycles_scaled (cycle s) (old_cycle s) n same.cycle_is) in
-    residual_scaled unit_ratio b c (q.y s) q.u1 q.u2 q.u3 (old_cycle s *ℤ n) (cycle s *ℤ integer (map lifted_arc arcs) old_signals z r.arc s) h cycles
+    let old_number : ℤ = old_integer arcs z o.arc s in
+    let there : integer (map lifted_arc arcs) old_signals z r.arc s ≡ old_number = ap (λ (k : ℕ). integer (map lifted_arc arcs) old_signals z k s) i.arc ∙ same.integer_is o.arc in
+    let cycles : of_whole (cycle s *ℤ integer (map lifted_arc arcs) old_signals z r.arc s) ≈ mul_r unit_ratio (of_whole (old_cycle s *ℤ old_number)) =
+    subst (λ (m : ℤ). of_whole (cycle s *ℤ m) ≈ mul_r unit_ratio (of_whole (old_cycle s *ℤ old_number))) (sym there) (cycles_scaled (cycle s) (old_cycle s) old_number same.cycle_is) in
+    residual_scaled unit_ratio b c (q.y s) q.u1 q.u2 q.u3 (old_cycle s *ℤ old_number) (cycle s *ℤ integer (map lifted_arc arcs) old_signals z r.arc s) h cycles
 
 rows_scaled : (arcs : List OldArc) (z : List ℤ) (b c : Baseline) (s : ℕ) (os : List OldRow) (rs : List Row) (qs : List OldObserved) → IsSameSignal arcs z s → AreScaledBaselines unit_ratio b c
     → AllZip IsLiftedRow os rs → AreScaled unit_ratio (old_residuals arcs z b s os qs) (residuals (map lifted_arc arcs) old_signals z c s rs (map scaled_row qs))
@@ -73,17 +73,17 @@ terms_scaled arcs z b c [] (p ∷ ps) observed h i = absurd i
 terms_scaled arcs z b c (o ∷ os) [] observed h i = absurd i
 terms_scaled arcs z b c (o ∷ os) (p ∷ ps) [] h i = tt
 terms_scaled arcs z b c (o ∷ os) (p ∷ ps) (qs ∷ rest) h i =
-    let s0 : IsSameSignal arcs z 0 = record { cycle_is = refl; weight_is = refl; integer_is = first_integer arcs z } in
-    let s1 : IsSameSignal arcs z 1 = record { cycle_is = refl; weight_is = refl; integer_is = second_integer arcs z } in
-    let s2 : IsSameSignal arcs z 2 = record { cycle_is = refl; weight_is = refl; integer_is = first_code arcs z } in
-    let s3 : IsSameSignal arcs z 3 = record { cycle_is = refl; weight_is = refl; integer_is = second_code arcs z } in (
-      signal_scaled arcs z b c o p qs 0 s0 h i.0,
+    let first_phase_same : IsSameSignal arcs z 0 = record { cycle_is = refl; weight_is = refl; integer_is = first_integer arcs z } in
+    let second_phase_same : IsSameSignal arcs z 1 = record { cycle_is = refl; weight_is = refl; integer_is = second_integer arcs z } in
+    let first_code_same : IsSameSignal arcs z 2 = record { cycle_is = refl; weight_is = refl; integer_is = first_code arcs z } in
+    let second_code_same : IsSameSignal arcs z 3 = record { cycle_is = refl; weight_is = refl; integer_is = second_code arcs z } in (
+      signal_scaled arcs z b c o p qs 0 first_phase_same h i.0,
       (
-        signal_scaled arcs z b c o p qs 1 s1 h i.0,
+        signal_scaled arcs z b c o p qs 1 second_phase_same h i.0,
         (
-          signal_scaled arcs z b c o p qs 2 s2 h i.0,
+          signal_scaled arcs z b c o p qs 2 first_code_same h i.0,
           (
-            signal_scaled arcs z b c o p qs 3 s3 h i.0,
+            signal_scaled arcs z b c o p qs 3 second_code_same h i.0,
             terms_scaled arcs z b c os ps rest h i.1,
           ),
         ),

@@ -55,14 +55,14 @@ record IsOldSat (a : Arc) : Type 0 where
 
 arc_moved : (a : Arc) → IsOldSat a → IsOldArcInRange (old_arc a)
 arc_moved a h =
-    let P : ℤ → Type 0 = IsBelow (2 ^ 40) in
-    let none : P (pos 0) = omega arith in
+    let under_limit : ℤ → Type 0 = IsBelow (2 ^ 40) in
+    let none : under_limit (pos 0) = omega arith in
     record {
       sat_from = h.in_range.sat_from;
       sat_to = h.sat_to;
       order = h.in_range.order;
       last_in = h.in_range.last_in;
-      shifts_in = All-from_recursion P (at a.shift 0 ∷ at a.shift 1 ∷ []) (all_at P a.shift 0 (pos 0) none h.in_range.shifts_in, (all_at P a.shift 1 (pos 0) none h.in_range.shifts_in, tt));
+      shifts_in = All-from_recursion under_limit (at a.shift 0 ∷ at a.shift 1 ∷ []) (all_at under_limit a.shift 0 (pos 0) none h.in_range.shifts_in, (all_at under_limit a.shift 1 (pos 0) none h.in_range.shifts_in, tt));
     }
 
 pub arcs_moved : (arcs : List Arc) → AreArcs arcs → All (λ a. a.sat ≤ 32) arcs → AreOldArcs (map old_arc arcs)
@@ -89,8 +89,8 @@ row_of_pair arcs n r o i h =
     λ a e. moved_from (slice_get arcs r.arc) a (sym (slice_get-map old_arc arcs r.arc) ∙ ap (λ (k : ℕ). slice_get (map old_arc arcs) k) (sym i.arc) ∙ e) in
     record {
       arc_in = subst (λ (k : ℕ). k < length (map old_arc arcs)) (sym i.arc) (subst (λ (m : ℕ). r.arc < m) (sym (length-map arcs old_arc)) h.arc_in);
-      from_first = λ a e. let b = from a e in subst (λ (x : OldArc). x.first ≤ n) b.1.1 (h.from_first b.0 b.1.0);
-      to_last = λ a e. let b = from a e in subst (λ (x : OldArc). n ≤ x.last) b.1.1 (h.to_last b.0 b.1.0);
+      from_first = λ a e. let first_carried = from a e in subst (λ (x : OldArc). x.first ≤ n) first_carried.1.1 (h.from_first first_carried.0 first_carried.1.0);
+      to_last = λ a e. let last_carried = from a e in subst (λ (x : OldArc). n ≤ x.last) last_carried.1.1 (h.to_last last_carried.0 last_carried.1.0);
     }
 
 pair_has_arcs : (arcs : List Arc) (p : PairRows) (o : OldPair) → IsPairOf p o → HasItsArcs arcs p → HasOldArcs (map old_arc arcs) o

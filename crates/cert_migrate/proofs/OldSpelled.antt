@@ -93,16 +93,16 @@ lines_by ratio budget base point l1 l2 arcs arc_lines pairs pair_lines tail =
 
 lines_same : (c : Cert) (o : OldCert) → IsCarrierOf c o → c.session.signals.l5 ≡ 0 → HasFewEntries c.tail → old_lines o ≡ lines_of_cert One c
 lines_same c o h l5 few =
-    let s : Session = c.session in
-    let ss = sym (signals_are s.signals l5) in
-    let k = h.session in
-    let arc_count : length o.session.arcs ≡ length s.arcs = ap length k.arcs ∙ length-map s.arcs old_arc in
-    let arcs : map old_arc_line o.session.arcs ≡ arc_lines (fine_signals s.signals) s.arcs = ap (map old_arc_line) k.arcs ∙ arcs_spelled s.arcs ∙ ap (λ (l : List ℕ). arc_lines l s.arcs) ss in
-    let pair_count : length o.session.pairs ≡ length s.pairs = AllZip-long IsPairOf s.pairs o.session.pairs k.pairs in
-    let pairs : flat_map old_pair_lines o.session.pairs ≡ all_pair_lines (fine_signals s.signals) s.pairs = pairs_spelled s.pairs o.session.pairs k.pairs ∙ ap
-    (λ (l : List ℕ). all_pair_lines l s.pairs) ss in
+    let session : Session = c.session in
+    let same_signals = sym (signals_are session.signals l5) in
+    let session_carried = h.session in
+    let arc_count : length o.session.arcs ≡ length session.arcs = ap length session_carried.arcs ∙ length-map session.arcs old_arc in
+    let arcs : map old_arc_line o.session.arcs ≡ arc_lines (fine_signals session.signals) session.arcs = ap (map old_arc_line) session_carried.arcs ∙ arcs_spelled session.arcs ∙ ap (λ (l : List ℕ). arc_lines l session.arcs) same_signals in
+    let pair_count : length o.session.pairs ≡ length session.pairs = AllZip-long IsPairOf session.pairs o.session.pairs session_carried.pairs in
+    let pairs : flat_map old_pair_lines o.session.pairs ≡ all_pair_lines (fine_signals session.signals) session.pairs = pairs_spelled session.pairs o.session.pairs session_carried.pairs ∙ ap
+    (λ (l : List ℕ). all_pair_lines l session.pairs) same_signals in
     let tail = tail_spelled c.tail o.tail h.tail few in
-    λ i. lines_by (h.ratio i) (h.budget i) (k.base i) (k.point i) (k.l1 i) (k.l2 i) (arc_count i) (arcs i) (pair_count i) (pairs i) (tail i)
+    λ i. lines_by (h.ratio i) (h.budget i) (session_carried.base i) (session_carried.point i) (session_carried.l1 i) (session_carried.l2 i) (arc_count i) (arcs i) (pair_count i) (pairs i) (tail i)
 
 pub spelled_same : (c : Cert) (o : OldCert) → IsCarrierOf c o → c.session.signals.l5 ≡ 0 → HasFewEntries c.tail → old_spelling o ≡ spelling_as One c
 unfolding old_spelling spelling_as

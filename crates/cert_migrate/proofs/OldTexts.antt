@@ -107,22 +107,22 @@ old_end (now.Spent budget) few = (Spent budget, refl)
 
 old_session : (c : Cert) → IsOfVersion One c → (o : OldSession) × IsSessionOf c.session o
 old_session c v =
-    let s = c.session in
-    let pairs = old_pairs s.pairs v.groups in
-    let zip = pairs_zip s.pairs v.groups in (
+    let session = c.session in
+    let pairs = old_pairs session.pairs v.groups in
+    let zip = pairs_zip session.pairs v.groups in (
       record {
         scale = 0;
-        base = s.base;
-        point = s.point;
-        signals = record { l1 = s.signals.l1; l2 = s.signals.l2; on_l1 = s.signals.on_l1; on_l2 = second_letter s.signals.l2 s.signals.l5 (v.bands refl) s.signals.on_l2 s.signals.two_bands };
-        arcs = map old_arc s.arcs;
+        base = session.base;
+        point = session.point;
+        signals = record { l1 = session.signals.l1; l2 = session.signals.l2; on_l1 = session.signals.on_l1; on_l2 = second_letter session.signals.l2 session.signals.l5 (v.bands refl) session.signals.on_l2 session.signals.two_bands };
+        arcs = map old_arc session.arcs;
         pairs = pairs;
         fine = refl;
-        base_in = s.base_in;
-        point_in = s.point_in;
-        arcs_in = arcs_moved s.arcs s.arcs_in v.sats;
-        some_pairs = subst (λ (n : ℕ). 1 ≤ n) (sym (AllZip-long IsPairOf s.pairs pairs zip)) s.some_pairs;
-        pairs_in = pairs_moved s.arcs s.pairs pairs zip s.pairs_in;
+        base_in = session.base_in;
+        point_in = session.point_in;
+        arcs_in = arcs_moved session.arcs session.arcs_in v.sats;
+        some_pairs = subst (λ (n : ℕ). 1 ≤ n) (sym (AllZip-long IsPairOf session.pairs pairs zip)) session.some_pairs;
+        pairs_in = pairs_moved session.arcs session.pairs pairs zip session.pairs_in;
       },
       record { base = refl; point = refl; l1 = refl; l2 = refl; arcs = refl; pairs = zip },
     )

@@ -44,26 +44,26 @@ pub bests_same : (ss : List ℕ) (arcs : List Arc) (h h' : ℕ) (best best' : Tw
     → vector_line (codes "z2") (take best.size best.second) ≡ vector_line (codes "z2") (take best'.size best'.second)
     → values_line h best.p1 best.p2 top ≡ values_line h' best'.p1 best'.p2 top' → (h ≡ h') × (best ≡ best') × (top ≡ top')
 bests_same ss arcs h h' best best' top top' va vb w1 w2 w1' w2' line1 line2 line3 =
-    let n = best.size in
+    let best_size = best.size in
     let size : best.size ≡ best'.size = va.size ∙ sym vb.size in
-    let long : length (take best.size best.first) ≡ n = length-take-le best.size best.first (omega (arith, best.size_to, w1)) in
-    let long' : length (take best'.size best'.first) ≡ n = length-take-le best'.size best'.first (omega (arith, best'.size_to, w1')) ∙ sym size in
-    let long2 : length (take best.size best.second) ≡ n = length-take-le best.size best.second (omega (arith, best.size_to, w2)) in
-    let long2' : length (take best'.size best'.second) ≡ n = length-take-le best'.size best'.second (omega (arith, best'.size_to, w2')) ∙ sym size in
-    let z1 = numbers_same (codes "z1") n (take best.size best.first) (take best'.size best'.first) long long' (entries_small best.size best.first va.first_in)
+    let long : length (take best.size best.first) ≡ best_size = length-take-le best.size best.first (omega (arith, best.size_to, w1)) in
+    let long' : length (take best'.size best'.first) ≡ best_size = length-take-le best'.size best'.first (omega (arith, best'.size_to, w1')) ∙ sym size in
+    let long2 : length (take best.size best.second) ≡ best_size = length-take-le best.size best.second (omega (arith, best.size_to, w2)) in
+    let long2' : length (take best'.size best'.second) ≡ best_size = length-take-le best'.size best'.second (omega (arith, best'.size_to, w2')) ∙ sym size in
+    let first_same = numbers_same (codes "z1") best_size (take best.size best.first) (take best'.size best'.first) long long' (entries_small best.size best.first va.first_in)
     (entries_small best'.size best'.first vb.first_in) line1 in
-    let z2 = numbers_same (codes "z2") n (take best.size best.second) (take best'.size best'.second) long2 long2' (entries_small best.size best.second va.second_in)
+    let second_same = numbers_same (codes "z2") best_size (take best.size best.second) (take best'.size best'.second) long2 long2' (entries_small best.size best.second va.second_in)
     (entries_small best'.size best'.second vb.second_in) line2 in
     let values = numbers_same (codes "values") 4 (pos h ∷ best.p1 ∷ best.p2 ∷ top ∷ []) (pos h' ∷ best'.p1 ∷ best'.p2 ∷ top' ∷ []) refl refl
     (values_small h best.p1 best.p2 top va.h_to va.p1_in va.p2_in va.top_in) (values_small h' best'.p1 best'.p2 top' vb.h_to vb.p1_in vb.p2_in vb.top_in) line3 in
-    let v1 = cons_same _ _ _ _ values in
-    let v2 = cons_same _ _ _ _ v1.1 in
-    let v3 = cons_same _ _ _ _ v2.1 in
-    let v4 = cons_same _ _ _ _ v3.1 in
-    let hz : pos h ≡ pos h' = v1.0 in
-    let first = array_same n best.first best'.first (w1 ∙ sym w1') (z1 ∙ ap (λ (k : ℕ). take k best'.first) (sym size)) best.first_rest
+    let exponents_same = cons_same _ _ _ _ values in
+    let first_values_same = cons_same _ _ _ _ exponents_same.1 in
+    let second_values_same = cons_same _ _ _ _ first_values_same.1 in
+    let tops_same = cons_same _ _ _ _ second_values_same.1 in
+    let same_exponent : pos h ≡ pos h' = exponents_same.0 in
+    let first = array_same best_size best.first best'.first (w1 ∙ sym w1') (first_same ∙ ap (λ (k : ℕ). take k best'.first) (sym size)) best.first_rest
     (subst (λ (k : ℕ). IsZeroFrom k best'.first) (sym size) best'.first_rest) in
-    let second = array_same n best.second best'.second (w2 ∙ sym w2') (z2 ∙ ap (λ (k : ℕ). take k best'.second) (sym size)) best.second_rest
+    let second = array_same best_size best.second best'.second (w2 ∙ sym w2') (second_same ∙ ap (λ (k : ℕ). take k best'.second) (sym size)) best.second_rest
     (subst (λ (k : ℕ). IsZeroFrom k best'.second) (sym size) best'.second_rest) in
     let h_same : h ≡ h' = cc in
-    (h_same, best_same best best' first second v2.0 v3.0 size, v4.0)
+    (h_same, best_same best best' first second first_values_same.0 second_values_same.0 size, tops_same.0)

@@ -52,7 +52,7 @@ pairs_accepted f arcs least (p ∷ pairs) rest signals few has whole groups risi
     let wide = All-head IsWholePair p pairs whole in
     let group = All-head (HasGroupOf f.version) p pairs groups in
     let fewer : suc (length pairs) - 1 ≡ length pairs = omega arith in
-    let zs : List ℤ = pos p.number ∷ pos p.tag.0 ∷ p.group ∷ pos (length p.rows) ∷ [] in
+    let numbers : List ℤ = pos p.number ∷ pos p.tag.0 ∷ p.group ∷ pos (length p.rows) ∷ [] in
     let line = pair_line p.number p.tag.0 p.group (length p.rows) in
     let others = row_lines f.ss p.rows ++ (all_pair_lines f.ss pairs ++ rest) in
     let reads : admit (NextPair f arcs (suc (length pairs)) least) line ≡ Ok (before_rows f arcs (length pairs) p.number (length p.rows) 0) =
@@ -67,7 +67,7 @@ pairs_accepted f arcs least (p ∷ pairs) rest signals few has whole groups risi
     let split : (pair_lines f.ss p ++ all_pair_lines f.ss pairs) ++ rest ≡ line ∷ others = append_assoc (pair_lines f.ss p) (all_pair_lines f.ss pairs) rest in
     subst (AreAccepted cert_rules (NextPair f arcs (suc (length pairs)) least)) (sym split)
     (step cert_rules (NextPair f arcs (suc (length pairs)) least) (before_rows f arcs (length pairs) p.number (length p.rows) 0) line others
-    (line_length (codes "pair") zs (lit≤ tt) (lit≤ tt) (pair_small p)) reads rows)
+    (line_length (codes "pair") numbers (lit≤ tt) (lit≤ tt) (pair_small p)) reads rows)
 
 -- ---- the head
 
@@ -99,38 +99,38 @@ regrouped Two c = ap (λ (l : List (List ℕ)). head_lines Two c.ratio c.budget 
 
 cert_accepted : (version : Version) (c : Cert) → IsWhole c → IsOfVersion version c → AreAccepted cert_rules (Form version) (lines_of_cert version c)
 cert_accepted version c whole of_version =
-    let s = c.session in
-    let ss = fine_signals s.signals in
+    let session = c.session in
+    let signal_list = fine_signals session.signals in
     let budget = c.budget in
-    let f = frame version budget ss in
-    let few_signals : length ss ≤ SIGNALS = (signals_good s.signals.l2 s.signals.l5).few in
-    let tail = tail_accepted f s.arcs c.tail c.budget_to c.tail_fits of_version.column whole.tail in
-    let pair_lines_rest = all_pair_lines ss s.pairs ++ tail_lines c.tail in
-    let after_arcs = counted_pairs ss s.pairs ++ tail_lines c.tail in
-    let c1 = pairs_accepted f s.arcs 0 s.pairs (tail_lines c.tail) few_signals s.arcs_in.few s.pairs_in.rows_have_arcs whole.session.pairs of_version.groups
-    (rises (λ (p : PairRows). p.number) 0 s.pairs s.pairs_in.rising (λ d some. omega arith)) tail in
-    let c2 : AreAccepted cert_rules (PairCount f s.arcs) after_arcs =
-    step cert_rules (PairCount f s.arcs) (before_pairs f s.arcs (length s.pairs) 0) (count_line (codes "pairs") (length s.pairs)) pair_lines_rest
-    (line_length (codes "pairs") (pos (length s.pairs) ∷ []) (lit≤ tt) (lit≤ tt) (omega (arith, s.pairs_in.few), tt))
-    (ap (λ (r : Result ℕ Flaw). and_then r (λ n. Ok (before_pairs f s.arcs n 0))) (count_spells (codes "pairs") 1 MOST_PAIRS (length s.pairs) s.some_pairs s.pairs_in.few (omega arith))) c1 in
-    let c4 = counted_arcs_accepted cert_rules version s.signals.l2 s.signals.l5 (ArcCount f) (before_arcs f) s.arcs after_arcs (record { admits = λ line. refl; ends = refl }) (arcs_taken f) s.arcs_in
-    of_version.sats s.shifts_used whole.session.arcs c2 in
-    let signals = signals_line version s.signals.l1 s.signals.l2 s.signals.l5 in
-    let c5 : AreAccepted cert_rules (Letters version budget) (signals ∷ (counted_arcs ss s.arcs ++ after_arcs)) =
-    step cert_rules (Letters version budget) (ArcCount f) signals (counted_arcs ss s.arcs ++ after_arcs) (letters_length version s.signals)
-    (ap (λ (r : Result LettersOf Flaw). and_then r (λ l. Ok (ArcCount (frame version budget (signals_of l))))) (letters_spell version s.signals of_version.bands)) c4 in
-    let c6 = step cert_rules (Point version budget) (Letters version budget) (vector_line (codes "point") s.point) _ (point_length (codes "point") s.point (lit≤ tt) whole.session.point s.point_in)
-    (ap (λ (r : Result (List ℤ) Flaw). and_then r (λ p. Ok (Letters version budget))) (point_spells (codes "point") s.point whole.session.point s.point_in)) c5 in
-    let c7 = step cert_rules (Base version budget) (Point version budget) (vector_line (codes "base") s.base) _ (point_length (codes "base") s.base (lit≤ tt) whole.session.base s.base_in)
-    (ap (λ (r : Result (List ℤ) Flaw). and_then r (λ p. Ok (Point version budget))) (point_spells (codes "base") s.base whole.session.base s.base_in)) c6 in
-    let system = system_accepted version budget s.system _ s.system_is c7 in
-    let c8 = step cert_rules (Budget version) (behind_budget version budget) (count_line (codes "budget") budget) _
+    let its_frame = frame version budget signal_list in
+    let few_signals : length signal_list ≤ SIGNALS = (signals_good session.signals.l2 session.signals.l5).few in
+    let tail = tail_accepted its_frame session.arcs c.tail c.budget_to c.tail_fits of_version.column whole.tail in
+    let pair_lines_rest = all_pair_lines signal_list session.pairs ++ tail_lines c.tail in
+    let after_arcs = counted_pairs signal_list session.pairs ++ tail_lines c.tail in
+    let pairs_hold = pairs_accepted its_frame session.arcs 0 session.pairs (tail_lines c.tail) few_signals session.arcs_in.few session.pairs_in.rows_have_arcs whole.session.pairs of_version.groups
+    (rises (λ (p : PairRows). p.number) 0 session.pairs session.pairs_in.rising (λ d some. omega arith)) tail in
+    let pair_count_holds : AreAccepted cert_rules (PairCount its_frame session.arcs) after_arcs =
+    step cert_rules (PairCount its_frame session.arcs) (before_pairs its_frame session.arcs (length session.pairs) 0) (count_line (codes "pairs") (length session.pairs)) pair_lines_rest
+    (line_length (codes "pairs") (pos (length session.pairs) ∷ []) (lit≤ tt) (lit≤ tt) (omega (arith, session.pairs_in.few), tt))
+    (ap (λ (r : Result ℕ Flaw). and_then r (λ n. Ok (before_pairs its_frame session.arcs n 0))) (count_spells (codes "pairs") 1 MOST_PAIRS (length session.pairs) session.some_pairs session.pairs_in.few (omega arith))) pairs_hold in
+    let arcs_hold = counted_arcs_accepted cert_rules version session.signals.l2 session.signals.l5 (ArcCount its_frame) (before_arcs its_frame) session.arcs after_arcs (record { admits = λ line. refl; ends = refl }) (arcs_taken its_frame) session.arcs_in
+    of_version.sats session.shifts_used whole.session.arcs pair_count_holds in
+    let signals = signals_line version session.signals.l1 session.signals.l2 session.signals.l5 in
+    let letters_hold : AreAccepted cert_rules (Letters version budget) (signals ∷ (counted_arcs signal_list session.arcs ++ after_arcs)) =
+    step cert_rules (Letters version budget) (ArcCount its_frame) signals (counted_arcs signal_list session.arcs ++ after_arcs) (letters_length version session.signals)
+    (ap (λ (r : Result LettersOf Flaw). and_then r (λ l. Ok (ArcCount (frame version budget (signals_of l))))) (letters_spell version session.signals of_version.bands)) arcs_hold in
+    let point_holds = step cert_rules (Point version budget) (Letters version budget) (vector_line (codes "point") session.point) _ (point_length (codes "point") session.point (lit≤ tt) whole.session.point session.point_in)
+    (ap (λ (r : Result (List ℤ) Flaw). and_then r (λ p. Ok (Letters version budget))) (point_spells (codes "point") session.point whole.session.point session.point_in)) letters_hold in
+    let base_holds = step cert_rules (Base version budget) (Point version budget) (vector_line (codes "base") session.base) _ (point_length (codes "base") session.base (lit≤ tt) whole.session.base session.base_in)
+    (ap (λ (r : Result (List ℤ) Flaw). and_then r (λ p. Ok (Point version budget))) (point_spells (codes "base") session.base whole.session.base session.base_in)) point_holds in
+    let system = system_accepted version budget session.system _ session.system_is base_holds in
+    let budget_holds = step cert_rules (Budget version) (behind_budget version budget) (count_line (codes "budget") budget) _
     (line_length (codes "budget") (pos budget ∷ []) (lit≤ tt) (lit≤ tt) (omega (arith, c.budget_to), tt))
     (ap (λ (r : Result ℕ Flaw). and_then r (λ n. Ok (behind_budget version n))) (count_spells (codes "budget") 1 MOST_BUDGET budget c.budget_from c.budget_to (omega arith))) system in
-    let c9 = step cert_rules (Ratio version) (Budget version) (count_line (codes "ratio") c.ratio) _ (line_length (codes "ratio") (pos c.ratio ∷ []) (lit≤ tt) (lit≤ tt)
+    let ratio_holds = step cert_rules (Ratio version) (Budget version) (count_line (codes "ratio") c.ratio) _ (line_length (codes "ratio") (pos c.ratio ∷ []) (lit≤ tt) (lit≤ tt)
     (omega (arith, c.ratio_to), tt))
-    (ap (λ (r : Result ℕ Flaw). and_then r (λ n. Ok (Budget version))) (count_spells (codes "ratio") 1000 MOST_RATIO c.ratio c.ratio_from c.ratio_to (omega arith))) c8 in
-    let all = step cert_rules (Form version) (Ratio version) (form_line version) _ (form_length version) (form_read version) c9 in
+    (ap (λ (r : Result ℕ Flaw). and_then r (λ n. Ok (Budget version))) (count_spells (codes "ratio") 1000 MOST_RATIO c.ratio c.ratio_from c.ratio_to (omega arith))) budget_holds in
+    let all = step cert_rules (Form version) (Ratio version) (form_line version) _ (form_length version) (form_read version) ratio_holds in
     subst (AreAccepted cert_rules (Form version)) (sym (regrouped version c)) all
 
 -- the text of a certificate is none that is refused

@@ -110,21 +110,21 @@ regroup {X} a b c d f =
 
 arcs_begun : (version : Version) (h : Head version) (left : ℕ) (arcs : List Arc) → AreBegun version (signals_of_head h) left arcs → IsBegunBy version (arcs_front h left arcs)
 arcs_begun version h left arcs begun =
-    let ss = signals_of_head h in
-    let f = filled version ss left arcs begun in
-    let c = cert_of h (arcs ++ f.more) f.whole in
-    let pairs = counted_pairs ss (pairs_of version ss (arcs ++ f.more) f.whole) in
-    let tail = tail_lines c.tail in
-    let count : length (arcs ++ f.more) ≡ length arcs + left = length-append arcs f.more ∙ ap (λ (n : ℕ). length arcs + n) f.count in
-    let lines : counted_arcs ss (arcs ++ f.more) ≡ (count_line (codes "arcs") (length arcs + left) ∷ arc_lines ss arcs) ++ arc_lines ss f.more =
-    λ i. count_line (codes "arcs") (count i) ∷ arc_lines-append ss arcs f.more i in
+    let head_signals = signals_of_head h in
+    let completed = filled version head_signals left arcs begun in
+    let whole_cert = cert_of h (arcs ++ completed.more) completed.whole in
+    let pairs = counted_pairs head_signals (pairs_of version head_signals (arcs ++ completed.more) completed.whole) in
+    let tail = tail_lines whole_cert.tail in
+    let count : length (arcs ++ completed.more) ≡ length arcs + left = length-append arcs completed.more ∙ ap (λ (n : ℕ). length arcs + n) completed.count in
+    let lines : counted_arcs head_signals (arcs ++ completed.more) ≡ (count_line (codes "arcs") (length arcs + left) ∷ arc_lines head_signals arcs) ++ arc_lines head_signals completed.more =
+    λ i. count_line (codes "arcs") (count i) ∷ arc_lines-append head_signals arcs completed.more i in
     record {
-      cert = c;
-      whole = cert_whole h (arcs ++ f.more) f.whole;
-      of_version = cert_of_version h (arcs ++ f.more) f.whole;
-      more = arc_lines ss f.more ++ (pairs ++ tail);
+      cert = whole_cert;
+      whole = cert_whole h (arcs ++ completed.more) completed.whole;
+      of_version = cert_of_version h (arcs ++ completed.more) completed.whole;
+      more = arc_lines head_signals completed.more ++ (pairs ++ tail);
       split = ap (λ (l : List (List ℕ)). (head_of h ++ (l ++ pairs)) ++ tail) lines
-          ∙ regroup (head_of h) (count_line (codes "arcs") (length arcs + left) ∷ arc_lines ss arcs) (arc_lines ss f.more) pairs tail;
+          ∙ regroup (head_of h) (count_line (codes "arcs") (length arcs + left) ∷ arc_lines head_signals arcs) (arc_lines head_signals completed.more) pairs tail;
     }
 
 -- a head alone
@@ -199,27 +199,27 @@ HeldOf version s front = (version_of s ≡ version) × Held s front
 held_begins : (s : Expected) (front : List (List ℕ)) → Held s front → IsBegunBy (version_of s) front
 held_begins (Form v) front are = subst (IsBegunBy v) (sym are) (fewer_lines v [] (head_of (any_head v)) (whole_head v (any_head v)))
 held_begins (Ratio v) front are =
-    let h = any_head v in
-    subst (IsBegunBy v) (sym are) (fewer_lines v (form_line v ∷ []) (count_line (codes "ratio") h.ratio.value ∷ count_line (codes "budget") h.budget.value ∷ [])
-    (part_of_head v h [] (system_of h ++ base_of h ∷ point_of h ∷ letters_of h ∷ []) refl))
+    let held_head = any_head v in
+    subst (IsBegunBy v) (sym are) (fewer_lines v (form_line v ∷ []) (count_line (codes "ratio") held_head.ratio.value ∷ count_line (codes "budget") held_head.budget.value ∷ [])
+    (part_of_head v held_head [] (system_of held_head ++ base_of held_head ∷ point_of held_head ∷ letters_of held_head ∷ []) refl))
 held_begins (Budget v) front held =
-    let h = held.head in
-    subst (IsBegunBy v) (sym held.are) (fewer_lines v (form_line v ∷ count_line (codes "ratio") h.ratio.value ∷ []) (count_line (codes "budget") h.budget.value ∷ [])
-    (part_of_head v h [] (system_of h ++ base_of h ∷ point_of h ∷ letters_of h ∷ []) refl))
+    let held_head = held.head in
+    subst (IsBegunBy v) (sym held.are) (fewer_lines v (form_line v ∷ count_line (codes "ratio") held_head.ratio.value ∷ []) (count_line (codes "budget") held_head.budget.value ∷ [])
+    (part_of_head v held_head [] (system_of held_head ++ base_of held_head ∷ point_of held_head ∷ letters_of held_head ∷ []) refl))
 held_begins (SystemLine budget) front held =
-    let h = held.head in
-    subst (IsBegunBy Two) (sym held.are) (part_of_head Two h [] (system_of h ++ base_of h ∷ point_of h ∷ letters_of h ∷ []) refl)
+    let held_head = held.head in
+    subst (IsBegunBy Two) (sym held.are) (part_of_head Two held_head [] (system_of held_head ++ base_of held_head ∷ point_of held_head ∷ letters_of held_head ∷ []) refl)
 held_begins (Base v budget) front held =
-    let h = held.head in
-    subst (IsBegunBy v) (sym held.are) (part_of_head v h (system_of h) (base_of h ∷ point_of h ∷ letters_of h ∷ []) refl)
+    let held_head = held.head in
+    subst (IsBegunBy v) (sym held.are) (part_of_head v held_head (system_of held_head) (base_of held_head ∷ point_of held_head ∷ letters_of held_head ∷ []) refl)
 held_begins (Point v budget) front held =
-    let h = held.head in
-    subst (IsBegunBy v) (sym held.are) (part_of_head v h (system_of h ++ base_of h ∷ []) (point_of h ∷ letters_of h ∷ []) (append_assoc (system_of h) (base_of h ∷ []) (point_of h ∷ letters_of h ∷ [])))
+    let held_head = held.head in
+    subst (IsBegunBy v) (sym held.are) (part_of_head v held_head (system_of held_head ++ base_of held_head ∷ []) (point_of held_head ∷ letters_of held_head ∷ []) (append_assoc (system_of held_head) (base_of held_head ∷ []) (point_of held_head ∷ letters_of held_head ∷ [])))
 held_begins (Letters v budget) front held =
-    let h = held.head in
-    subst (IsBegunBy v) (sym held.are) (part_of_head v h (system_of h ++ base_of h ∷ point_of h ∷ []) (letters_of h ∷ []) (append_assoc (system_of h) (base_of h ∷ point_of h ∷ []) (letters_of h ∷ [])))
+    let held_head = held.head in
+    subst (IsBegunBy v) (sym held.are) (part_of_head v held_head (system_of held_head ++ base_of held_head ∷ point_of held_head ∷ []) (letters_of held_head ∷ []) (append_assoc (system_of held_head) (base_of held_head ∷ point_of held_head ∷ []) (letters_of held_head ∷ [])))
 held_begins (ArcCount f) front held = subst (IsBegunBy f.version) (sym held.2) (whole_head f.version held.0)
-held_begins (NextArc f left arcs) front held = let a = held.1 in subst (IsBegunBy f.version) (sym a.are) (arcs_begun f.version a.head left arcs a.begun)
+held_begins (NextArc f left arcs) front held = let first_arc = held.1 in subst (IsBegunBy f.version) (sym first_arc.are) (arcs_begun f.version first_arc.head left arcs first_arc.begun)
 held_begins (PairCount f arcs) front held = subst (IsBegunBy f.version) (sym held.are) (arcs_begun f.version held.head 0 arcs held.begun)
 held_begins (NextPair f arcs left least) front held = absurd held
 held_begins (NextRow f arcs pairs number left least) front held = absurd held
@@ -270,20 +270,20 @@ arcs_next f (suc left) arcs front held = (refl, (omega arith, held))
 arc_step : (f : Frame) (left : ℕ) (arcs : List Arc) (front : List (List ℕ)) (line : List ℕ) (a : Arc) → 1 ≤ left → HeldArcs f left arcs front → arc_in f.version f.ss (free_count arcs) left line ≡ Ok a
     → HeldArcs f (left - 1) (arcs ++ a ∷ []) (front ++ line ∷ [])
 arc_step f left arcs front line a some held is =
-    let h = held.head in
-    let s = h.signals.value in
-    let ss = signals_of_head h in
-    let read = arc_was f.version s.l2 s.l5 (free_count arcs) left line a (ap (λ (l : List ℕ). arc_in f.version l (free_count arcs) left line) (sym held.signals) ∙ is) in
+    let held_head = held.head in
+    let spelled_signals = held_head.signals.value in
+    let head_signals = signals_of_head held_head in
+    let read = arc_was f.version spelled_signals.l2 spelled_signals.l5 (free_count arcs) left line a (ap (λ (l : List ℕ). arc_in f.version l (free_count arcs) left line) (sym held.signals) ∙ is) in
     let sizes = length-append arcs (a ∷ []) in
     let count : length arcs + left ≡ length (arcs ++ a ∷ []) + (left - 1) = omega (arith, sizes, some) in
-    let own : arc_lines ss arcs ++ arc_line ss a ∷ [] ≡ arc_lines ss (arcs ++ a ∷ []) = arcs_took ss arcs a [] ∙ append-nil (arc_lines ss (arcs ++ a ∷ [])) in
+    let own : arc_lines head_signals arcs ++ arc_line head_signals a ∷ [] ≡ arc_lines head_signals (arcs ++ a ∷ []) = arcs_took head_signals arcs a [] ∙ append-nil (arc_lines head_signals (arcs ++ a ∷ [])) in
     record {
-      head = h;
+      head = held_head;
       signals = held.signals;
-      begun = one_more f.version ss left arcs a some held.begun read.of_version read.stands;
-      are = pushed front (arcs_front h left arcs) line (arc_line ss a) held.are read.line_is
-          ∙ append_assoc (head_of h) (count_line (codes "arcs") (length arcs + left) ∷ arc_lines ss arcs) (arc_line ss a ∷ [])
-          ∙ (λ i. head_of h ++ count_line (codes "arcs") (count i) ∷ own i);
+      begun = one_more f.version head_signals left arcs a some held.begun read.of_version read.stands;
+      are = pushed front (arcs_front held_head left arcs) line (arc_line head_signals a) held.are read.line_is
+          ∙ append_assoc (head_of held_head) (count_line (codes "arcs") (length arcs + left) ∷ arc_lines head_signals arcs) (arc_line head_signals a ∷ [])
+          ∙ (λ i. head_of held_head ++ count_line (codes "arcs") (count i) ∷ own i);
     }
 
 -- what stands after the word is read
@@ -303,63 +303,63 @@ next_held (Ratio v) next front line are other e =
 next_held (Budget v) next front line held other e =
     by_line v (front ++ line ∷ []) (count_in (codes "budget") 1 MOST_BUDGET line) (behind_budget v) next e (λ n is.
     let read = count_was (codes "budget") 1 MOST_BUDGET line n (omega arith) is in
-    let h = held.head in
+    let held_head = held.head in
     behind_three v n (front ++ line ∷ []) (record {
-      head = with_budget h (record { value = n; is = (read.from, read.to) });
-      are = pushed front (form_line v ∷ count_line (codes "ratio") h.ratio.value ∷ []) line (count_line (codes "budget") n) held.are read.line_is;
+      head = with_budget held_head (record { value = n; is = (read.from, read.to) });
+      are = pushed front (form_line v ∷ count_line (codes "ratio") held_head.ratio.value ∷ []) line (count_line (codes "budget") n) held.are read.line_is;
     }))
 next_held (SystemLine budget) next front line held other e =
     by_line Two (front ++ line ∷ []) (system_in line) (λ s. Base Two budget) next e (λ s is.
     let read = system_was line s is in
-    let h = held.head in
-    (refl, record { head = with_system h (record { value = s; is = (read.1, λ old. absurd (not_one old)) }); are = pushed front (three_lines h) line (system_line s) held.are read.0 }))
+    let held_head = held.head in
+    (refl, record { head = with_system held_head (record { value = s; is = (read.1, λ old. absurd (not_one old)) }); are = pushed front (three_lines held_head) line (system_line s) held.are read.0 }))
 next_held (Base v budget) next front line held other e =
     by_line v (front ++ line ∷ []) (vector_in (codes "base") 3 COORDINATES line) (λ p. Point v budget) next e (λ p is.
     let read = point_was (codes "base") line p is in
-    let h = held.head in (
+    let held_head = held.head in (
       refl,
       record {
-        head = with_base h (record { value = p; is = (read.point, read.three) });
-        are = pushed front (three_lines h ++ system_of h) line (vector_line (codes "base") p) held.are read.line_is ∙ append_assoc (three_lines h) (system_of h) (vector_line (codes "base") p ∷ []);
+        head = with_base held_head (record { value = p; is = (read.point, read.three) });
+        are = pushed front (three_lines held_head ++ system_of held_head) line (vector_line (codes "base") p) held.are read.line_is ∙ append_assoc (three_lines held_head) (system_of held_head) (vector_line (codes "base") p ∷ []);
       },
     ))
 next_held (Point v budget) next front line held other e =
     by_line v (front ++ line ∷ []) (vector_in (codes "point") 3 COORDINATES line) (λ p. Letters v budget) next e (λ p is.
     let read = point_was (codes "point") line p is in
-    let h = held.head in
+    let held_head = held.head in
     let own = vector_line (codes "point") p in (
       refl,
       record {
-        head = with_point h (record { value = p; is = (read.point, read.three) });
-        are = pushed front (three_lines h ++ (system_of h ++ base_of h ∷ [])) line own held.are read.line_is ∙ append_assoc (three_lines h) (system_of h ++ base_of h ∷ []) (own ∷ [])
-            ∙ ap (λ (l : List (List ℕ)). three_lines h ++ l) (append_assoc (system_of h) (base_of h ∷ []) (own ∷ []));
+        head = with_point held_head (record { value = p; is = (read.point, read.three) });
+        are = pushed front (three_lines held_head ++ (system_of held_head ++ base_of held_head ∷ [])) line own held.are read.line_is ∙ append_assoc (three_lines held_head) (system_of held_head ++ base_of held_head ∷ []) (own ∷ [])
+            ∙ ap (λ (l : List (List ℕ)). three_lines held_head ++ l) (append_assoc (system_of held_head) (base_of held_head ∷ []) (own ∷ []));
       },
     ))
 next_held (Letters v budget) next front line held other e =
     by_line v (front ++ line ∷ []) (signals_in v line) (λ (l : LettersOf). ArcCount (frame v budget (signals_of l))) next e (λ l is.
     let read = signals_were v line l is in
-    let h = held.head in
-    let s = read.signals in
-    let own = signals_line v s.l1 s.l2 s.l5 in (
+    let held_head = held.head in
+    let signals = read.signals in
+    let own = signals_line v signals.l1 signals.l2 signals.l5 in (
       refl,
       (
-        with_signals h (record { value = s; is = read.old }),
+        with_signals held_head (record { value = signals; is = read.old }),
         ap (λ (x : LettersOf). signals_of x) (sym read.same),
-        pushed front (three_lines h ++ (system_of h ++ base_of h ∷ point_of h ∷ [])) line own held.are read.line_is
-            ∙ append_assoc (three_lines h) (system_of h ++ base_of h ∷ point_of h ∷ []) (own ∷ [])
-            ∙ ap (λ (l : List (List ℕ)). three_lines h ++ l) (append_assoc (system_of h) (base_of h ∷ point_of h ∷ []) (own ∷ [])),
+        pushed front (three_lines held_head ++ (system_of held_head ++ base_of held_head ∷ point_of held_head ∷ [])) line own held.are read.line_is
+            ∙ append_assoc (three_lines held_head) (system_of held_head ++ base_of held_head ∷ point_of held_head ∷ []) (own ∷ [])
+            ∙ ap (λ (l : List (List ℕ)). three_lines held_head ++ l) (append_assoc (system_of held_head) (base_of held_head ∷ point_of held_head ∷ []) (own ∷ [])),
       ),
     ))
 next_held (ArcCount f) next front line held other e =
     by_line f.version (front ++ line ∷ []) (count_in (codes "arcs") 2 200 line) (λ n. before_arcs f n []) next e (λ n is.
     let read = count_was (codes "arcs") 2 200 line n (omega arith) is in
-    let h = held.0 in
+    let first_arc = held.0 in
     let none : n ≡ 0 + n = omega arith in
     arcs_next f n [] (front ++ line ∷ []) (record {
-      head = h;
+      head = first_arc;
       signals = held.1;
-      begun = none_begun f.version (signals_of_head h) n read.from read.to;
-      are = pushed front (head_of h) line (count_line (codes "arcs") n) held.2 read.line_is ∙ ap (λ (k : ℕ). head_of h ++ count_line (codes "arcs") k ∷ []) none;
+      begun = none_begun f.version (signals_of_head first_arc) n read.from read.to;
+      are = pushed front (head_of first_arc) line (count_line (codes "arcs") n) held.2 read.line_is ∙ ap (λ (k : ℕ). head_of first_arc ++ count_line (codes "arcs") k ∷ []) none;
     }))
 next_held (NextArc f left arcs) next front line held other e =
     by_line f.version (front ++ line ∷ []) (arc_in f.version f.ss (free_count arcs) left line) (λ (a : Arc). before_arcs f (left - 1) (arcs ++ a ∷ [])) next e (λ a is.

@@ -148,11 +148,11 @@ pub filled : (version : Version) (ss : List ℕ) (left : ℕ) (arcs : List Arc) 
 filled version ss zero arcs begun = record { more = []; count = refl; whole = subst (AreBegun version ss 0) (sym (append-nil arcs)) begun }
 filled version ss (suc left) arcs begun =
     let datum = nat_lt 0 (free_count arcs) in
-    let a = plain_arc datum in
+    let arc = plain_arc datum in
     let fewer : suc left - 1 ≡ left = omega arith in
-    let one = one_more version ss (suc left) arcs a (omega arith) begun (plain_is version ss datum) (plain_stands (free_count arcs) (suc left)) in
-    let later = filled version ss left (arcs ++ a ∷ []) (subst (λ (n : ℕ). AreBegun version ss n (arcs ++ a ∷ [])) fewer one) in
-    record { more = a ∷ later.more; count = ap suc later.count; whole = subst (AreBegun version ss 0) (append_assoc arcs (a ∷ []) later.more) later.whole }
+    let one = one_more version ss (suc left) arcs arc (omega arith) begun (plain_is version ss datum) (plain_stands (free_count arcs) (suc left)) in
+    let later = filled version ss left (arcs ++ arc ∷ []) (subst (λ (n : ℕ). AreBegun version ss n (arcs ++ arc ∷ [])) fewer one) in
+    record { more = arc ∷ later.more; count = ap suc later.count; whole = subst (AreBegun version ss 0) (append_assoc arcs (arc ∷ []) later.more) later.whole }
 
 -- ---- one pair with one row, of the first arc
 
@@ -190,9 +190,9 @@ first_number (a ∷ arcs) = a.first
 pub number_few : (version : Version) (ss : List ℕ) (arcs : List Arc) → All (IsArcOf version ss) arcs → first_number arcs < MOST_PAIRS
 number_few version ss [] each = omega arith
 number_few version ss (a ∷ arcs) each =
-    let is = (All-head (IsArcOf version ss) a arcs each).in_range in
-    let order = is.order in
-    let last = is.last_in in
+    let sat_in_range = (All-head (IsArcOf version ss) a arcs each).in_range in
+    let order = sat_in_range.order in
+    let last = sat_in_range.last_in in
     omega arith
 
 pub row_of_pair : (version : Version) (ss : List ℕ) (arcs : List Arc) → 1 ≤ length arcs → All (IsArcOf version ss) arcs → IsOfPair arcs (first_number arcs) plain_row

@@ -40,9 +40,9 @@ pairs_feed ss arcs (p ∷ pairs) few all =
 
 session_feed : (version : Version) (ratio budget : ℕ) (s : Session) → ratio ≤ MOST_RATIO → budget ≤ MOST_BUDGET → (version ≡ One → s.signals.l5 ≡ 0) → AreLines (session_lines version ratio budget s)
 session_feed version ratio budget s few_ratio few_budget old =
-    let ss = fine_signals s.signals in
-    let pairs : AreLines (counted_pairs ss s.pairs) =
-    (count_feed (codes "pairs") (length s.pairs) refl (omega (arith, s.pairs_in.few)), pairs_feed ss s.arcs s.pairs s.arcs_in.few s.pairs_in.rows_have_arcs) in
+    let signals = fine_signals s.signals in
+    let pairs : AreLines (counted_pairs signals s.pairs) =
+    (count_feed (codes "pairs") (length s.pairs) refl (omega (arith, s.pairs_in.few)), pairs_feed signals s.arcs s.pairs s.arcs_in.few s.pairs_in.rows_have_arcs) in
     let places : List (List ℕ) = vector_line (codes "base") s.base ∷ vector_line (codes "point") s.point ∷ signals_line version s.signals.l1 s.signals.l2 s.signals.l5 ∷ [] in
     let place_lines : AreLines places = (point_feed (codes "base") s.base refl s.base_in, (point_feed (codes "point") s.point refl s.point_in, (signals_feed version s.signals old, tt))) in
     let head : AreLines (head_lines version ratio budget s.system s.base s.point s.signals) = (
@@ -52,16 +52,16 @@ session_feed version ratio budget s few_ratio few_budget old =
         (count_feed (codes "budget") budget refl (omega arith), lines-append (system_lines version s.system) places (system_feed version s.system s.system_is) place_lines),
       ),
     ) in
-    lines-append (head_lines version ratio budget s.system s.base s.point s.signals) (counted_arcs ss s.arcs ++ counted_pairs ss s.pairs) head
-    (lines-append (counted_arcs ss s.arcs) (counted_pairs ss s.pairs) (counted_arcs_feed ss s.arcs s.arcs_in) pairs)
+    lines-append (head_lines version ratio budget s.system s.base s.point s.signals) (counted_arcs signals s.arcs ++ counted_pairs signals s.pairs) head
+    (lines-append (counted_arcs signals s.arcs) (counted_pairs signals s.pairs) (counted_arcs_feed signals s.arcs s.arcs_in) pairs)
 
 vectors_feed : (ss : List ℕ) (arcs : List Arc) (h : ℕ) (moved : List ℤ) (best : TwoBest) (top : ℤ) → AreVectors ss arcs h moved best top → AreLines (vectors_lines h moved best top)
 vectors_feed ss arcs h moved best top are =
-    let v = are.values in
-    let first = entries_feed (codes "z1") best.size best.first refl v.first_in in
-    let second = entries_feed (codes "z2") best.size best.second refl v.second_in in
+    let values_hold = are.values in
+    let first = entries_feed (codes "z1") best.size best.first refl values_hold.first_in in
+    let second = entries_feed (codes "z2") best.size best.second refl values_hold.second_in in
     let move = worded (codes "move") moved refl (moves_small moved are.moved_in) in
-    (first, (second, (move, (values_feed h best.p1 best.p2 top v.h_to v.p1_in v.p2_in v.top_in, tt))))
+    (first, (second, (move, (values_feed h best.p1 best.p2 top values_hold.h_to values_hold.p1_in values_hold.p2_in values_hold.top_in, tt))))
 
 tail_feed : (ss : List ℕ) (arcs : List Arc) (budget : ℕ) (t : Tail) → budget ≤ MOST_BUDGET → IsTailOf ss arcs budget t → AreLines (tail_lines t)
 tail_feed ss arcs budget (Fixed h moved best top) few fits = lines-append (vectors_lines h moved best top) (last_line true ∷ []) (vectors_feed ss arcs h moved best top fits) (refl, tt)

@@ -71,13 +71,13 @@ pub record CountRead (word : List ℕ) (low high : ℕ) (line : List ℕ) (n : �
 pub count_was : (word : List ℕ) (low high : ℕ) (line : List ℕ) (n : ℕ) → high < 2 ^ 64 → count_in word low high line ≡ Ok n → CountRead word low high line n
 count_was word low high line n few e =
     let both = and_then_took (numbers_behind word 1 line) (λ (ns : List Number). natural_within low high (number_at ns 0)) n e in
-    let ns : List Number = both.0 in
-    let passed = natural_passed low high n (number_at ns 0) both.2 in
+    let numbers : List Number = both.0 in
+    let passed = natural_passed low high n (number_at numbers 0) both.2 in
     let to : n ≤ high = passed.to in
-    let are : values ns ≡ pos n ∷ [] = one_value ns (numbers_count word 1 line ns both.1) ∙ ap (λ (z : ℤ). z ∷ []) passed.value in
+    let are : values numbers ≡ pos n ∷ [] = one_value numbers (numbers_count word 1 line numbers both.1) ∙ ap (λ (z : ℤ). z ∷ []) passed.value in
     let small : AreSmall (pos n ∷ []) = (omega arith, tt) in
     record {
-      line_is = line_read word 1 line ns both.1 (subst AreSmall (sym are) small) ∙ ap (λ (zs : List ℤ). word ++ behind_blanks zs) are;
+      line_is = line_read word 1 line numbers both.1 (subst AreSmall (sym are) small) ∙ ap (λ (zs : List ℤ). word ++ behind_blanks zs) are;
       from = passed.from;
       to = to;
     }
@@ -88,11 +88,11 @@ all_in P range each [] inside = All-nil P
 all_in P range each (z ∷ zs) inside = All-cons P z zs (each z inside.0) (all_in P range each zs inside.1)
 
 is_within : (m : ℕ) (z : ℤ) → IsBetween (neg_ℤ (pos m)) (pos m) z → IsWithin m z
-is_within m (pos n) h = let to = h.1 in omega (arith, ints)
+is_within m (pos n) h = let at_most = h.1 in omega (arith, ints)
 is_within m (negsuc n) h = let from = h.0 in omega (arith, ints)
 
 is_below : (m k : ℕ) (z : ℤ) → m ≡ k + 1 → IsBetween (neg_ℤ (pos k)) (pos k) z → IsBelow m z
-is_below m k (pos n) is h = let to = h.1 in omega (arith, ints)
+is_below m k (pos n) is h = let at_most = h.1 in omega (arith, ints)
 is_below m k (negsuc n) is h = let from = h.0 in omega (arith, ints)
 
 pub record PointRead (word line : List ℕ) (p : List ℤ) : Type 0 where
@@ -103,14 +103,14 @@ pub record PointRead (word line : List ℕ) (p : List ℤ) : Type 0 where
 pub point_was : (word line : List ℕ) (p : List ℤ) → vector_in word 3 COORDINATES line ≡ Ok p → PointRead word line p
 point_was word line p e =
     let both = and_then_took (numbers_behind word 3 line) (λ (ns : List Number). all_within COORDINATES ns) p e in
-    let ns : List Number = both.0 in
-    let are : p ≡ values ns = all_passed COORDINATES ns p both.2 in
-    let inside : AreIn COORDINATES p = passed_in COORDINATES ns p both.2 in
+    let numbers : List Number = both.0 in
+    let are : p ≡ values numbers = all_passed COORDINATES numbers p both.2 in
+    let inside : AreIn COORDINATES p = passed_in COORDINATES numbers p both.2 in
     let small : AreSmall p = in_small MOST_COORDINATE COORDINATES p (lit< tt) (record { low = omega (arith, ints); high = omega (arith, ints) }) inside in
     record {
-      line_is = line_read word 3 line ns both.1 (subst AreSmall are small) ∙ ap (λ (zs : List ℤ). word ++ behind_blanks zs) (sym are);
+      line_is = line_read word 3 line numbers both.1 (subst AreSmall are small) ∙ ap (λ (zs : List ℤ). word ++ behind_blanks zs) (sym are);
       point = all_in (IsWithin MOST_COORDINATE) COORDINATES (is_within MOST_COORDINATE) p inside;
-      three = ap length are ∙ values-length ns ∙ numbers_count word 3 line ns both.1;
+      three = ap length are ∙ values-length numbers ∙ numbers_count word 3 line numbers both.1;
     }
 
 -- ---- the system
@@ -297,17 +297,17 @@ sat_most Two = omega arith
 numbers_were : (version : Version) (ss : List ℕ) (datum : Bool) (ns : List Number) (a : Arc) → arc_numbers version (phase_bands ss) datum ns ≡ Ok a → (a.datum ≡ datum) × IsArcOf version ss a
 numbers_were version ss datum ns a e =
     let bands = phase_bands ss in
-    let p = arc_parts version bands datum ns a e in
+    let arc_holds = arc_parts version bands datum ns a e in
     let own = take (length bands) (drop 3 ns) in
-    let sat_to : a.sat ≤ most_sat version = p.sat.to in
-    let last_to : a.last ≤ LAST_PAIR = p.last.to in
-    let put = and_then_took (all_within SHIFTS own) (λ (vs : List ℤ). Ok (spread PHASES bands vs)) a.shift p.shift in
+    let sat_to : a.sat ≤ most_sat version = arc_holds.sat.to in
+    let last_to : a.last ≤ LAST_PAIR = arc_holds.last.to in
+    let put = and_then_took (all_within SHIFTS own) (λ (vs : List ℤ). Ok (spread PHASES bands vs)) a.shift arc_holds.shift in
     let spread_is : spread PHASES bands put.0 ≡ a.shift = cc (put.2) in
     let below : All (IsBelow (2 ^ 40)) put.0 = all_in (IsBelow (2 ^ 40)) SHIFTS (λ z. is_below (2 ^ 40) 1_099_511_627_775 z (omega arith)) put.0 (passed_in SHIFTS own put.0 put.1) in
     let shifts : All (IsBelow (2 ^ 40)) a.shift = subst (All (IsBelow (2 ^ 40))) spread_is (spread_all (IsBelow (2 ^ 40)) PHASES bands put.0 (omega arith) below) in (
-      p.kind,
+      arc_holds.kind,
       record {
-        in_range = record { sat_from = p.sat.from; sat_to = omega (arith, sat_most version, sat_to); order = p.last.from; last_in = omega (arith, last_to); shifts_in = shifts };
+        in_range = record { sat_from = arc_holds.sat.from; sat_to = omega (arith, sat_most version, sat_to); order = arc_holds.last.from; last_in = omega (arith, last_to); shifts_in = shifts };
         sat = sat_to;
         used = subst (IsZeroOff bands) spread_is (spread_off PHASES bands put.0);
         whole = sym (ap length spread_is) ∙ spread_length PHASES bands put.0;

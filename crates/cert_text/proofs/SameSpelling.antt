@@ -43,20 +43,20 @@ pairs_same l2 l5 arcs arcs' [] [] rest rest' few few' h h' w w' u u' l e = (refl
 pairs_same l2 l5 arcs arcs' [] (q ∷ pairs') rest rest' few few' h h' w w' u u' l e = absurd (omega (arith, l))
 pairs_same l2 l5 arcs arcs' (p ∷ pairs) [] rest rest' few few' h h' w w' u u' l e = absurd (omega (arith, l))
 pairs_same l2 l5 arcs arcs' (p ∷ pairs) (q ∷ pairs') rest rest' few few' h h' w w' u u' l e =
-    let ss = used_signals l2 l5 in
-    let lp = pair_line p.number p.tag.0 p.group (length p.rows) in
-    let lq = pair_line q.number q.tag.0 q.group (length q.rows) in
-    let whole : lp ∷ (row_lines ss p.rows ++ (all_pair_lines ss pairs ++ rest)) ≡ lq ∷ (row_lines ss q.rows ++ (all_pair_lines ss pairs' ++ rest')) =
-    sym (append_assoc (pair_lines ss p) (all_pair_lines ss pairs) rest) ∙ e ∙ append_assoc (pair_lines ss q) (all_pair_lines ss pairs') rest' in
-    let lines = cons_same lp lq (row_lines ss p.rows ++ (all_pair_lines ss pairs ++ rest)) (row_lines ss q.rows ++ (all_pair_lines ss pairs' ++ rest')) whole in
+    let signals = used_signals l2 l5 in
+    let left_line = pair_line p.number p.tag.0 p.group (length p.rows) in
+    let right_line = pair_line q.number q.tag.0 q.group (length q.rows) in
+    let whole : left_line ∷ (row_lines signals p.rows ++ (all_pair_lines signals pairs ++ rest)) ≡ right_line ∷ (row_lines signals q.rows ++ (all_pair_lines signals pairs' ++ rest')) =
+    sym (append_assoc (pair_lines signals p) (all_pair_lines signals pairs) rest) ∙ e ∙ append_assoc (pair_lines signals q) (all_pair_lines signals pairs') rest' in
+    let lines = cons_same left_line right_line (row_lines signals p.rows ++ (all_pair_lines signals pairs ++ rest)) (row_lines signals q.rows ++ (all_pair_lines signals pairs' ++ rest')) whole in
     let head = pair_line_same p q lines.0 in
-    let rows = rows_same l2 l5 arcs arcs' p.number q.number p.rows q.rows (all_pair_lines ss pairs ++ rest) (all_pair_lines ss pairs' ++ rest') few few' (All-head (HasItsArcs arcs) p pairs h)
+    let rows = rows_same l2 l5 arcs arcs' p.number q.number p.rows q.rows (all_pair_lines signals pairs ++ rest) (all_pair_lines signals pairs' ++ rest') few few' (All-head (HasItsArcs arcs) p pairs h)
     (All-head (HasItsArcs arcs') q pairs' h')
-    (All-head IsWholePair p pairs w) (All-head IsWholePair q pairs' w') (All-head (HasUsedRows ss) p pairs u) (All-head (HasUsedRows ss) q pairs' u') head.3 lines.1 in
+    (All-head IsWholePair p pairs w) (All-head IsWholePair q pairs' w') (All-head (HasUsedRows signals) p pairs u) (All-head (HasUsedRows signals) q pairs' u') head.3 lines.1 in
     let one = pair_same p q head.0 head.1 head.2 rows.0 in
     let more = pairs_same l2 l5 arcs arcs' pairs pairs' rest rest' few few' (All-tail (HasItsArcs arcs) p pairs h) (All-tail (HasItsArcs arcs') q pairs' h') (All-tail IsWholePair p pairs w)
     (All-tail IsWholePair q pairs' w')
-    (All-tail (HasUsedRows ss) p pairs u) (All-tail (HasUsedRows ss) q pairs' u') (omega (arith, l)) rows.1 in
+    (All-tail (HasUsedRows signals) p pairs u) (All-tail (HasUsedRows signals) q pairs' u') (omega (arith, l)) rows.1 in
     ((λ i. one i ∷ more.0 i), more.1)
 
 -- ---- tails
@@ -79,14 +79,14 @@ vectors_same : (ss : List ℕ) (arcs : List Arc) (h h' : ℕ) (moved moved' : Li
     → AreVectors ss arcs h' moved' best' top' → AreWholeVectors moved best → AreWholeVectors moved' best'
     → vectors_lines h moved best top ++ last ∷ [] ≡ vectors_lines h' moved' best' top' ++ last' ∷ [] → (h ≡ h') × (moved ≡ moved') × (best ≡ best') × (top ≡ top') × (last ≡ last')
 vectors_same ss arcs h h' moved moved' best best' top top' last last' a b w w' e =
-    let l1 = cons_same _ _ _ _ e in
-    let l2 = cons_same _ _ _ _ l1.1 in
-    let l3 = cons_same _ _ _ _ l2.1 in
-    let l4 = cons_same _ _ _ _ l3.1 in
-    let l5 = cons_same _ _ _ _ l4.1 in
-    let bests = bests_same ss arcs h h' best best' top top' a.values b.values w.first w.second w'.first w'.second l1.0 l2.0 l4.0 in
-    let move = numbers_same (codes "move") 3 moved moved' w.move w'.move (moves_small moved a.moved_in) (moves_small moved' b.moved_in) l3.0 in
-    (bests.0, move, bests.1, bests.2, l5.0)
+    let first_same = cons_same _ _ _ _ e in
+    let second_same = cons_same _ _ _ _ first_same.1 in
+    let move_same = cons_same _ _ _ _ second_same.1 in
+    let values_same = cons_same _ _ _ _ move_same.1 in
+    let last_same = cons_same _ _ _ _ values_same.1 in
+    let bests = bests_same ss arcs h h' best best' top top' a.values b.values w.first w.second w'.first w'.second first_same.0 second_same.0 values_same.0 in
+    let move = numbers_same (codes "move") 3 moved moved' w.move w'.move (moves_small moved a.moved_in) (moves_small moved' b.moved_in) move_same.0 in
+    (bests.0, move, bests.1, bests.2, last_same.0)
 
 tails_same : (ss : List ℕ) (arcs : List Arc) (budget : ℕ) (t u : Tail) → Shape ss arcs budget t → Shape ss arcs budget u → tail_lines t ≡ tail_lines u → t ≡ u
 tails_same ss arcs budget t u (vectors f h m b x is lines are whole) (vectors f' h' m' b' x' is' lines' are' whole') e =
@@ -118,35 +118,35 @@ systems_same Two s t xs ys same e =
 
 lines_same : (version : Version) (c d : Cert) → IsWhole c → IsWhole d → IsOfVersion version c → IsOfVersion version d → lines_of_cert version c ≡ lines_of_cert version d → c ≡ d
 lines_same version c d w v oc od e =
-    let s = c.session in
-    let t = d.session in
-    let ss = fine_signals s.signals in
-    let l0 = cons_same _ _ _ _ (sym (regrouped version c) ∙ e ∙ regrouped version d) in
-    let l1 = cons_same _ _ _ _ l0.1 in
-    let l2 = cons_same _ _ _ _ l1.1 in
-    let systems = systems_same version s.system t.system _ _ (λ is. oc.system is ∙ sym (od.system is)) l2.1 in
-    let l3 = cons_same _ _ _ _ systems.1 in
-    let l4 = cons_same _ _ _ _ l3.1 in
-    let l5 = cons_same _ _ _ _ l4.1 in
-    let ratio = count_same (codes "ratio") c.ratio d.ratio (omega (arith, c.ratio_to)) (omega (arith, d.ratio_to)) l1.0 in
-    let budget = count_same (codes "budget") c.budget d.budget (omega (arith, c.budget_to)) (omega (arith, d.budget_to)) l2.0 in
-    let base = numbers_same (codes "base") 3 s.base t.base w.session.base v.session.base (point_small s.base s.base_in) (point_small t.base t.base_in) l3.0 in
-    let point = numbers_same (codes "point") 3 s.point t.point w.session.point v.session.point (point_small s.point s.point_in) (point_small t.point t.point_in) l4.0 in
-    let signals = signals_line_same version s.signals t.signals oc.bands od.bands l5.0 in
-    let counted : fine_signals t.signals ≡ ss = ap fine_signals (sym signals) in
-    let after = l5.1 ∙ ap (λ (us : List ℕ). counted_arcs us t.arcs ++ (counted_pairs us t.pairs ++ tail_lines d.tail)) counted in
-    let shifts : All (HasUsedShifts ss) t.arcs = subst (λ (us : List ℕ). All (HasUsedShifts us) t.arcs) counted t.shifts_used in
-    let rows : All (HasUsedRows ss) t.pairs = subst (λ (us : List ℕ). All (HasUsedRows us) t.pairs) counted t.rows_used in
-    let arcs = counted_arcs_same s.signals.l2 s.signals.l5 s.arcs t.arcs (counted_pairs ss s.pairs ++ tail_lines c.tail)
-    (counted_pairs ss t.pairs ++ tail_lines d.tail) s.arcs_in t.arcs_in s.shifts_used shifts w.session.arcs v.session.arcs after in
-    let l7 = cons_same _ _ _ _ arcs.1 in
-    let pair_count = count_same (codes "pairs") (length s.pairs) (length t.pairs) (omega (arith, s.pairs_in.few)) (omega (arith, t.pairs_in.few)) l7.0 in
-    let pairs = pairs_same s.signals.l2 s.signals.l5 s.arcs t.arcs s.pairs t.pairs (tail_lines c.tail)
-    (tail_lines d.tail) s.arcs_in.few t.arcs_in.few s.pairs_in.rows_have_arcs t.pairs_in.rows_have_arcs w.session.pairs v.session.pairs s.rows_used rows pair_count l7.1 in
-    let session = session_same s t (c.fine ∙ sym d.fine) systems.0 base point signals arcs.0 pairs.0 in
-    let fits : IsTailOf ss s.arcs c.budget d.tail = subst (λ (b : ℕ). IsTailOf ss s.arcs b d.tail) (sym budget)
-    (subst (λ (a : List Arc). IsTailOf ss a d.budget d.tail) (sym arcs.0) (subst (λ (us : List ℕ). IsTailOf us t.arcs d.budget d.tail) counted d.tail_fits)) in
-    let tail = tails_same ss s.arcs c.budget c.tail d.tail (shape ss s.arcs c.budget c.tail c.budget_to c.tail_fits w.tail) (shape ss s.arcs c.budget d.tail c.budget_to fits v.tail) pairs.1 in
+    let left_session = c.session in
+    let right_session = d.session in
+    let used = fine_signals left_session.signals in
+    let form_same = cons_same _ _ _ _ (sym (regrouped version c) ∙ e ∙ regrouped version d) in
+    let ratio_same = cons_same _ _ _ _ form_same.1 in
+    let budget_same = cons_same _ _ _ _ ratio_same.1 in
+    let systems = systems_same version left_session.system right_session.system _ _ (λ is. oc.system is ∙ sym (od.system is)) budget_same.1 in
+    let base_same = cons_same _ _ _ _ systems.1 in
+    let point_same = cons_same _ _ _ _ base_same.1 in
+    let letters_same = cons_same _ _ _ _ point_same.1 in
+    let ratio = count_same (codes "ratio") c.ratio d.ratio (omega (arith, c.ratio_to)) (omega (arith, d.ratio_to)) ratio_same.0 in
+    let budget = count_same (codes "budget") c.budget d.budget (omega (arith, c.budget_to)) (omega (arith, d.budget_to)) budget_same.0 in
+    let base = numbers_same (codes "base") 3 left_session.base right_session.base w.session.base v.session.base (point_small left_session.base left_session.base_in) (point_small right_session.base right_session.base_in) base_same.0 in
+    let point = numbers_same (codes "point") 3 left_session.point right_session.point w.session.point v.session.point (point_small left_session.point left_session.point_in) (point_small right_session.point right_session.point_in) point_same.0 in
+    let signals = signals_line_same version left_session.signals right_session.signals oc.bands od.bands letters_same.0 in
+    let counted : fine_signals right_session.signals ≡ used = ap fine_signals (sym signals) in
+    let after = letters_same.1 ∙ ap (λ (us : List ℕ). counted_arcs us right_session.arcs ++ (counted_pairs us right_session.pairs ++ tail_lines d.tail)) counted in
+    let shifts : All (HasUsedShifts used) right_session.arcs = subst (λ (us : List ℕ). All (HasUsedShifts us) right_session.arcs) counted right_session.shifts_used in
+    let rows : All (HasUsedRows used) right_session.pairs = subst (λ (us : List ℕ). All (HasUsedRows us) right_session.pairs) counted right_session.rows_used in
+    let arcs = counted_arcs_same left_session.signals.l2 left_session.signals.l5 left_session.arcs right_session.arcs (counted_pairs used left_session.pairs ++ tail_lines c.tail)
+    (counted_pairs used right_session.pairs ++ tail_lines d.tail) left_session.arcs_in right_session.arcs_in left_session.shifts_used shifts w.session.arcs v.session.arcs after in
+    let pair_count_same = cons_same _ _ _ _ arcs.1 in
+    let pair_count = count_same (codes "pairs") (length left_session.pairs) (length right_session.pairs) (omega (arith, left_session.pairs_in.few)) (omega (arith, right_session.pairs_in.few)) pair_count_same.0 in
+    let pairs = pairs_same left_session.signals.l2 left_session.signals.l5 left_session.arcs right_session.arcs left_session.pairs right_session.pairs (tail_lines c.tail)
+    (tail_lines d.tail) left_session.arcs_in.few right_session.arcs_in.few left_session.pairs_in.rows_have_arcs right_session.pairs_in.rows_have_arcs w.session.pairs v.session.pairs left_session.rows_used rows pair_count pair_count_same.1 in
+    let session = session_same left_session right_session (c.fine ∙ sym d.fine) systems.0 base point signals arcs.0 pairs.0 in
+    let fits : IsTailOf used left_session.arcs c.budget d.tail = subst (λ (b : ℕ). IsTailOf used left_session.arcs b d.tail) (sym budget)
+    (subst (λ (a : List Arc). IsTailOf used a d.budget d.tail) (sym arcs.0) (subst (λ (us : List ℕ). IsTailOf us right_session.arcs d.budget d.tail) counted d.tail_fits)) in
+    let tail = tails_same used left_session.arcs c.budget c.tail d.tail (shape used left_session.arcs c.budget c.tail c.budget_to c.tail_fits w.tail) (shape used left_session.arcs c.budget d.tail c.budget_to fits v.tail) pairs.1 in
     certs_same c d ratio budget session tail
 
 -- two certificates with one spelling are the same

@@ -39,30 +39,30 @@ use Rattle.grammar_lines.proofs.PlaceLaws.{place_length}
 vectors_accepted : (f : Frame) (arcs : List Arc) (h : ℕ) (moved : List ℤ) (best : TwoBest) (top : ℤ) (fixed : Bool) → AreVectors f.ss arcs h moved best top → AreWholeVectors moved best
     → AreAccepted cert_rules (Tail f arcs) (vectors_lines h moved best top ++ last_line fixed ∷ [])
 vectors_accepted f arcs h moved best top fixed are whole =
-    let n = best.size in
-    let v = are.values in
-    let first = take n best.first in
-    let second = take n best.second in
-    let first_long : length first ≡ n = length-take-le n best.first (omega (arith, best.size_to, whole.first)) in
-    let second_long : length second ≡ n = length-take-le n best.second (omega (arith, best.size_to, whole.second)) in
-    let s1 = entries_small n best.first v.first_in in
-    let s2 = entries_small n best.second v.second_in in
-    let s3 = moves_small moved are.moved_in in
-    let s4 = values_small h best.p1 best.p2 top v.h_to v.p1_in v.p2_in v.top_in in
-    let z1_read = vector_spells (codes "z1") n ENTRIES first first_long s1 (entries_in n best.first v.first_in) in
-    let z1 : admit (Tail f arcs) (vector_line (codes "z1") first) ≡ Ok (Second n) =
-    admits_vectors f n arcs (vector_line (codes "z1") first) v.size refl ∙ ap (λ (r : Result (List ℤ) Flaw). and_then r (λ z. Ok (Second n))) z1_read in
-    let z2_read = vector_spells (codes "z2") n ENTRIES second second_long s2 (entries_in n best.second v.second_in) in
-    let z2 : admit (Second n) (vector_line (codes "z2") second) ≡ Ok Move = ap (λ (r : Result (List ℤ) Flaw). and_then r (λ z. Ok Move)) z2_read in
-    let move_read = vector_spells (codes "move") 3 MOVES moved whole.move s3 (moves_in moved are.moved_in) in
+    let size = best.size in
+    let best_values = are.values in
+    let first = take size best.first in
+    let second = take size best.second in
+    let first_long : length first ≡ size = length-take-le size best.first (omega (arith, best.size_to, whole.first)) in
+    let second_long : length second ≡ size = length-take-le size best.second (omega (arith, best.size_to, whole.second)) in
+    let first_small = entries_small size best.first best_values.first_in in
+    let second_small = entries_small size best.second best_values.second_in in
+    let moves_small_enough = moves_small moved are.moved_in in
+    let values_small_enough = values_small h best.p1 best.p2 top best_values.h_to best_values.p1_in best_values.p2_in best_values.top_in in
+    let z1_read = vector_spells (codes "z1") size ENTRIES first first_long first_small (entries_in size best.first best_values.first_in) in
+    let first_admitted : admit (Tail f arcs) (vector_line (codes "z1") first) ≡ Ok (Second size) =
+    admits_vectors f size arcs (vector_line (codes "z1") first) best_values.size refl ∙ ap (λ (r : Result (List ℤ) Flaw). and_then r (λ z. Ok (Second size))) z1_read in
+    let z2_read = vector_spells (codes "z2") size ENTRIES second second_long second_small (entries_in size best.second best_values.second_in) in
+    let second_admitted : admit (Second size) (vector_line (codes "z2") second) ≡ Ok Move = ap (λ (r : Result (List ℤ) Flaw). and_then r (λ z. Ok Move)) z2_read in
+    let move_read = vector_spells (codes "move") 3 MOVES moved whole.move moves_small_enough (moves_in moved are.moved_in) in
     let move : admit Move (vector_line (codes "move") moved) ≡ Ok Values = ap (λ (r : Result (List ℤ) Flaw). and_then r (λ m. Ok Values)) move_read in
-    let values_read = values_spell h best.p1 best.p2 top v.h_to v.p1_in v.p2_in v.top_in in
-    let values : admit Values (values_line h best.p1 best.p2 top) ≡ Ok Last = ap (λ r. and_then r (λ v. Ok Last)) values_read in
+    let values_read = values_spell h best.p1 best.p2 top best_values.h_to best_values.p1_in best_values.p2_in best_values.top_in in
+    let values : admit Values (values_line h best.p1 best.p2 top) ≡ Ok Last = ap (λ r. and_then r (λ best_values. Ok Last)) values_read in
     let final : admit Last (last_line fixed) ≡ Ok End = ap (λ (r : Result Bool Flaw). and_then r (λ f. Ok End)) (last_read fixed) in
-    step cert_rules (Tail f arcs) (Second n) _ _ (line_length (codes "z1") first (lit≤ tt) (omega (arith, first_long, best.size_to)) s1) z1
-    (step cert_rules (Second n) Move _ _ (line_length (codes "z2") second (lit≤ tt) (omega (arith, second_long, best.size_to)) s2) z2
-    (step cert_rules Move Values _ _ (line_length (codes "move") moved (lit≤ tt) (omega (arith, whole.move)) s3) move
-    (step cert_rules Values Last _ _ (line_length (codes "values") (pos h ∷ best.p1 ∷ best.p2 ∷ top ∷ []) (lit≤ tt) (lit≤ tt) s4) values
+    step cert_rules (Tail f arcs) (Second size) _ _ (line_length (codes "z1") first (lit≤ tt) (omega (arith, first_long, best.size_to)) first_small) first_admitted
+    (step cert_rules (Second size) Move _ _ (line_length (codes "z2") second (lit≤ tt) (omega (arith, second_long, best.size_to)) second_small) second_admitted
+    (step cert_rules Move Values _ _ (line_length (codes "move") moved (lit≤ tt) (omega (arith, whole.move)) moves_small_enough) move
+    (step cert_rules Values Last _ _ (line_length (codes "values") (pos h ∷ best.p1 ∷ best.p2 ∷ top ∷ []) (lit≤ tt) (lit≤ tt) values_small_enough) values
     (step cert_rules Last End (last_line fixed) [] (last_length fixed) final (end_accepted cert_rules End refl)))))
 
 -- ---- tails of one line

@@ -161,15 +161,15 @@ next_taken rows old new s has takes = record {
     apart r le true e = let same : place_of s ≡ place_of r = ap place_of (same_setting s r e) in absurd (omega arith)
 
     less : (r : Setting) → place_of r < place_of s + 1 → is_same s r ≡ false → place_of r < place_of s
-    less r lt e = let ne : place_of s ≢ place_of r = grind (arith, nat_tests) in omega arith
+    less r lt e = let places_differ : place_of s ≢ place_of r = grind (arith, nat_tests) in omega arith
 
     of_before : (r : Setting) → place_of r < place_of s + 1 → (b : Bool) → is_same s r ≡ b → AreNumbers r (values_in (name_of r) rows) (numbers_for r new)
     of_before r lt true e =
-        let it : s ≡ r = same_setting s r e in
+        let is_same_setting : s ≡ r = same_setting s r e in
         let own : numbers_for s new ≡ takes.numbers =
         numbers s ∙ ap (λ (ns : List ℕ). ns ++ numbers_for s (map (given_with s) takes.numbers)) (has.behind s (omega arith))
         ∙ own_numbers s takes.numbers in
-        subst (λ (t : Setting). AreNumbers t (values_in (name_of t) rows) (numbers_for t new)) it (subst (λ (ns : List ℕ). AreNumbers s (values_in (name_of s) rows) ns) (sym own) takes.are)
+        subst (λ (t : Setting). AreNumbers t (values_in (name_of t) rows) (numbers_for t new)) is_same_setting (subst (λ (ns : List ℕ). AreNumbers s (values_in (name_of s) rows) ns) (sym own) takes.are)
     of_before r lt false e =
         let kept : numbers_for r new ≡ numbers_for r old = numbers r ∙ ap (λ (ns : List ℕ). numbers_for r old ++ ns) (other_numbers s r takes.numbers e) ∙ append-nil (numbers_for r old) in
         subst (λ (ns : List ℕ). AreNumbers r (values_in (name_of r) rows) ns) (sym kept) (has.before r (less r lt e))

@@ -91,10 +91,10 @@ pub record IsAccounted (words : List Text) : Type 0 where
 
 pub account_split : (words : List Text) → has_short words ≡ false → fault_of (app_with commands) words ≡ [] → IsAccounted words
 account_split words no_short passes =
-    let r = runs commands words no_short passes in
-    let ending = leaf_ends (built_shape (r.name, r.options)) r.rest r.passes in
-    let split : IsSplit words r.name ending.rows = record { options = r.options; rest = r.rest; words_are = r.words_are; found = r.found; no_short = no_short; ends = ending.ends } in
-    record { command = r.name; rows = ending.rows; split = split; gives = (split_account words r.name ending.rows split).1 }
+    let run = runs commands words no_short passes in
+    let ending = leaf_ends (built_shape (run.name, run.options)) run.rest run.passes in
+    let split : IsSplit words run.name ending.rows = record { options = run.options; rest = run.rest; words_are = run.words_are; found = run.found; no_short = no_short; ends = ending.ends } in
+    record { command = run.name; rows = ending.rows; split = split; gives = (split_account words run.name ending.rows split).1 }
 
 -- ---- jobs
 
@@ -109,9 +109,9 @@ no_flag command options rest found h = go (bytes_eq command (45 ∷ 45 ∷ [])) 
 -- the words that clap splits are parted, where what it finds for options are numbers
 pub split_parted : (words : List Text) (command : Text) (rows : List Row) (is : IsSplit words command rows) → ((s : Setting) → AreAll s (values_in (name_of s) rows)) → Found is.rest [] rows
 split_parted words command rows is numbers =
-    let sh = built_shape (command, is.options) in
-    let knows : Knows sh is.options rows = record { is = its_command command is.options is.found; setting = (their_settings command command is.options is.found).setting; numbers = numbers } in
-    found sh is.options rows 0 knows is.rest [] [] None false (nothing_pending sh [] 0)
+    let shape = built_shape (command, is.options) in
+    let knows : Knows shape is.options rows = record { is = its_command command is.options is.found; setting = (their_settings command command is.options is.found).setting; numbers = numbers } in
+    found shape is.options rows 0 knows is.rest [] [] None false (nothing_pending shape [] 0)
     (no_flag command is.options is.rest is.found (sym (ap has_short is.words_are) ∙ is.no_short)) is.ends
 
 -- what a job's words are to clap
@@ -239,22 +239,22 @@ in_table command plain given (job.Arcs base rover nav options) asked = subst (λ
 
 clap_job : (command : Text) (behind plain : List Text) (given : List Given) → InTable command given → AreParted behind plain given → IsClapJob (command ∷ behind) command behind plain given
 clap_job command behind plain given table parted =
-    let sh = built_shape (command, table.options) in
-    let p = passes sh table.options [] [] None 0 false parted.pieces parted.behind parted.further (its_command command table.options table.found)
-    (nothing_pending sh [] 0) parted.are_pieces parted.is_behind
+    let shape = built_shape (command, table.options) in
+    let passed = passes shape table.options [] [] None 0 false parted.pieces parted.behind parted.further (its_command command table.options table.found)
+    (nothing_pending shape [] 0) parted.are_pieces parted.is_behind
     (subst (λ (g : List Given). AreKnown table.options g) parted.given_are table.known) in
     record {
-      rows = p.final;
+      rows = passed.final;
       split = record {
         options = table.options;
         rest = behind;
         words_are = refl;
         found = table.found;
         no_short = table.long behind ∙ ap has_short parted.words_are ∙ all_long parted.pieces parted.behind parted.further parted.are_pieces parted.is_behind;
-        ends = subst (λ (ws : List Text). Ends sh start ws p.final) (sym parted.words_are) p.ends;
+        ends = subst (λ (ws : List Text). Ends shape start ws passed.final) (sym parted.words_are) passed.ends;
       };
-      adds = subst (λ (ws : List Text). Adds [] p.final ws given) (sym parted.plain_are)
-          (subst (λ (g : List Given). Adds [] p.final (plain_of parted.pieces ++ parted.further) g) (sym parted.given_are) p.adds);
+      adds = subst (λ (ws : List Text). Adds [] passed.final ws given) (sym parted.plain_are)
+          (subst (λ (g : List Given). Adds [] passed.final (plain_of parted.pieces ++ parted.further) g) (sym parted.given_are) passed.adds);
     }
 
 -- clap splits the words of a job, into the words and numbers by which they are one

@@ -45,7 +45,7 @@ one_orbit nav nav' system system' sat sat' tick tick' c p g first second =
     let same_system : system ≡ system' = one_system first.sat_word system system' sat sat' first.satellite also in
     let same_sat : sat ≡ sat' = one_satellite first.sat_word system system' sat sat' first.satellite also in
     let same_number : tick.0 ≡ tick'.0 = one_number first.tick_word tick.0 tick'.0 first.number (subst (λ (w : List ℕ). IsNumber w tick'.0) (sym same_tick_word) second.number) in
-    let same_tick : tick ≡ tick' = ap (λ (n : ℕ). let t : Tick = record { 0 = n } in t) same_number in
+    let same_tick : tick ≡ tick' = ap (λ (n : ℕ). let tick : Tick = record { 0 = n } in tick) same_number in
     cc (same_nav, same_system, same_sat, same_tick)
 
 -- the parts of a session have four names, of which two begin with one letter
@@ -348,18 +348,18 @@ sim_asked plain given (job.CheckTrack cert) asked = absurd (cc (it_is command_na
 pub no_sim : (part seed epochs sats : List ℕ) (given : List Given) → ((s : Sim) → IsSim part seed epochs sats s → ⊥) → (job : Job)
     → IsJobOf (name_of_command command_name.Sim) (part ∷ seed ∷ epochs ∷ sats ∷ []) given job → ⊥
 no_sim part seed epochs sats given none job asked =
-    let it = sim_asked (part ∷ seed ∷ epochs ∷ sats ∷ []) given job asked in
-    let s : Sim = it.0 in
-    let is = it.1 in
-    let words = sym is.plain_are in
-    let first : is.part_word ≡ part = ap (λ (ws : List (List ℕ)). get_or ws 0 []) words in
-    let second : is.seed_word ≡ seed = ap (λ (ws : List (List ℕ)). get_or ws 1 []) words in
-    let third : is.epochs_word ≡ epochs = ap (λ (ws : List (List ℕ)). get_or ws 2 []) words in
-    let fourth : is.sats_word ≡ sats = ap (λ (ws : List (List ℕ)). get_or ws 3 []) words in
-    none s (subst (λ (w : List ℕ). IsSim w seed epochs sats s) first
-    (subst (λ (w : List ℕ). IsSim is.part_word w epochs sats s) second
-    (subst (λ (w : List ℕ). IsSim is.part_word is.seed_word w sats s) third
-    (subst (λ (w : List ℕ). IsSim is.part_word is.seed_word is.epochs_word w s) fourth is.is))))
+    let simulated = sim_asked (part ∷ seed ∷ epochs ∷ sats ∷ []) given job asked in
+    let sim : Sim = simulated.0 in
+    let is_simulated = simulated.1 in
+    let words = sym is_simulated.plain_are in
+    let first : is_simulated.part_word ≡ part = ap (λ (ws : List (List ℕ)). get_or ws 0 []) words in
+    let second : is_simulated.seed_word ≡ seed = ap (λ (ws : List (List ℕ)). get_or ws 1 []) words in
+    let third : is_simulated.epochs_word ≡ epochs = ap (λ (ws : List (List ℕ)). get_or ws 2 []) words in
+    let fourth : is_simulated.sats_word ≡ sats = ap (λ (ws : List (List ℕ)). get_or ws 3 []) words in
+    none sim (subst (λ (w : List ℕ). IsSim w seed epochs sats sim) first
+    (subst (λ (w : List ℕ). IsSim is_simulated.part_word w epochs sats sim) second
+    (subst (λ (w : List ℕ). IsSim is_simulated.part_word is_simulated.seed_word w sats sim) third
+    (subst (λ (w : List ℕ). IsSim is_simulated.part_word is_simulated.seed_word is_simulated.epochs_word w sim) fourth is_simulated.is))))
 
 -- ---- ranges
 

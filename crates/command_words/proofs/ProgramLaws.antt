@@ -30,7 +30,7 @@ abbrev pub started : Text → List Text → App
 started name options = record { top = record (new_shape name) { rules = map option_rule options }; subs = [] }
 
 pub one_more : (name : Text) (options : List Text) (option : Text) → with_rule (started name options) (option_rule option) ≡ started name (options ++ option ∷ [])
-one_more name options option = ap (λ (rules : List Rule). let a : App = record { top = record (new_shape name) { rules = rules }; subs = [] } in a) (sym (map_push option_rule options option))
+one_more name options option = ap (λ (rules : List Rule). let app : App = record { top = record (new_shape name) { rules = rules }; subs = [] } in app) (sym (map_push option_rule options option))
 
 -- the program with one command more
 abbrev pub with_one : App → CommandName → App
@@ -103,7 +103,7 @@ module _ {B : Type 0} (name : B → Text) (rows : B → List Row) where
 
   pub pair_of : (o : Option B) (n : Text) (rs : List Row) → Some n ≡ option_map name o → Some rs ≡ option_map (λ (p : Text × List Row). p.1) (option_map both o) → option_map both o ≡ Some (n, rs)
   pair_of None n rs first second = absurd (cc first)
-  pair_of (Some b) n rs first second = ap₂ (λ (t : Text) (r : List Row). let p : Text × List Row = (t, r) in Some p) (sym (same_Some n (name b) first)) (sym (same_Some rs (rows b) second))
+  pair_of (Some b) n rs first second = ap₂ (λ (t : Text) (r : List Row). let row_of_text : Text × List Row = (t, r) in Some row_of_text) (sym (same_Some n (name b) first)) (sym (same_Some rs (rows b) second))
 
   pub no_pair : (o : Option B) (p : Text × List Row) → None ≡ option_map name o → option_map both o ≡ Some p → ⊥
   no_pair None p first second = absurd (cc second)
@@ -112,9 +112,9 @@ module _ {B : Type 0} (name : B → Text) (rows : B → List Row) where
 pub is_split : (words : List Text) (command : Text) (rows : List Row) → has_short words ≡ false → fault_of (app_with commands) words ≡ []
     → subcommand_of (app_with commands) words ≡ Some (command, rows) → IsSplit words command rows
 is_split words command rows no_short passes gives =
-    let is = account_split words no_short passes in
-    let same : (is.command, is.rows) ≡ (command, rows) = same_Some (is.command, is.rows) (command, rows) (sym is.gives ∙ gives) in
-    subst (λ (p : Text × List Row). IsSplit words p.0 p.1) same is.split
+    let account = account_split words no_short passes in
+    let same : (account.command, account.rows) ≡ (command, rows) = same_Some (account.command, account.rows) (command, rows) (sym account.gives ∙ gives) in
+    subst (λ (p : Text × List Row). IsSplit words p.0 p.1) same account.split
 
 pub some_texts : (f : Found) (id : Text) (texts : List Text) → Some texts ≡ option_map raw_values (matched_of f id) → texts ≡ values_in id (rows_of f)
 some_texts f id texts given = ap (λ (o : Option (List Text)). unwrap_or o []) given ∙ raw_values_in f id

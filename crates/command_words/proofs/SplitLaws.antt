@@ -138,9 +138,9 @@ adds_option rows final s d n plain given is more = record {
   where
     texts_of : (r : Setting) (b : Bool) → is_same s r ≡ b → values_in (name_of r) final ≡ values_in (name_of r) rows ++ texts_with s d more.texts r
     texts_of r true e =
-        let it : s ≡ r = same_setting s r e in
+        let is_same_setting : s ≡ r = same_setting s r e in
         let put_it : values_in (name_of r) (put (name_of s) d rows) ≡ values_in (name_of r) rows ++ d ∷ [] =
-        subst (λ (t : Setting). values_in (name_of r) (put (name_of t) d rows) ≡ values_in (name_of r) rows ++ d ∷ []) (sym it)
+        subst (λ (t : Setting). values_in (name_of r) (put (name_of t) d rows) ≡ values_in (name_of r) rows ++ d ∷ []) (sym is_same_setting)
         (put_same (name_of r) d rows) in
         more.texts_are r ∙ ap (λ (ws : List Text). ws ++ more.texts r) put_it ∙ append_assoc (values_in (name_of r) rows) (d ∷ []) (more.texts r)
         ∙ ap (λ (b : Bool). values_in (name_of r) rows ++ (if b then d ∷ more.texts r else more.texts r)) (sym e)
@@ -299,7 +299,7 @@ first_of [] = record { name = []; value = None; lacks = λ i lt. absurd (omega a
 first_of (b ∷ bs) = go (b == 61) refl (first_of bs)
   where
     longer : (b == 61) ≡ false → (name : Text) → Lacks 61 name → Lacks 61 (b ∷ name)
-    longer e name lacks zero lt = let ne : b ≢ 61 = grind (arith, nat_tests) in ne
+    longer e name lacks zero lt = let not_equals_sign : b ≢ 61 = grind (arith, nat_tests) in not_equals_sign
     longer e name lacks (suc i) lt = lacks i (omega arith)
 
     onward : (name : Text) (value : Option Text) → bs ≡ with_value name value → b ∷ bs ≡ with_value (b ∷ name) value
@@ -307,7 +307,7 @@ first_of (b ∷ bs) = go (b == 61) refl (first_of bs)
     onward name (Some v) e = ap (λ (t : Text). b ∷ t) e
 
     go : (t : Bool) → (b == 61) ≡ t → IsFirst bs → IsFirst (b ∷ bs)
-    go true e rest = let it : b ≡ 61 = grind (arith, nat_tests) in record { name = []; value = Some bs; lacks = λ i lt. absurd (omega arith); text_is = ap (λ (n : ℕ). n ∷ bs) it }
+    go true e rest = let is_equals_sign : b ≡ 61 = grind (arith, nat_tests) in record { name = []; value = Some bs; lacks = λ i lt. absurd (omega arith); text_is = ap (λ (n : ℕ). n ∷ bs) is_equals_sign }
     go false e rest = record { name = b ∷ rest.name; value = rest.value; lacks = longer e rest.name rest.lacks; text_is = onward rest.name rest.value rest.text_is }
 
 cut : (text : Text) → IsCut text
@@ -461,9 +461,9 @@ flag_behind : (sh : Shape) (options : List Text) (final : List Row) (skip : ℕ)
     → Ends sh (at rows (Some (name_of s, [])) skip (option (name_of s)) false) ((45 ∷ 45 ∷ text) ∷ rest) final → ⊥
 flag_behind sh options final skip s [] rest knows among rows ends = separator_for_value sh options rows final skip (name_of s) rest knows.is among ends
 flag_behind sh options final skip s (b ∷ bs) rest knows among rows ends =
-    let c = cut (b ∷ bs) in
+    let parts = cut (b ∷ bs) in
     fails_at sh (at rows (Some (name_of s, [])) skip (option (name_of s)) false) (45 ∷ 45 ∷ b ∷ bs) rest final
-    (flag_for_value sh options rows skip (name_of s) (45 ∷ 45 ∷ b ∷ bs) c.name c.value knows.is among refl (ap (λ (q : Text × Option Text). Some q) c.cut_is)) ends
+    (flag_for_value sh options rows skip (name_of s) (45 ∷ 45 ∷ b ∷ bs) parts.name parts.value knows.is among refl (ap (λ (q : Text × Option Text). Some q) parts.cut_is)) ends
 
 option_found : (sh : Shape) (options : List Text) (final : List Row) (skip : ℕ) (s : Setting) (words : List Text) → Knows sh options final
     → ((v : Text) (rest : List Text) → words ≡ v ∷ rest → FoundAt sh final skip rest) → is_among (name_of s) options ≡ true → has_short words ≡ false
@@ -508,8 +508,8 @@ long_found sh options final skip name value text words knows rest behind apart l
     go false none = absurd (fails_at sh (at r p skip (free was_word) false) (45 ∷ 45 ∷ text) words final
         (unknown_fails sh options r p skip was_word (45 ∷ 45 ∷ text) name value knows.is apart long none) ends)
     go true among =
-        let it = knows.setting name among in
-        known it.0 value (subst (λ (n : Text). is_among n options ≡ true) it.1 among) (text_is ∙ ap (λ (n : Text). with_value n value) it.1)
+        let known_name = knows.setting name among in
+        known known_name.0 value (subst (λ (n : Text). is_among n options ≡ true) known_name.1 among) (text_is ∙ ap (λ (n : Text). with_value n value) known_name.1)
 
 step_found : (sh : Shape) (options : List Text) (final : List Row) (skip : ℕ) (word : Text) (words : List Text) → Knows sh options final
     → FoundAt sh final skip words → ((v : Text) (rest : List Text) → words ≡ v ∷ rest → FoundAt sh final skip rest) → FoundAt sh final skip (word ∷ words)
@@ -518,9 +518,9 @@ step_found sh options final skip word words knows rest behind r rows p was_word 
     dashed : (text : Text) → has_short ((45 ∷ 45 ∷ text) ∷ words) ≡ false → Ends sh (at r p skip (free was_word) false) ((45 ∷ 45 ∷ text) ∷ words) final → Found ((45 ∷ 45 ∷ text) ∷ words) rows final
     dashed [] none all = separator_found sh options final skip words knows r rows p was_word settled all
     dashed (b ∷ bs) none all =
-        let c = cut (b ∷ bs) in
-        long_found sh options final skip c.name c.value (b ∷ bs) words knows rest behind refl (ap (λ (q : Text × Option Text). Some q) c.cut_is)
-        c.text_is (neither (45 ∷ 45 ∷ b ∷ bs) words refl none).1 r rows p was_word settled all
+        let parts = cut (b ∷ bs) in
+        long_found sh options final skip parts.name parts.value (b ∷ bs) words knows rest behind refl (ap (λ (q : Text × Option Text). Some q) parts.cut_is)
+        parts.text_is (neither (45 ∷ 45 ∷ b ∷ bs) words refl none).1 r rows p was_word settled all
 
     go : IsTrue (is_ordinary word) ⊎ ((is_short word ≡ true) ⊎ ((text : Text) × (word ≡ 45 ∷ 45 ∷ text))) → Found (word ∷ words) rows final
     go (inl ordinary) = plain_found sh options final skip word words knows rest ordinary (neither word words (plain_word word ordinary).no_separator no_short).1 r rows p was_word settled ends

@@ -71,29 +71,29 @@ pub word_steps : (s : Shape) (options : List Text) (r rows : List Row) (p : Opti
     → IsSettled s (record { rows = r; pending = p; skip = skip }) rows → IsPlainWord word → Steps s (at r p skip (free was_word) false) word (at rows (Some (word_id, word ∷ [])) skip positional false)
 unfolding walked
 word_steps s options r rows p skip true word is settled plain =
-    let h : Held = record { rows = r; pending = p; skip = skip } in
+    let held : Held = record { rows = r; pending = p; skip = skip } in
     record {
-      passes = rw (plain.no_separator, plain.no_long, plain.no_short, is.place) (never (is_pending built_word p) [] (settle_fault s.rules s.args_override_self h) ∙ settled.passes);
+      passes = rw (plain.no_separator, plain.no_long, plain.no_short, is.place) (never (is_pending built_word p) [] (settle_fault s.rules s.args_override_self held) ∙ settled.passes);
       goes = rw (plain.no_separator, plain.no_long, plain.no_short, is.place)
-          (ap (with_word word false) (never (is_pending built_word p) h (settled_held s.rules h)) ∙ ap (λ (rs : List Row). at rs (Some (word_id, word ∷ [])) skip positional false) settled.rows_are);
+          (ap (with_word word false) (never (is_pending built_word p) held (settled_held s.rules held)) ∙ ap (λ (rs : List Row). at rs (Some (word_id, word ∷ [])) skip positional false) settled.rows_are);
     }
 word_steps s options r rows p skip false word is settled plain =
-    let h : Held = record { rows = r; pending = p; skip = skip } in
+    let held : Held = record { rows = r; pending = p; skip = skip } in
     record {
-      passes = rw (plain.no_separator, plain.no_long, plain.no_short, is.place) (never (is_pending built_word p) [] (settle_fault s.rules s.args_override_self h) ∙ settled.passes);
+      passes = rw (plain.no_separator, plain.no_long, plain.no_short, is.place) (never (is_pending built_word p) [] (settle_fault s.rules s.args_override_self held) ∙ settled.passes);
       goes = rw (plain.no_separator, plain.no_long, plain.no_short, is.place)
-          (ap (with_word word false) (never (is_pending built_word p) h (settled_held s.rules h)) ∙ ap (λ (rs : List Row). at rs (Some (word_id, word ∷ [])) skip positional false) settled.rows_are);
+          (ap (with_word word false) (never (is_pending built_word p) held (settled_held s.rules held)) ∙ ap (λ (rs : List Row). at rs (Some (word_id, word ∷ [])) skip positional false) settled.rows_are);
     }
 
 pub further_steps : (s : Shape) (options : List Text) (r rows : List Row) (p : Option (Text × List Text)) (skip : ℕ) (waits : Waiting) (word : Text) → IsCommand s options
     → IsSettled s (record { rows = r; pending = p; skip = skip }) rows → Steps s (at r p skip waits true) word (at rows (Some (word_id, word ∷ [])) skip positional true)
 unfolding walked
 further_steps s options r rows p skip waits word is settled =
-    let h : Held = record { rows = r; pending = p; skip = skip } in
+    let held : Held = record { rows = r; pending = p; skip = skip } in
     record {
-      passes = rw (is.place) (never (is_pending built_word p) [] (settle_fault s.rules s.args_override_self h) ∙ settled.passes);
+      passes = rw (is.place) (never (is_pending built_word p) [] (settle_fault s.rules s.args_override_self held) ∙ settled.passes);
       goes = rw (is.place)
-          (ap (with_word word true) (never (is_pending built_word p) h (settled_held s.rules h)) ∙ ap (λ (rs : List Row). at rs (Some (word_id, word ∷ [])) skip positional true) settled.rows_are);
+          (ap (with_word word true) (never (is_pending built_word p) held (settled_held s.rules held)) ∙ ap (λ (rs : List Row). at rs (Some (word_id, word ∷ [])) skip positional true) settled.rows_are);
     }
 
 -- `--`
@@ -180,9 +180,9 @@ separator_for_value s options r rows skip name words is among ends = go words (e
   where
     fails : (word : Text) → turn_fault s [] (at r (Some (name, [])) skip (option name) true) word ≡ [] → ⊥
     fails word h =
-        let h' : Held = record { rows = r; pending = Some (name, []); skip = skip } in
-        let settles : settle_fault s.rules s.args_override_self h' ≡ [] =
-        sym (never (is_pending built_word (Some (name, []))) [] (settle_fault s.rules s.args_override_self h')) ∙ (rw (is.place) at h) in
+        let held : Held = record { rows = r; pending = Some (name, []); skip = skip } in
+        let settles : settle_fault s.rules s.args_override_self held ≡ [] =
+        sym (never (is_pending built_word (Some (name, []))) [] (settle_fault s.rules s.args_override_self held)) ∙ (rw (is.place) at h) in
         absurd (cc (sym (unsettled s options r skip name is among) ∙ settles))
 
     go : (words : List Text) → Ends s (at r (Some (name, [])) skip (option name) true) words rows → ⊥

@@ -57,11 +57,11 @@ pub record IsNamed (table : List (Text × List Text)) (name : Text) (options : L
 named_here : (table : List (Text × List Text)) (c : Text × List Text) (name n : Text) (options : List Text) → bytes_eq c.0 name ≡ true → Some c ≡ Some (n, options) → IsNamed (c ∷ table) name options
 named_here table c name n options same h =
     let first : c ≡ (n, options) = cc in
-    let it : c.0 ≡ name = is_it c.0 name same in
+    let is_named : c.0 ≡ name = is_it c.0 name same in
     let its : c.1 ≡ options = ap (λ (p : Text × List Text). p.1) first in
     record {
-      label = rw same (ap (λ (t : Text). Some (t, [])) it);
-      shape = rw same (ap₂ (λ (t : Text) (o : List Text). Some (built_shape (t, o))) it its);
+      label = rw same (ap (λ (t : Text). Some (t, [])) is_named);
+      shape = rw same (ap₂ (λ (t : Text) (o : List Text). Some (built_shape (t, o))) is_named its);
     }
 
 pub named : (table : List (Text × List Text)) (name n : Text) (options : List Text) → command_named name table ≡ Some (n, options) → IsNamed table name options
@@ -71,8 +71,8 @@ named (c ∷ table) name n options h = go (bytes_eq c.0 name) refl (λ e. named 
     go : (b : Bool) → bytes_eq c.0 name ≡ b → (command_named name table ≡ Some (n, options) → IsNamed table name options) → IsNamed (c ∷ table) name options
     go true same rest = named_here table c name n options same (rw same at h)
     go false other rest =
-        let is = rest (rw other at h) in
-        record { label = rw other is.label; shape = rw other is.shape }
+        let named_later = rest (rw other at h) in
+        record { label = rw other named_later.label; shape = rw other named_later.shape }
 
 pub name_found : (table : List (Text × List Text)) (name n : Text) (options : List Text) → command_named name table ≡ Some (n, options) → n ≡ name
 name_found [] name n options h = absurd (cc h)
@@ -97,14 +97,14 @@ unnamed (c ∷ table) name h = go (bytes_eq c.0 name) refl (λ e. unnamed table 
 -- ---- the program as clap builds it
 
 each_built : (c : Text × List Text) → built_leaf (inherited built_top (command_shape c.0 c.1)) ≡ built_shape c
-each_built c = ap (λ (rules : List Rule). let s : Shape = record (built_shape c) { rules = rules } in s) (rules_built c.1)
+each_built c = ap (λ (rules : List Rule). let shape : Shape = record (built_shape c) { rules = rules } in shape) (rules_built c.1)
 
 all_built : (table : List (Text × List Text)) → map built_leaf (map (inherited built_top) (map (λ (c : Text × List Text). command_shape c.0 c.1) table)) ≡ map built_shape table
 all_built [] = refl
 all_built (c ∷ table) = ap₂ (λ (s : Shape) (ss : List Shape). s ∷ ss) (each_built c) (all_built table)
 
 pub app_built : (table : List (Text × List Text)) → built (app_with table) ≡ built_app table
-app_built table = ap (λ (subs : List Shape). let a : App = record { top = built_top; subs = subs } in a) (all_built table)
+app_built table = ap (λ (subs : List Shape). let app : App = record { top = built_top; subs = subs } in app) (all_built table)
 
 -- ---- the first word
 

@@ -22,9 +22,9 @@ use Rattle.eph_store.specs.Decimals.{ten_to_pos, decimal}
 pub power_high : (exponent most n : ℕ) → most ≤ 38 → n ≡ min exponent most → (10 ^ n ≤ 10 ^ most) × (10 ^ n ≤ 10 ^ 38)
 power_high exponent most n h e =
     let below : n ≤ most = omega (arith, e, min-le_right exponent most) in
-    let r : 10 ^ n ≤ 10 ^ most = pow-le-pow_right (lit< tt) below in
-    let s : 10 ^ most ≤ 10 ^ 38 = pow-le-pow_right (lit< tt) h in
-    (r, omega (arith, r, s))
+    let power_at_most : 10 ^ n ≤ 10 ^ most = pow-le-pow_right (lit< tt) below in
+    let greatest_power_at_most : 10 ^ most ≤ 10 ^ 38 = pow-le-pow_right (lit< tt) h in
+    (power_at_most, omega (arith, power_at_most, greatest_power_at_most))
 
 pub own_word : (z : ℤ) (p : ℕ) → z ≡ pos p → p ≤ 10 ^ 38 → to_z w128 (of_z w128 z) ≡ pos p
 own_word z p is h = omega (arith, ints, is, h)
@@ -125,35 +125,35 @@ least_over n h d p c k = by_lt_z (pos 0) n
 -- so both have one least box
 least_cut_of : (k : ℕ) (m : ℤ) (d : ℕ) (value : Rational) → IsCut (m *ℤ pos (2 ^ k)) d value.den → value.num ≡ m → IsLeastOf k (floor_div (m *ℤ pos (2 ^ k)) d) (ceil_div (m *ℤ pos (2 ^ k)) d) value
 least_cut_of k m d value c is =
-    let n : ℤ = m *ℤ pos (2 ^ k) in
+    let scaled : ℤ = m *ℤ pos (2 ^ k) in
     record {
-      holds = λ x e. InBox-along k (floor_div n d) (ceil_div n d) value x (sym e) (
-        subst (λ (z : ℤ). (floor_div n d *ℤ pos value.den) ≤ℤ (z *ℤ pos (2 ^ k))) (sym is) (under n d value.den c),
-        subst (λ (z : ℤ). (z *ℤ pos (2 ^ k)) ≤ℤ (ceil_div n d *ℤ pos value.den)) (sym is) (over n d value.den c),
+      holds = λ x e. InBox-along k (floor_div scaled d) (ceil_div scaled d) value x (sym e) (
+        subst (λ (z : ℤ). (floor_div scaled d *ℤ pos value.den) ≤ℤ (z *ℤ pos (2 ^ k))) (sym is) (under scaled d value.den c),
+        subst (λ (z : ℤ). (z *ℤ pos (2 ^ k)) ≤ℤ (ceil_div scaled d *ℤ pos value.den)) (sym is) (over scaled d value.den c),
       );
       least = λ l h i. (
-        least_under n l d value.den c (subst (λ (z : ℤ). (l *ℤ pos value.den) ≤ℤ (z *ℤ pos (2 ^ k))) is i.0),
-        least_over n h d value.den c (subst (λ (z : ℤ). (z *ℤ pos (2 ^ k)) ≤ℤ (h *ℤ pos value.den)) is i.1),
+        least_under scaled l d value.den c (subst (λ (z : ℤ). (l *ℤ pos value.den) ≤ℤ (z *ℤ pos (2 ^ k))) is i.0),
+        least_over scaled h d value.den c (subst (λ (z : ℤ). (z *ℤ pos (2 ^ k)) ≤ℤ (h *ℤ pos value.den)) is i.1),
       );
     }
 
 -- ---- what the code takes
 scaled_cut : (k : ℕ) (m : ℤ) → k ≤ 60 → FitsSigned w64 m → (neg_ℤ (pos (10 ^ 38)) <ℤ (m *ℤ pos (2 ^ k))) × ((m *ℤ pos (2 ^ k)) <ℤ pos (10 ^ 38))
 scaled_cut k m h fits =
-    let t : 2 ^ k ≤ 2 ^ 60 = pow-le-pow_right (lit< tt) h in
-    let b = mul_bounds m (pos (2 ^ k)) (2 ^ 63) (2 ^ 60) (omega (arith, ints, fits)) (omega (arith, ints, fits)) (omega (arith, ints)) (omega (arith, ints, t)) in
-    (omega (arith, lins, b.0), omega (arith, lins, b.1))
+    let scale_at_most : 2 ^ k ≤ 2 ^ 60 = pow-le-pow_right (lit< tt) h in
+    let product_bounds = mul_bounds m (pos (2 ^ k)) (2 ^ 63) (2 ^ 60) (omega (arith, ints, fits)) (omega (arith, ints, fits)) (omega (arith, ints)) (omega (arith, ints, scale_at_most)) in
+    (omega (arith, lins, product_bounds.0), omega (arith, lins, product_bounds.1))
 
 pub part_least : (k places : ℕ) (m : ℤ) → k ≤ 60 → FitsSigned w64 m
     → IsLeastOf k (floor_div (m *ℤ pos (2 ^ k)) (10 ^ min places 38)) (ceil_div (m *ℤ pos (2 ^ k)) (10 ^ min places 38)) (decimal m places)
 part_least k places m h fits = go (places - 38) refl
   where
     go : (r : ℕ) → places - 38 ≡ r → IsLeastOf k (floor_div (m *ℤ pos (2 ^ k)) (10 ^ min places 38)) (ceil_div (m *ℤ pos (2 ^ k)) (10 ^ min places 38)) (decimal m places)
-    go zero e = let l : places ≤ 38 = omega arith in rw (min-eq_left l) (least_ratio_of k m (10 ^ places) (decimal m places) (ten_to_pos places) refl)
+    go zero e = let few_places : places ≤ 38 = omega arith in rw (min-eq_left few_places) (least_ratio_of k m (10 ^ places) (decimal m places) (ten_to_pos places) refl)
     go (suc r) e =
-        let l : 38 ≤ places = omega arith in
-        let s = scaled_cut k m h fits in
-        rw (min-eq_right l) (least_cut_of k m (10 ^ 38) (decimal m places) (record { some = lit< tt; finer = pow-le-pow_right (lit< tt) l; low = s.0; high = s.1 }) refl)
+        let many_places : 38 ≤ places = omega arith in
+        let cut_bounds = scaled_cut k m h fits in
+        rw (min-eq_right many_places) (least_cut_of k m (10 ^ 38) (decimal m places) (record { some = lit< tt; finer = pow-le-pow_right (lit< tt) many_places; low = cut_bounds.0; high = cut_bounds.1 }) refl)
 
 -- past 10^19 only 0 stays small
 large : (m p t : ℤ) → pos 1 ≤ℤ m → pos 0 ≤ℤ p → pos 1 ≤ℤ t → p ≤ℤ (m *ℤ p *ℤ t)
@@ -187,12 +187,12 @@ pub whole_is : (k power : ℕ) (m : ℤ) → IsAtMostInSize (of_scale k (pos (2 
 whole_is k power m small = go (power - 19) refl
   where
     go : (r : ℕ) → power - 19 ≡ r → m *ℤ pos (10 ^ min power 19) ≡ m *ℤ pos (10 ^ power)
-    go zero e = let l : power ≤ 19 = omega arith in rw (min-eq_left l) refl
+    go zero e = let small_power : power ≤ 19 = omega arith in rw (min-eq_left small_power) refl
     go (suc r) e =
-        let l : 19 ≤ power = omega arith in
-        let p : 10 ^ 19 ≤ 10 ^ power = pow-le-pow_right (lit< tt) l in
-        let z : m ≡ pos 0 = zero_of m (pos (10 ^ power)) (pos (2 ^ k)) (pos_one (2 ^ k) (pow_pos k)) (le_pos (10 ^ 19) (10 ^ power) p) small.0 small.1 in
-        rw (z, zero_times (10 ^ min power 19), zero_times (10 ^ power)) refl
+        let great_power : 19 ≤ power = omega arith in
+        let power_at_least : 10 ^ 19 ≤ 10 ^ power = pow-le-pow_right (lit< tt) great_power in
+        let is_zero : m ≡ pos 0 = zero_of m (pos (10 ^ power)) (pos (2 ^ k)) (pos_one (2 ^ k) (pow_pos k)) (le_pos (10 ^ 19) (10 ^ power) power_at_least) small.0 small.1 in
+        rw (is_zero, zero_times (10 ^ min power 19), zero_times (10 ^ power)) refl
 
 -- where the number is small the box has its ends in reach
 pub ends_small : (k m : ℕ) (lo hi : ℤ) (value : Rational) → IsLeastOf k lo hi value → IsAtMostInSize (of_scale k (pos m)) value → (neg_ℤ (pos m) ≤ℤ lo) × (hi ≤ℤ pos m)
@@ -205,10 +205,10 @@ not_past lo hi h (inr p) = omega (arith, lins, h.1, p)
 -- 2^63 < 2^(126 - k)
 pub part_room : (m : ℤ) (k : ℕ) → k ≤ 60 → FitsSigned w64 m → unsigned_abs m < 2 ^ (126 - k)
 part_room m k h fits =
-    let a : unsigned_abs m ≤ 2 ^ 63 = omega (arith, ints, fits) in
-    let e : 66 ≤ 126 - k = omega arith in
-    let p : 2 ^ 66 ≤ 2 ^ (126 - k) = pow-le-pow_right (lit< tt) e in
-    omega (arith, a, p)
+    let mantissa_small : unsigned_abs m ≤ 2 ^ 63 = omega (arith, ints, fits) in
+    let room_at_least : 66 ≤ 126 - k = omega arith in
+    let power_at_least : 2 ^ 66 ≤ 2 ^ (126 - k) = pow-le-pow_right (lit< tt) room_at_least in
+    omega (arith, mantissa_small, power_at_least)
 
 pub whole_room : (k : ℕ) (v : ℤ) → k ≤ 60 → IsAtMostInSize (of_scale k (pos (2 ^ 62))) (of_whole v) → unsigned_abs v < 2 ^ (126 - k)
 whole_room k v h s = room (unsigned_abs v) k h (size v (bound v s.0) (bound (neg_ℤ v) s.1))
@@ -235,15 +235,15 @@ whole_ends k v n d e f = rw (e, f) (least_ratio_of k v 1 (of_whole v) (lit< tt) 
 pub as_box : (k : ℕ) (b : Iv k) (lo hi : ℤ) (value : Rational) → b.lo ≡ lo → b.hi ≡ hi → IsLeastOf k lo hi value → IsLeastBox b value
 as_box k b lo hi value e f l = record {
   holds = λ x s. subst₂ (λ (y z : ℤ). InBox k y z x) (sym e) (sym f) (l.holds x s);
-  least = λ y z i. let r = l.least y z i in (subst (λ (w : ℤ). y ≤ℤ w) (sym e) r.0, subst (λ (w : ℤ). w ≤ℤ z) (sym f) r.1);
+  least = λ y z i. let contained = l.least y z i in (subst (λ (w : ℤ). y ≤ℤ w) (sym e) contained.0, subst (λ (w : ℤ). w ≤ℤ z) (sym f) contained.1);
 }
 
 -- |m| ≤ 2^63 times a power of at most 10^19
 pub product_fits : (m p : ℤ) → FitsSigned w64 m → pos 0 <ℤ p → p ≤ℤ pos (10 ^ 19) → FitsSigned w128 (to_z w128 (of_z w128 m) *ℤ p) × (to_z w128 (of_z w128 (to_z w128 (of_z w128 m) *ℤ p)) ≡ m *ℤ p)
 product_fits m p fits h g =
-    let e : to_z w128 (of_z w128 m) ≡ m = omega (arith, ints, fits) in
-    let b = mul_bounds m p (2 ^ 63) (10 ^ 19) (omega (arith, ints, fits)) (omega (arith, ints, fits)) (omega (arith, lins, h)) (omega (arith, lins, g)) in
-    rw e (step (m *ℤ p) b.0 b.1)
+    let mantissa_kept : to_z w128 (of_z w128 m) ≡ m = omega (arith, ints, fits) in
+    let product_bounds = mul_bounds m p (2 ^ 63) (10 ^ 19) (omega (arith, ints, fits)) (omega (arith, ints, fits)) (omega (arith, lins, h)) (omega (arith, lins, g)) in
+    rw mantissa_kept (step (m *ℤ p) product_bounds.0 product_bounds.1)
   where
     step : (z : ℤ) → neg_ℤ (pos (2 ^ 63 * 10 ^ 19)) ≤ℤ z → z ≤ℤ pos (2 ^ 63 * 10 ^ 19) → FitsSigned w128 z × (to_z w128 (of_z w128 z) ≡ z)
     step z h g = (omega (arith, ints), omega (arith, ints))

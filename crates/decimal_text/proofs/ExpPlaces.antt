@@ -134,7 +134,7 @@ fails_apart front mark tail none marks f blank = record {
   text_is = refl;
   at_is = refl;
   begun = record { further = []; whole = subst IsExp (sym (append-nil front)) (plain_exp front f) };
-  stuck = λ begun. let a = at_mark_is front mark begun.further none marks (subst IsExp (one_more front mark begun.further) begun.whole) in cc (blank, a.next_to);
+  stuck = λ begun. let at_mark = at_mark_is front mark begun.further none marks (subst IsExp (one_more front mark begun.further) begun.whole) in cc (blank, at_mark.next_to);
 }
 
 -- an exponent that fails

@@ -60,9 +60,9 @@ given_form text e = by (nat_le 1_000_000_000_000_000_000 (digit_sum (e.whole ++ 
 blank_unmarked : (text : List ℕ) → are_blank text ≡ true → behind_mark text ≡ None
 blank_unmarked [] blank = refl
 blank_unmarked (b ∷ bs) blank =
-    let t = and_parts (is_blank b) (are_blank bs) blank in
-    let at_32 : b ≡ 32 = blank_is b t.0 in
-    rw at_32 (blank_unmarked bs t.1)
+    let blank_parts = and_parts (is_blank b) (are_blank bs) blank in
+    let at_32 : b ≡ 32 = blank_is b blank_parts.0 in
+    rw at_32 (blank_unmarked bs blank_parts.1)
 
 marked_not_blank : (text tail : List ℕ) → behind_mark text ≡ Some tail → are_blank text ≡ false
 marked_not_blank text tail found = by (are_blank text) refl
@@ -79,11 +79,11 @@ exp_is text e = by e.power e.spelled
     by power (inl (fixed, none)) =
         rw (not_blank_text text e.negative e.whole e.part fixed, fixed-unmarked text e.negative e.whole e.part fixed, walk-fixed text e.negative e.whole e.part fixed, none) refl
     by power (inr (below, digits, marked, value)) =
-        let m : SomeMarked text = record { negative = e.negative; whole = e.whole; part = e.part; below = below; power = digits; marked = marked } in
+        let some_marked : SomeMarked text = record { negative = e.negative; whole = e.whole; part = e.part; below = below; power = digits; marked = marked } in
         rw (
-          marked_not_blank text marked.tail (marked_behind text m),
-          marked_behind text m,
-          marked_before text m,
+          marked_not_blank text marked.tail (marked_behind text some_marked),
+          marked_behind text some_marked,
+          marked_before text some_marked,
           walk-fixed marked.front e.negative e.whole e.part marked.number,
           marked.next_to,
           power_is marked.tail below digits marked.exponent,
@@ -97,8 +97,8 @@ of_form text = by_blank (are_blank text) refl
     by_walk not_blank none (Fails at) is = rw (not_blank, none, is) (not_blank, fails_plain text at none (fails_first text at is))
     by_walk not_blank none (Ends negative n k) is =
         let took : TookStart text negative = took_start text 0 0 0 negative n k is in
-        let e = plain_exp text (record { negative = negative; whole = took.whole; part = took.part; fixed = took.fixed }) in
-        subst (IsReadAsDec text) (sym (exp_is text e)) (given_form text e)
+        let is_exp = plain_exp text (record { negative = negative; whole = took.whole; part = took.part; fixed = took.fixed }) in
+        subst (IsReadAsDec text) (sym (exp_is text is_exp)) (given_form text is_exp)
 
     by_exponent : are_blank text ≡ false → (mark : ℕ) (tail : List ℕ) → is_mark mark ≡ true → behind_mark text ≡ Some tail
         → text ≡ before_mark text ++ mark ∷ tail → behind_mark (before_mark text) ≡ None → (f : IsSomeFixed (before_mark text))
@@ -108,7 +108,7 @@ of_form text = by_blank (are_blank text) refl
         (not_blank, subst (λ t. FailsFirst IsExp t (length (before_mark text) + 1 + at)) (sym split) (fails_exponent (before_mark text) mark tail at none marks f next (power_fails tail at is)))
     by_exponent not_blank mark tail marks found split none f next (Ok z) is =
         let took : PowerTook tail z = power_took tail z is in
-        let m : IsMarked text f.negative f.whole f.part took.negative took.power = record {
+        let is_marked : IsMarked text f.negative f.whole f.part took.negative took.power = record {
           front = before_mark text;
           mark = mark;
           tail = tail;
@@ -118,8 +118,8 @@ of_form text = by_blank (are_blank text) refl
           marks = marks;
           exponent = took.signed_is;
         } in
-        let e : IsExp text = record { negative = f.negative; whole = f.whole; part = f.part; power = z; spelled = inr (took.negative, took.power, m, took.value) } in
-        subst (IsReadAsDec text) (sym (exp_is text e)) (given_form text e)
+        let is_exp : IsExp text = record { negative = f.negative; whole = f.whole; part = f.part; power = z; spelled = inr (took.negative, took.power, is_marked, took.value) } in
+        subst (IsReadAsDec text) (sym (exp_is text is_exp)) (given_form text is_exp)
 
     by_end : are_blank text ≡ false → (mark : ℕ) (tail : List ℕ) → is_mark mark ≡ true → behind_mark text ≡ Some tail
         → text ≡ before_mark text ++ mark ∷ tail → behind_mark (before_mark text) ≡ None → (f : IsSomeFixed (before_mark text)) → (t : Bool)
@@ -141,8 +141,8 @@ of_form text = by_blank (are_blank text) refl
     by_mark : are_blank text ≡ false → (o : Option (List ℕ)) → behind_mark text ≡ o → IsReadAsDec text (dec_of text)
     by_mark not_blank None none = by_walk not_blank none (walk text 0 Start false 0 0) refl
     by_mark not_blank (Some tail) found =
-        let s = split_at text tail found in
-        by_front not_blank s.mark tail s.marks found s.text_is s.none (walk (before_mark text) 0 Start false 0 0) refl
+        let split = split_at text tail found in
+        by_front not_blank split.mark tail split.marks found split.text_is split.none (walk (before_mark text) 0 Start false 0 0) refl
 
     by_blank : (t : Bool) → are_blank text ≡ t → IsReadAsDec text (dec_of text)
     by_blank true blank = rw blank blank
@@ -173,6 +173,6 @@ dec_only text (Err TooLong) form = sym (exp_is text form.number ∙ long_is text
 
 pub dec_small : (text : List ℕ) (r : Result Dec NumberFault) → IsReadAsDec text r → IfOk r (λ d. size_of d.mant < 1_000_000_000_000_000_000)
 dec_small text (Ok d) form =
-    let at : size_of d.mant ≡ digit_sum (form.number.whole ++ form.number.part) = ap size_of form.mant ∙ size_of_signed form.number.negative (digit_sum (form.number.whole ++ form.number.part)) in
-    omega (arith, at, form.short)
+    let size_is : size_of d.mant ≡ digit_sum (form.number.whole ++ form.number.part) = ap size_of form.mant ∙ size_of_signed form.number.negative (digit_sum (form.number.whole ++ form.number.part)) in
+    omega (arith, size_is, form.short)
 dec_small text (Err fault) form = tt

@@ -54,10 +54,10 @@ split_at (b ∷ bs) tail found = by (is_mark b) refl (λ e. split_at bs tail e)
         record { mark = b; marks = is; text_is = rw front (ap (λ t. b ∷ t) same); none = rw front refl }
     by false is later =
         let behind : behind_mark (b ∷ bs) ≡ behind_mark bs = rw is refl in
-        let s = later (sym behind ∙ found) in
+        let split_later = later (sym behind ∙ found) in
         let front : before_mark (b ∷ bs) ≡ b ∷ before_mark bs = rw is refl in
-        let none : behind_mark (b ∷ before_mark bs) ≡ None = rw is s.none in
-        record { mark = s.mark; marks = s.marks; text_is = rw front (ap (λ t. b ∷ t) s.text_is); none = rw front none }
+        let none : behind_mark (b ∷ before_mark bs) ≡ None = rw is split_later.none in
+        record { mark = split_later.mark; marks = split_later.marks; text_is = rw front (ap (λ t. b ∷ t) split_later.text_is); none = rw front none }
 
 not_blank : (b : ℕ) → is_mark b ≡ true → is_blank b ≡ false
 not_blank b is = grind (arith, nat_tests)

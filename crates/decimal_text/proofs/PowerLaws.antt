@@ -18,7 +18,7 @@ AreBlank text = are_blank text ≡ true
 
 blanks_pass : (text : List ℕ) (at n : ℕ) → are_blank text ≡ true → only_blanks text at n ≡ Ok n
 blanks_pass [] at n blank = refl
-blanks_pass (b ∷ bs) at n blank = let t = and_parts (is_blank b) (are_blank bs) blank in rw (t.0) (blanks_pass bs (at + 1) n t.1)
+blanks_pass (b ∷ bs) at n blank = let blank_parts = and_parts (is_blank b) (are_blank bs) blank in rw (blank_parts.0) (blanks_pass bs (at + 1) n blank_parts.1)
 
 record BlanksTook (text : List ℕ) (n m : ℕ) : Type 0 where
   blank : are_blank text ≡ true
@@ -31,8 +31,8 @@ blanks_took (b ∷ bs) at n m is = by (is_blank b) refl (λ e. blanks_took bs (a
     by : (t : Bool) → is_blank b ≡ t → (only_blanks bs (at + 1) n ≡ Ok m → BlanksTook bs n m) → BlanksTook (b ∷ bs) n m
     by true blank later =
         let step : only_blanks (b ∷ bs) at n ≡ only_blanks bs (at + 1) n = rw blank refl in
-        let t = later (sym step ∙ is) in
-        record { blank = and_from (is_blank b) (are_blank bs) blank t.blank; same = t.same }
+        let rest_took = later (sym step ∙ is) in
+        record { blank = and_from (is_blank b) (are_blank bs) blank rest_took.blank; same = rest_took.same }
     by false blank later = let step : only_blanks (b ∷ bs) at n ≡ Err at = rw blank refl in absurd (cc (step, is))
 
 -- ---- digits after k others
@@ -52,14 +52,14 @@ digits_pass : (power after : List ℕ) (at n k : ℕ) → are_digits power ≡ t
 digits_pass [] [] at n k digits blank some few = let more : (k == 0) ≡ false = grind (arith, nat_tests) in rw more refl
 digits_pass [] (b ∷ bs) at n k digits blank some few =
     let more : (k == 0) ≡ false = grind (arith, nat_tests) in
-    let t = and_parts (is_blank b) (are_blank bs) blank in
-    let is : b ≡ 32 = blank_is b t.0 in
-    let no_digit : is_digit b ≡ false = rw is refl in
+    let blank_parts = and_parts (is_blank b) (are_blank bs) blank in
+    let is_space : b ≡ 32 = blank_is b blank_parts.0 in
+    let no_digit : is_digit b ≡ false = rw is_space refl in
     rw (no_digit, more) (blanks_pass (b ∷ bs) at n blank)
 digits_pass (d ∷ ds) after at n k digits blank some few =
-    let t = and_parts (is_digit d) (are_digits ds) digits in
+    let digit_parts = and_parts (is_digit d) (are_digits ds) digits in
     let room : (k == 3) ≡ false = grind (arith, nat_tests) in
-    rw (t.0, room) (digits_pass ds after (at + 1) (10 * n + (d - 48)) (k + 1) t.1 blank (omega arith) (omega arith))
+    rw (digit_parts.0, room) (digits_pass ds after (at + 1) (10 * n + (d - 48)) (k + 1) digit_parts.1 blank (omega arith) (omega arith))
 
 record DigitsTook (text : List ℕ) (n k m : ℕ) : Type 0 where
   power : List ℕ
@@ -87,24 +87,24 @@ digits_took (b ∷ bs) at n k m most is = by_digit (is_digit b) refl (λ less e.
     by_room later digit false room =
         let step : power_digits (b ∷ bs) at n k ≡ power_digits bs (at + 1) (10 * n + (b - 48)) (k + 1) = rw (digit, room) refl in
         let less : k + 1 ≤ 3 = grind (arith, nat_tests) in
-        let t = later less (sym step ∙ is) in
+        let rest_took = later less (sym step ∙ is) in
         record {
-          power = b ∷ t.power;
-          after = t.after;
-          text_is = ap (λ l. b ∷ l) t.text_is;
-          digits = and_from (is_digit b) (are_digits t.power) digit t.digits;
-          some = omega (arith, t.some);
-          few = omega (arith, t.few);
-          blank = t.blank;
-          value = t.value;
+          power = b ∷ rest_took.power;
+          after = rest_took.after;
+          text_is = ap (λ l. b ∷ l) rest_took.text_is;
+          digits = and_from (is_digit b) (are_digits rest_took.power) digit rest_took.digits;
+          some = omega (arith, rest_took.some);
+          few = omega (arith, rest_took.few);
+          blank = rest_took.blank;
+          value = rest_took.value;
         }
 
     by_some : is_digit b ≡ false → (t : Bool) → (k == 0) ≡ t → DigitsTook (b ∷ bs) n k m
     by_some digit true none = let step : power_digits (b ∷ bs) at n k ≡ Err at = rw (digit, none) refl in absurd (cc (step, is))
     by_some digit false some =
         let step : power_digits (b ∷ bs) at n k ≡ only_blanks (b ∷ bs) at n = rw (digit, some) refl in
-        let t = blanks_took (b ∷ bs) at n m (sym step ∙ is) in
-        record { power = []; after = b ∷ bs; text_is = refl; digits = refl; some = grind (arith, nat_tests); few = omega arith; blank = t.blank; value = t.same }
+        let took_blanks = blanks_took (b ∷ bs) at n m (sym step ∙ is) in
+        record { power = []; after = b ∷ bs; text_is = refl; digits = refl; some = grind (arith, nat_tests); few = omega arith; blank = took_blanks.blank; value = took_blanks.same }
 
     by_digit : (t : Bool) → is_digit b ≡ t → (k + 1 ≤ 3 → power_digits bs (at + 1) (10 * n + (b - 48)) (k + 1) ≡ Ok m → DigitsTook bs (10 * n + (b - 48)) (k + 1) m) → DigitsTook (b ∷ bs) n k m
     by_digit true digit later = by_room later digit (k == 3) refl
@@ -125,12 +125,12 @@ blanks_fail (b ∷ bs) at n i is = by (is_blank b) refl (λ e. blanks_fail bs (a
     by : (t : Bool) → is_blank b ≡ t → (only_blanks bs (at + 1) n ≡ Err i → PlaceOf AreBlank bs (at + 1) i) → PlaceOf AreBlank (b ∷ bs) at i
     by true blank later =
         let step : only_blanks (b ∷ bs) at n ≡ only_blanks bs (at + 1) n = rw blank refl in
-        let t = later (sym step ∙ is) in
+        let rest_fails = later (sym step ∙ is) in
         record {
-          p = 1 + t.p;
-          at_is = omega (arith, t.at_is);
+          p = 1 + rest_fails.p;
+          at_is = omega (arith, rest_fails.at_is);
           fails = fails_behind AreBlank AreBlank (b ∷ [])
-              (λ u h. and_from (is_blank b) (are_blank u) blank h) (λ u h. (and_parts (is_blank b) (are_blank u) h).1) bs t.p t.fails;
+              (λ u h. and_from (is_blank b) (are_blank u) blank h) (λ u h. (and_parts (is_blank b) (are_blank u) h).1) bs rest_fails.p rest_fails.fails;
         }
     by false blank later =
         let step : only_blanks (b ∷ bs) at n ≡ Err at = rw blank refl in
@@ -257,12 +257,12 @@ digits_fail (b ∷ bs) at n k i most is = by_digit (is_digit b) refl (λ less e.
     by_room later digit false room =
         let step : power_digits (b ∷ bs) at n k ≡ power_digits bs (at + 1) (10 * n + (b - 48)) (k + 1) = rw (digit, room) refl in
         let less : k + 1 ≤ 3 = grind (arith, nat_tests) in
-        let t = later less (sym step ∙ is) in
+        let rest_fails = later less (sym step ∙ is) in
         record {
-          p = 1 + t.p;
-          at_is = omega (arith, t.at_is);
+          p = 1 + rest_fails.p;
+          at_is = omega (arith, rest_fails.at_is);
           fails = fails_behind (IsRestOfPower (k + 1)) (IsRestOfPower k) (b ∷ [])
-              (λ u h. with_digit k b u h digit) (λ u h. first_digit k b u h digit less) bs t.p t.fails;
+              (λ u h. with_digit k b u h digit) (λ u h. first_digit k b u h digit less) bs rest_fails.p rest_fails.fails;
         }
 
     by_some : is_digit b ≡ false → (t : Bool) → (k == 0) ≡ t → PlaceOf (IsRestOfPower k) (b ∷ bs) at i
@@ -285,8 +285,8 @@ digits_fail (b ∷ bs) at n k i most is = by_digit (is_digit b) refl (λ less e.
     by_some digit false some =
         let step : power_digits (b ∷ bs) at n k ≡ only_blanks (b ∷ bs) at n = rw (digit, some) refl in
         let least : 1 ≤ k = grind (arith, nat_tests) in
-        let t = blanks_fail (b ∷ bs) at n i (sym step ∙ is) in
-        record { p = t.p; at_is = t.at_is; fails = fails_alike AreBlank (IsRestOfPower k) b (λ u h. no_digits k least most u h) (λ u h. only_blank k b u h digit) bs t.p t.fails }
+        let blanks_failed = blanks_fail (b ∷ bs) at n i (sym step ∙ is) in
+        record { p = blanks_failed.p; at_is = blanks_failed.at_is; fails = fails_alike AreBlank (IsRestOfPower k) b (λ u h. no_digits k least most u h) (λ u h. only_blank k b u h digit) bs blanks_failed.p blanks_failed.fails }
 
     by_digit : (t : Bool) → is_digit b ≡ t
         → (k + 1 ≤ 3 → power_digits bs (at + 1) (10 * n + (b - 48)) (k + 1) ≡ Err i → PlaceOf (IsRestOfPower (k + 1)) bs (at + 1) i)
@@ -393,11 +393,11 @@ power_fails (b ∷ bs) i is = by_plus (b == 43) refl
         (λ v h. record { negative = true; power = h.power; signed_is = (v, refl, from_rest v h) }) behind_minus)
     by_minus false no_plus_sign no_minus_sign =
         let step : power_of (b ∷ bs) ≡ signed_power false (power_digits (b ∷ bs) 0 0 0) = rw (no_plus_sign, no_minus_sign) refl in
-        let t = digits_fail (b ∷ bs) 0 0 0 i (omega arith) (signed_err false (power_digits (b ∷ bs) 0 0 0) i (sym step ∙ is)) in
-        let same : t.p ≡ i = omega (arith, t.at_is) in
+        let digits_failed = digits_fail (b ∷ bs) 0 0 0 i (omega arith) (signed_err false (power_digits (b ∷ bs) 0 0 0) i (sym step ∙ is)) in
+        let same : digits_failed.p ≡ i = omega (arith, digits_failed.at_is) in
         subst (FailsFirst IsSomePower (b ∷ bs)) same
         (fails_alike (IsRestOfPower 0) IsSomePower b (λ v h. record { negative = false; power = h.power; signed_is = inr (from_rest v h) })
-        (λ v h. unsigned b v no_plus_sign no_minus_sign h) bs t.p t.fails)
+        (λ v h. unsigned b v no_plus_sign no_minus_sign h) bs digits_failed.p digits_failed.fails)
 
     by_plus : (t : Bool) → (b == 43) ≡ t → FailsFirst IsSomePower (b ∷ bs) i
     by_plus true sign =
@@ -449,20 +449,20 @@ power_took (b ∷ bs) z is = by_plus (b == 43) refl
     by_minus true no_plus_sign sign =
         let at_45 : b ≡ 45 = grind (arith, nat_tests) in
         let step : power_of (b ∷ bs) ≡ signed_power true (power_digits bs 1 0 0) = rw (no_plus_sign, sign) refl in
-        let o = signed_ok true (power_digits bs 1 0 0) z (sym step ∙ is) in
-        let t = digits_took bs 1 0 0 o.n (omega arith) o.was in
-        record { negative = true; power = t.power; signed_is = (bs, ap (λ x. x ∷ bs) at_45, power_from bs 0 o.n t); value = o.value ∙ ap (signed true) (t.value ∙ digits_are t.power) }
+        let took_signed = signed_ok true (power_digits bs 1 0 0) z (sym step ∙ is) in
+        let took_digits = digits_took bs 1 0 0 took_signed.n (omega arith) took_signed.was in
+        record { negative = true; power = took_digits.power; signed_is = (bs, ap (λ x. x ∷ bs) at_45, power_from bs 0 took_signed.n took_digits); value = took_signed.value ∙ ap (signed true) (took_digits.value ∙ digits_are took_digits.power) }
     by_minus false no_plus_sign no_minus_sign =
         let step : power_of (b ∷ bs) ≡ signed_power false (power_digits (b ∷ bs) 0 0 0) = rw (no_plus_sign, no_minus_sign) refl in
-        let o = signed_ok false (power_digits (b ∷ bs) 0 0 0) z (sym step ∙ is) in
-        let t = digits_took (b ∷ bs) 0 0 0 o.n (omega arith) o.was in
-        record { negative = false; power = t.power; signed_is = inr (power_from (b ∷ bs) 0 o.n t); value = o.value ∙ ap (signed false) (t.value ∙ digits_are t.power) }
+        let took_signed = signed_ok false (power_digits (b ∷ bs) 0 0 0) z (sym step ∙ is) in
+        let took_digits = digits_took (b ∷ bs) 0 0 0 took_signed.n (omega arith) took_signed.was in
+        record { negative = false; power = took_digits.power; signed_is = inr (power_from (b ∷ bs) 0 took_signed.n took_digits); value = took_signed.value ∙ ap (signed false) (took_digits.value ∙ digits_are took_digits.power) }
 
     by_plus : (t : Bool) → (b == 43) ≡ t → PowerTook (b ∷ bs) z
     by_plus true sign =
         let at_43 : b ≡ 43 = grind (arith, nat_tests) in
         let step : power_of (b ∷ bs) ≡ signed_power false (power_digits bs 1 0 0) = rw sign refl in
-        let o = signed_ok false (power_digits bs 1 0 0) z (sym step ∙ is) in
-        let t = digits_took bs 1 0 0 o.n (omega arith) o.was in
-        record { negative = false; power = t.power; signed_is = inl (bs, ap (λ x. x ∷ bs) at_43, power_from bs 0 o.n t); value = o.value ∙ ap (signed false) (t.value ∙ digits_are t.power) }
+        let took_signed = signed_ok false (power_digits bs 1 0 0) z (sym step ∙ is) in
+        let took_digits = digits_took bs 1 0 0 took_signed.n (omega arith) took_signed.was in
+        record { negative = false; power = took_digits.power; signed_is = inl (bs, ap (λ x. x ∷ bs) at_43, power_from bs 0 took_signed.n took_digits); value = took_signed.value ∙ ap (signed false) (took_digits.value ∙ digits_are took_digits.power) }
     by_plus false no_plus_sign = by_minus (b == 45) no_plus_sign refl

@@ -22,8 +22,8 @@ longer (a ∷ rest) r₁ [] r₂ same less = absurd (omega arith)
 longer (a ∷ rest) r₁ (c ∷ cs) r₂ same less =
     let head : a ≡ c = cc in
     let tail : rest ++ r₁ ≡ cs ++ r₂ = cc in
-    let l = longer rest r₁ cs r₂ tail (omega arith) in
-    record { byte = l.byte; rest = l.rest; more = l.more; rest_is = l.rest_is; front_is = cc (l.front_is) }
+    let is_longer = longer rest r₁ cs r₂ tail (omega arith) in
+    record { byte = is_longer.byte; rest = is_longer.rest; more = is_longer.more; rest_is = is_longer.rest_is; front_is = cc (is_longer.front_is) }
 
 module _ (Is : List ℕ → Type 0) where
   -- what begins a longer front begins it
@@ -40,8 +40,8 @@ module _ (Is : List ℕ → Type 0) where
 
   not_before : (text : List ℕ) (i j : ℕ) → FailsFirst Is text i → FailsFirst Is text j → i < j → ⊥
   not_before text i j f g less =
-      let l = longer f.front f.rest g.front g.rest (sym f.text_is ∙ g.text_is) (omega (arith, f.at_is, g.at_is)) in
-      subst (λ r. IsStuck Is f.front r) l.rest_is f.stuck (begins-front (f.front ++ l.byte ∷ []) l.more (subst (Begins Is) l.front_is g.begun))
+      let is_longer = longer f.front f.rest g.front g.rest (sym f.text_is ∙ g.text_is) (omega (arith, f.at_is, g.at_is)) in
+      subst (λ r. IsStuck Is f.front r) is_longer.rest_is f.stuck (begins-front (f.front ++ is_longer.byte ∷ []) is_longer.more (subst (Begins Is) is_longer.front_is g.begun))
 
   -- and another fails at one place
   pub fails_once : (text : List ℕ) (i j : ℕ) → FailsFirst Is text i → FailsFirst Is text j → i ≡ j

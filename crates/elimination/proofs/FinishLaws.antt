@@ -79,7 +79,7 @@ finished columns fd fl p d d' l l' t t' s u q e h = record {
     count = omega arith
 
     one : columns - (columns - 1) ≡ 1
-    one = let a : 4 ≤ columns = s.from in omega arith
+    one = let enough_columns : 4 ≤ columns = s.from in omega arith
 
     last_form : form_from (entry t') (columns - 1) 1 ≡ constant_form (entry t' (columns - 1) (columns - 1))
     last_form = refl
@@ -87,7 +87,7 @@ finished columns fd fl p d d' l l' t t' s u q e h = record {
     taken : steps 3 (columns - 4) (form_of_table p (columns - 3)) ≡ Ok (stored d' l' columns 3 (columns - 4), constant_form (entry t' (columns - 1) (columns - 1)))
     taken = ap (λ (a : List Column). steps 3 (columns - 4) a) (sym e)
         ∙ subst (λ (k : ℕ). steps 3 k (form_from (entry t) 3 (columns - 3)) ≡ Ok (stored d' l' columns 3 k, form_from (entry t') (columns - 1) (columns - (columns - 1)))) count h
-        ∙ ap (λ (k : ℕ). let x : StepsAnswer = Ok (stored d' l' columns 3 (columns - 4), form_from (entry t') (columns - 1) k) in x) one
+        ∙ ap (λ (k : ℕ). let answer : StepsAnswer = Ok (stored d' l' columns 3 (columns - 4), form_from (entry t') (columns - 1) k) in answer) one
 
     range : AllInRange (stored d' l' columns 3 (columns - 4)) × SmallForm (constant_form (entry t' (columns - 1) (columns - 1)))
     range = steps_range 3 (columns - 4) (form_of_table p (columns - 3)) (stored d' l' columns 3 (columns - 4), constant_form (entry t' (columns - 1) (columns - 1))) taken

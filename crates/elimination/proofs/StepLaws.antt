@@ -48,8 +48,8 @@ pub record Pivot (t : List (List ℤ)) (j : ℕ) (x : ℤ) : Type 0 where
   pub strong : int_lt (entry t j j) (pos (2 ^ 20)) ≡ false
 
 pub pivot_is : (t : List (List ℤ)) (j : ℕ) (x : ℤ) → x ≡ entry t j j → unsigned_abs (entry t j j) ≤ 2 ^ 52 → int_lt (word x) (pos (2 ^ 20)) ≡ false → Pivot t j x
-pivot_is t j x is size strong = let e : word x ≡ entry t j j = read x (entry t j j) is size in
-    record { as_read = e; strong = subst (λ (z : ℤ). int_lt z (pos (2 ^ 20)) ≡ false) e strong }
+pivot_is t j x is size strong = let word_is_pivot : word x ≡ entry t j j = read x (entry t j j) is size in
+    record { as_read = word_is_pivot; strong = subst (λ (z : ℤ). int_lt z (pos (2 ^ 20)) ≡ false) word_is_pivot strong }
 
 -- all its factors are small
 pub factors_small : (t : List (List ℤ)) (j n : ℕ) (x : ℤ) → word x ≡ entry t j j → ((c : ℕ) → j < c → c < suc j + n → is_small (factor_entry t j (unsigned_abs (word x)) c) ≡ true) →

@@ -11,11 +11,11 @@ pub before_last : (fs : List Factor) (f : Factor) (r : StepsAnswer) → before (
 before_last [] f r = refl
 before_last (g ∷ fs) f r = ap (λ (x : StepsAnswer). with_factor g x) (before_last fs f r)
 
-pub before_ok : (fs : List Factor) (a : List Column) → let x : StepsAnswer = Ok (fs, a) in let y : StepsAnswer = Ok ([], a) in before fs y ≡ x
+pub before_ok : (fs : List Factor) (a : List Column) → let answer : StepsAnswer = Ok (fs, a) in let rest_answer : StepsAnswer = Ok ([], a) in before fs rest_answer ≡ answer
 before_ok [] a = refl
 before_ok (f ∷ fs) a = ap (λ (x : StepsAnswer). with_factor f x) (before_ok fs a)
 
-pub before_err : (fs : List Factor) (e : Refusal) → let x : StepsAnswer = Err e in before fs x ≡ x
+pub before_err : (fs : List Factor) (e : Refusal) → let answer : StepsAnswer = Err e in before fs answer ≡ answer
 before_err [] e = refl
 before_err (f ∷ fs) e = ap (λ (x : StepsAnswer). with_factor f x) (before_err fs e)
 

@@ -27,22 +27,22 @@ best_stays (Some e) limit xs sat tag y (is, chosen) far =
     (is, chosen_stays xs sat tag e.now y chosen (λ c. by c.named (far c.named)))
   where
     by : y.sat ≡ sat → (distance tag y ≤ limit → ⊥) → distance tag e.now < distance tag y
-    by named not = let h : (distance tag y ≤ distance tag e.now) → ⊥ = rw (← is) not in omega (arith, h)
+    by named not = let not_nearer : (distance tag y ≤ distance tag e.now) → ⊥ = rw (← is) not in omega (arith, not_nearer)
 
 within_two_hours : (best : Option (Bor Eph)) (limit : ℕ) (xs : List Eph) (sat tag : ℕ) → BestSoFar best limit xs sat tag → limit ≤ 72000000000
 within_two_hours None limit xs sat tag (is, none) = omega arith
-within_two_hours (Some e) limit xs sat tag (is, chosen) = let h = chosen.candidate.near in omega (arith, is, h)
+within_two_hours (Some e) limit xs sat tag (is, chosen) = let is_near = chosen.candidate.near in omega (arith, is, is_near)
 
 -- no candidate is nearer than the best so far
 no_nearer : (best : Option (Bor Eph)) (limit : ℕ) (xs : List Eph) (sat tag d : ℕ) → BestSoFar best limit xs sat tag → d ≤ limit → All (λ f. IsCandidate sat tag f → d ≤ distance tag f) xs
 no_nearer None limit xs sat tag d (is, none) le = λ k e inside c. absurd (none k e inside c)
 no_nearer (Some e) limit xs sat tag d (is, chosen) le =
-    let P : Eph → Type 0 = λ f. IsCandidate sat tag f → d ≤ distance tag f in
-    let before : All P chosen.front = λ k z inside c. let h = chosen.nearest k z inside c in omega (arith, h, is, le) in
-    let behind : All P chosen.rest = λ k z inside c. let h = chosen.latest k z inside c in omega (arith, h, is, le) in
-    let here : All P (e.now ∷ []) = All-push P [] e.now (λ k z inside. absurd (omega (arith, inside))) (λ c. omega (arith, is, le)) in
-    let both : All P ((e.now ∷ []) ++ chosen.rest) = All-append P (e.now ∷ []) chosen.rest here behind in
-    let whole : All P (chosen.front ++ e.now ∷ chosen.rest) = All-append P chosen.front (e.now ∷ chosen.rest) before both in
+    let none_nearer : Eph → Type 0 = λ f. IsCandidate sat tag f → d ≤ distance tag f in
+    let before : All none_nearer chosen.front = λ k z inside c. let is_nearer = chosen.nearest k z inside c in omega (arith, is_nearer, is, le) in
+    let behind : All none_nearer chosen.rest = λ k z inside c. let at_least_as_near = chosen.latest k z inside c in omega (arith, at_least_as_near, is, le) in
+    let here : All none_nearer (e.now ∷ []) = All-push none_nearer [] e.now (λ k z inside. absurd (omega (arith, inside))) (λ c. omega (arith, is, le)) in
+    let both : All none_nearer ((e.now ∷ []) ++ chosen.rest) = All-append none_nearer (e.now ∷ []) chosen.rest here behind in
+    let whole : All none_nearer (chosen.front ++ e.now ∷ chosen.rest) = All-append none_nearer chosen.front (e.now ∷ chosen.rest) before both in
     rw chosen.stands whole
 
 pub best_is_new : (best : Option (Bor Eph)) (limit : ℕ) (xs : List Eph) (sat tag : ℕ) (y : Eph) → BestSoFar best limit xs sat tag → y.sat ≡ sat
@@ -51,7 +51,7 @@ best_is_new best limit xs sat tag y so_far named near = record {
   front = xs;
   rest = [];
   stands = refl;
-  candidate = record { named = named; near = let h = within_two_hours best limit xs sat tag so_far in omega (arith, h, near) };
+  candidate = record { named = named; near = let limit_at_most = within_two_hours best limit xs sat tag so_far in omega (arith, limit_at_most, near) };
   nearest = no_nearer best limit xs sat tag (distance tag y) so_far near;
   latest = λ k z inside. absurd (omega (arith, inside));
 }

@@ -21,19 +21,19 @@ use Rattle.eph_store.specs.Records.{IsEphOf}
 -- a number is at most one whole number
 pub whole_once : (d : Dec) (n m : ℕ) → IsWhole d n → IsWhole d m → n ≡ m
 whole_once d n m h k =
-    let e : n * (value_of d).den ≡ m * (value_of d).den = omega (arith, ints, h, k) in
-    let l : n ≤ m = le_of_mul-le-mul_right (omega (arith, e)) (value_of d).positive in
-    let g : m ≤ n = le_of_mul-le-mul_right (omega (arith, e)) (value_of d).positive in
-    omega (arith, l, g)
+    let same_multiple : n * (value_of d).den ≡ m * (value_of d).den = omega (arith, ints, h, k) in
+    let left_at_most : n ≤ m = le_of_mul-le-mul_right (omega (arith, same_multiple)) (value_of d).positive in
+    let right_at_most : m ≤ n = le_of_mul-le-mul_right (omega (arith, same_multiple)) (value_of d).positive in
+    omega (arith, left_at_most, right_at_most)
 
 pub toc_near : (raw : Raw) (week second far toe : ℕ) → IsTimeOf raw week second → toe ≡ toe_tick week second → far ≡ abs_diff raw.toc.0 toe → (far ≤ 72000000000) ↔ IsTocNear raw
 toc_near raw week second far toe time at is = (
-  λ h. record { week = week; second = second; time = time; near = let e : abs_diff raw.toc.0 (toe_tick week second) ≡ far = ap (λ (t : ℕ). abs_diff raw.toc.0 t) (sym at) ∙ sym is in rw e h },
+  λ h. record { week = week; second = second; time = time; near = let distance_is : abs_diff raw.toc.0 (toe_tick week second) ≡ far = ap (λ (t : ℕ). abs_diff raw.toc.0 t) (sym at) ∙ sym is in rw distance_is h },
   λ near.
-      let w : near.week ≡ week = whole_once raw.week near.week week near.time.week_is time.week_is in
-      let s : near.second ≡ second = whole_once raw.toe_s near.second second near.time.second_is time.second_is in
-      let e : far ≡ abs_diff raw.toc.0 (toe_tick near.week near.second) = is ∙ ap (λ (t : ℕ). abs_diff raw.toc.0 t) (at ∙ rw (w, s) refl) in
-      rw e near.near,
+      let same_week : near.week ≡ week = whole_once raw.week near.week week near.time.week_is time.week_is in
+      let same_second : near.second ≡ second = whole_once raw.toe_s near.second second near.time.second_is time.second_is in
+      let distance_is : far ≡ abs_diff raw.toc.0 (toe_tick near.week near.second) = is ∙ ap (λ (t : ℕ). abs_diff raw.toc.0 t) (at ∙ rw (same_week, same_second) refl) in
+      rw distance_is near.near,
 )
 
 -- that record's time is this one
@@ -58,7 +58,7 @@ out_at raw fields i d inside before out = record {
   field = get_or fields i d;
   rest = drop (suc i) fields;
   order = sym (take-append-drop i fields) ∙ ap (λ (zs : List Field). take i fields ++ zs) (drop-cons fields i d inside);
-  counted = let e : length (take i fields) ≡ i = length-take-le i fields (omega (arith, inside)) in omega (arith, e);
+  counted = let taken_length : length (take i fields) ≡ i = length-take-le i fields (omega (arith, inside)) in omega (arith, taken_length);
   before = before;
   out = out;
 }
@@ -71,8 +71,8 @@ pub second_of_week : (week second toe : ℕ) → toe ≡ toe_tick week second �
 second_of_week week second toe is s =
     let whole : toe ≡ week * 6048000000000 + second * 10000000 = omega (arith, is) in
     let part : second * 10000000 < 6048000000000 = omega (arith, s) in
-    let e : toe / 6048000000000 ≡ week = ap (λ (t : ℕ). t / 6048000000000) whole ∙ div-mul-add week 6048000000000 (second * 10000000) part in
-    rw e is
+    let week_is : toe / 6048000000000 ≡ week = ap (λ (t : ℕ). t / 6048000000000) whole ∙ div-mul-add week 6048000000000 (second * 10000000) part in
+    rw week_is is
 
 pub late_enough : (toc toe : ℕ) → abs_diff toc toe ≤ 72000000000 → toe ≤ toc + 72000000000
 late_enough toc toe h = omega (arith, h)
@@ -101,9 +101,9 @@ not_before raw fields n m s t less =
 -- there is one first
 pub first_once : (raw : Raw) (fields : List Field) (n m : ℕ) → IsFirstOut raw fields n → IsFirstOut raw fields m → n ≡ m
 first_once raw fields n m s t =
-    let l : (length s.front < length t.front) → ⊥ = not_before raw fields n m s t in
-    let g : (length t.front < length s.front) → ⊥ = not_before raw fields m n t s in
-    omega (arith, l, g, s.counted, t.counted)
+    let not_shorter : (length s.front < length t.front) → ⊥ = not_before raw fields n m s t in
+    let not_longer : (length t.front < length s.front) → ⊥ = not_before raw fields m n t s in
+    omega (arith, not_shorter, not_longer, s.counted, t.counted)
 
 -- the clauses of `of`
 pub record Tells (raw : Raw) (r : Result Eph Unfit) : Type 0 where
@@ -118,5 +118,5 @@ tells_range raw field healthy first = record {
   value = tt;
   usable = (λ h. absurd (cc h), λ u. absurd (none_out raw fields_in_order field u.profile first));
   unhealthy = (λ h. absurd (cc h), λ h. absurd (h healthy));
-  range = λ n. (λ h. let e : field ≡ n = cc h in (healthy, rw (← e) first), λ h. ap (λ (m : ℕ). Err (Range m)) (first_once raw fields_in_order field n first h.1));
+  range = λ n. (λ h. let field_is : field ≡ n = cc h in (healthy, rw (← field_is) first), λ h. ap (λ (m : ℕ). Err (Range m)) (first_once raw fields_in_order field n first h.1));
 }

@@ -40,12 +40,12 @@ pub cut_power : (a s most p b : ℕ) → b < 10 ^ most → (s ≤ most → p ≡
 cut_power a s most p b small short long = by (s - most) refl
   where
     by : (r : ℕ) → s - most ≡ r → SameOrder (a * 10 ^ s) b (a * p) b
-    by zero is = let e : p ≡ 10 ^ s = short (omega arith) in same _ _ _ _ (ap (λ (q : ℕ). a * q) (sym e)) refl
+    by zero is = let power_is : p ≡ 10 ^ s = short (omega arith) in same _ _ _ _ (ap (λ (q : ℕ). a * q) (sym power_is)) refl
     by (suc r) is =
         let past : most < s = omega arith in
-        let e : p ≡ 10 ^ most = long past in
+        let power_is : p ≡ 10 ^ most = long past in
         let rises : 10 ^ most ≤ 10 ^ s = pow-le-pow_right (lit< tt) (omega arith) in
-        let above : b < p = rw e small in
+        let above : b < p = rw power_is small in
         cut a (10 ^ s) p b (omega (arith, small, rises)) above
 
 -- the size a · 10^exp and b / 10^k are in the order of x and y

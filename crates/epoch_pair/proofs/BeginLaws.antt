@@ -25,7 +25,7 @@ rising_from (x ∷ xs) lo n r a b h =
     omega arith
 
 pub few_pairs : (xs : List PairOf) (n : ℕ) → AllPairs Follows xs → All (λ p. p.base < n) xs → length xs ≤ n
-few_pairs xs n r b = let h : 0 + length xs ≤ n = rising_from xs 0 n r (λ k d i. omega arith) b (omega arith) in omega arith
+few_pairs xs n r b = let length_at_most : 0 + length xs ≤ n = rising_from xs 0 n r (λ k d i. omega arith) b (omega arith) in omega arith
 
 -- files that share a letter on each of these bands lack none
 pub no_lack : (bands : List ℕ) (base rover : ObsFile) → HaveSignals bands base rover → LackSignal bands base rover → ⊥

@@ -78,13 +78,13 @@ on_each_band P a b c (suc (suc (suc band))) inside = absurd (omega arith)
 pub used_bands : (base rover : List Bool) (n : ℕ) (s : Signals) → IsBandsNumber n → AreLettersOf (bands_of n) base rover s → phase_bands (fine_signals s) ≡ bands_of n
 used_bands base rover n s number are =
     each_number (λ (m : ℕ). AreLettersOf (bands_of m) base rover s → phase_bands (fine_signals s) ≡ bands_of m)
-    (λ (a : AreLettersOf BANDS_12 base rover s). let l5 : s.l5 ≡ 0 = a 2 (omega arith) in ap (λ (n : ℕ). phase_bands (used_signals s.l2 n)) l5)
+    (λ (a : AreLettersOf BANDS_12 base rover s). let l5_unused : s.l5 ≡ 0 = a 2 (omega arith) in ap (λ (n : ℕ). phase_bands (used_signals s.l2 n)) l5_unused)
     (λ (a : AreLettersOf BANDS_15 base rover s).
-    let l2 : s.l2 ≡ 0 = a 1 (omega arith) in
-    let l5 : (s.l5 == 0) ≡ false = some_letter L5_LETTERS s.l5 refl (found_letter base rover 2 s.l5 (a 2 (omega arith))) in
-    rw (l5, l2) refl)
+    let l2_unused : s.l2 ≡ 0 = a 1 (omega arith) in
+    let l5_used : (s.l5 == 0) ≡ false = some_letter L5_LETTERS s.l5 refl (found_letter base rover 2 s.l5 (a 2 (omega arith))) in
+    rw (l5_used, l2_unused) refl)
     (λ (a : AreLettersOf BANDS_125 base rover s).
-    let l2 : (s.l2 == 0) ≡ false = some_letter L2_LETTERS s.l2 refl (found_letter base rover 1 s.l2 (a 1 (omega arith))) in
-    let l5 : (s.l5 == 0) ≡ false = some_letter L5_LETTERS s.l5 refl (found_letter base rover 2 s.l5 (a 2 (omega arith))) in
-    rw (l5, l2) refl)
+    let l2_used : (s.l2 == 0) ≡ false = some_letter L2_LETTERS s.l2 refl (found_letter base rover 1 s.l2 (a 1 (omega arith))) in
+    let l5_used : (s.l5 == 0) ≡ false = some_letter L5_LETTERS s.l5 refl (found_letter base rover 2 s.l5 (a 2 (omega arith))) in
+    rw (l5_used, l2_used) refl)
     n number are

@@ -27,11 +27,11 @@ listed text name file told end is end_is = inl (record { verdict = verdict_at en
 -- a file that isn't
 stops : (told : List ℕ → Option (List ℕ)) (name : List ℕ) (end : Ending) → StopsAtObs Gps told name end → TextEnds list_job told name end
 stops told name end (inl by_text) =
-    let r = by_text.ends_so in
+    let reason = by_text.ends_so in
     inl (record {
       text = by_text.text;
       is = by_text.is;
-      ends_so = inr (record { at = r.at; refused = record { none = r.none; place = record { first = r.first; gives_is = r.gives_is } }; end_is = r.end_is });
+      ends_so = inr (record { at = reason.at; refused = record { none = reason.none; place = record { first = reason.first; gives_is = reason.gives_is } }; end_is = reason.end_is });
     })
 stops told name end (inr unloaded) = inr unloaded
 

@@ -17,11 +17,11 @@ pub record Step (t s q : ℤ) (i m : ℕ) : Type 0 where
 -- a word holds the next sum, where each of the parts is at most m
 pub step : (s q : ℤ) (i m : ℕ) → pos 0 ≤ℤ s → s ≤ℤ pos (i * m) → pos 0 ≤ℤ q → q ≤ℤ pos m → (i + 1) * m ≤ 2 ^ 125 → Step (to_z w128 (of_z w128 (s +ℤ to_z w128 (of_z w128 q)))) s q i m
 step s q i m h g k l n =
-    let e : to_z w128 (of_z w128 (s +ℤ to_z w128 (of_z w128 q))) ≡ s +ℤ q = sum_word s q h (omega (arith, lins)) k (omega (arith, lins)) in
+    let same_sum : to_z w128 (of_z w128 (s +ℤ to_z w128 (of_z w128 q))) ≡ s +ℤ q = sum_word s q h (omega (arith, lins)) k (omega (arith, lins)) in
     record {
-      is = e;
-      from = rw e (both_nn h k);
-      to = rw e (omega (arith, lins));
+      is = same_sum;
+      from = rw same_sum (both_nn h k);
+      to = rw same_sum (omega (arith, lins));
     }
 
 pub times_below : (a n m : ℕ) → a ≤ n → n ≤ 15 → m ≤ 2 ^ 110 → a * m ≤ 2 ^ 125

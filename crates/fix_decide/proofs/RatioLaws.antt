@@ -33,9 +33,9 @@ sign_over k n q some over from = mul_le_cancel (pos 0) q.num k some
 
 spread_from : (s : List Rational) → pos 0 ≤ℤ (spread_of_rationals s).num
 spread_from s =
-    let c : HasCommonDenominator s = common s in
-    sign_over (c.denominator * c.denominator) (spread c.numerators) (spread_of_rationals s) (mul-pos c.positive c.positive) (spread_over (pos c.denominator) c.numerators s c.are)
-    (spread_nonneg c.numerators)
+    let common_denominator : HasCommonDenominator s = common s in
+    sign_over (common_denominator.denominator * common_denominator.denominator) (spread common_denominator.numerators) (spread_of_rationals s) (mul-pos common_denominator.positive common_denominator.positive) (spread_over (pos common_denominator.denominator) common_denominator.numerators s common_denominator.are)
+    (spread_nonneg common_denominator.numerators)
 
 group_sum_from : (n : ℤ) (z : List ℤ) (b : Baseline) (gs : List SignalGroup) (qs : List (List RowData)) → GroupsOf n gs → pos 0 ≤ℤ (group_sum z b gs qs).num
 group_sum_from n z b [] qs h = omega (arith, lins)

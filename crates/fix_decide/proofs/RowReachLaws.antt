@@ -21,10 +21,10 @@ use Rattle.fix_decide.specs.UpperSums.{scalar_product, centre, rad, reach_of}
 floor_by_ceil : (y p : ℤ) (m : ℕ) → 0 < m → floor_div ((y *ℤ pos m) -ℤ p) m ≡ y -ℤ ceil_div p m
 floor_by_ceil y p m h =
     let c : ℤ = ceil_div p m in
-    let e : (y -ℤ c) *ℤ pos m ≡ (y *ℤ pos m) -ℤ (c *ℤ pos m) = same_by (y ∷ c ∷ pos m ∷ []) (λ y c m. ((y ⊖ c) ⊗ m, y ⊗ m ⊖ c ⊗ m)) refl in
+    let product_expands : (y -ℤ c) *ℤ pos m ≡ (y *ℤ pos m) -ℤ (c *ℤ pos m) = same_by (y ∷ c ∷ pos m ∷ []) (λ y c m. ((y ⊖ c) ⊗ m, y ⊗ m ⊖ c ⊗ m)) refl in
     sym (floor_unique ((y *ℤ pos m) -ℤ p) (y -ℤ c) m h
-    (rw e (low (y *ℤ pos m) (c *ℤ pos m) p (ceil_le p m h)))
-    (rw e (high (y *ℤ pos m) (c *ℤ pos m) p (pos m) (ceil_lt p m h))))
+    (rw product_expands (low (y *ℤ pos m) (c *ℤ pos m) p (ceil_le p m h)))
+    (rw product_expands (high (y *ℤ pos m) (c *ℤ pos m) p (pos m) (ceil_lt p m h))))
   where
     low : (a b p : ℤ) → p ≤ℤ b → (a -ℤ b) ≤ℤ (a -ℤ p)
     low a b p h = omega (arith, lins)

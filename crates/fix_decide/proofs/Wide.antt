@@ -13,9 +13,9 @@ on_err (Err e) p = p
 -- where all are narrow none is wide
 pub narrow_not_wide : {R : Type 0} (f : R → ResidualBox) (rows : List R) → All IsNarrow (map f rows) → Any (λ r. pos (2 ^ 33) ≤ℤ extent (f r)) rows → ⊥
 narrow_not_wide f rows h (k, x, inside, is, wide) =
-    let l : k < length (map f rows) = subst (λ (n : ℕ). k < n) (sym (length-map rows f)) inside in
-    let n : IsNarrow (f x) = subst IsNarrow (get_or-map f rows k x (f x) inside ∙ ap f is) (h k (f x) l) in
-    apart (extent (f x)) n.below wide
+    let place_within : k < length (map f rows) = subst (λ (n : ℕ). k < n) (sym (length-map rows f)) inside in
+    let is_narrow : IsNarrow (f x) = subst IsNarrow (get_or-map f rows k x (f x) inside ∙ ap f is) (h k (f x) place_within) in
+    apart (extent (f x)) is_narrow.below wide
   where
     apart : (e : ℤ) → e <ℤ pos (2 ^ 33) → pos (2 ^ 33) ≤ℤ e → ⊥
     apart e h g = omega (arith, lins)

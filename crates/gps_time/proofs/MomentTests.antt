@@ -21,38 +21,38 @@ test_z a b is = to_true (le_z a b) is.le
 
 pub is_gps_date-holds : (y m d : ℕ) → is_gps_date y m d ≡ true → IsGpsDate y m d
 is_gps_date-holds y m d is =
-    let ys = nat_le y 9999 in
-    let m1 = nat_le 1 m in
-    let m2 = nat_le m 12 in
-    let d1 = nat_le 1 d in
-    let d2 = nat_le d (days_in_month (pos y) m) in
-    let f = le_z first_day (days_from_civil (pos y) m d) in
-    let l = le_z (days_from_civil (pos y) m d) last_day in
-    let e6 : (ys && m1 && m2 && d1 && d2 && f) ≡ true = (and_parts _ l is).0 in
-    let e5 : (ys && m1 && m2 && d1 && d2) ≡ true = (and_parts _ f e6).0 in
-    let e4 : (ys && m1 && m2 && d1) ≡ true = (and_parts _ d2 e5).0 in
-    let e3 : (ys && m1 && m2) ≡ true = (and_parts _ d1 e4).0 in
-    let e2 : (ys && m1) ≡ true = (and_parts _ m2 e3).0 in
+    let year_at_most = nat_le y 9999 in
+    let month_at_least = nat_le 1 m in
+    let month_at_most = nat_le m 12 in
+    let day_at_least = nat_le 1 d in
+    let day_at_most = nat_le d (days_in_month (pos y) m) in
+    let not_before_first = le_z first_day (days_from_civil (pos y) m d) in
+    let not_after_last = le_z (days_from_civil (pos y) m d) last_day in
+    let first_six_hold : (year_at_most && month_at_least && month_at_most && day_at_least && day_at_most && not_before_first) ≡ true = (and_parts _ not_after_last is).0 in
+    let first_five_hold : (year_at_most && month_at_least && month_at_most && day_at_least && day_at_most) ≡ true = (and_parts _ not_before_first first_six_hold).0 in
+    let first_four_hold : (year_at_most && month_at_least && month_at_most && day_at_least) ≡ true = (and_parts _ day_at_most first_five_hold).0 in
+    let first_three_hold : (year_at_most && month_at_least && month_at_most) ≡ true = (and_parts _ day_at_least first_four_hold).0 in
+    let first_two_hold : (year_at_most && month_at_least) ≡ true = (and_parts _ month_at_most first_three_hold).0 in
     record {
       civil = (
-        (below (negsuc 9998) (pos y) refl, below (pos y) (pos 9999) (and_parts ys m1 e2).0),
-        (leb-true 1 m (and_parts ys m1 e2).1, leb-true m 12 (and_parts _ m2 e3).1),
-        (leb-true 1 d (and_parts _ d1 e4).1, leb-true d (days_in_month (pos y) m) (and_parts _ d2 e5).1),
+        (below (negsuc 9998) (pos y) refl, below (pos y) (pos 9999) (and_parts year_at_most month_at_least first_two_hold).0),
+        (leb-true 1 m (and_parts year_at_most month_at_least first_two_hold).1, leb-true m 12 (and_parts _ month_at_most first_three_hold).1),
+        (leb-true 1 d (and_parts _ day_at_least first_four_hold).1, leb-true d (days_in_month (pos y) m) (and_parts _ day_at_most first_five_hold).1),
       );
-      from_first = below first_day (days_from_civil (pos y) m d) (and_parts _ f e6).1;
-      to_last = below (days_from_civil (pos y) m d) last_day (and_parts _ l is).1;
+      from_first = below first_day (days_from_civil (pos y) m d) (and_parts _ not_before_first first_six_hold).1;
+      to_last = below (days_from_civil (pos y) m d) last_day (and_parts _ not_after_last is).1;
     }
 
 pub is_moment-holds : (y m d h n p : ℕ) → is_moment y m d h n p ≡ true → IsMoment y m d h n p
 unfolding is_moment
 is_moment-holds y m d h n p is =
     let date = is_gps_date y m d in
-    let e2 : (date && nat_le h 23 && nat_le n 59) ≡ true = (and_parts _ (nat_le p 599_999_999) is).0 in
-    let e1 : (date && nat_le h 23) ≡ true = (and_parts _ (nat_le n 59) e2).0 in
+    let holds_to_minute : (date && nat_le h 23 && nat_le n 59) ≡ true = (and_parts _ (nat_le p 599_999_999) is).0 in
+    let holds_to_hour : (date && nat_le h 23) ≡ true = (and_parts _ (nat_le n 59) holds_to_minute).0 in
     record {
-      date = is_gps_date-holds y m d (and_parts date (nat_le h 23) e1).0;
-      hour_in = leb-true h 23 (and_parts date (nat_le h 23) e1).1;
-      minute_in = leb-true n 59 (and_parts _ (nat_le n 59) e2).1;
+      date = is_gps_date-holds y m d (and_parts date (nat_le h 23) holds_to_hour).0;
+      hour_in = leb-true h 23 (and_parts date (nat_le h 23) holds_to_hour).1;
+      minute_in = leb-true n 59 (and_parts _ (nat_le n 59) holds_to_minute).1;
       part_in = leb-true p 599_999_999 (and_parts _ (nat_le p 599_999_999) is).1;
     }
 

@@ -59,7 +59,7 @@ rises key least [] rising first = tt
 rises key least (x ∷ xs) rising first = (first x (omega arith), rises key (key x + 1) xs (λ i j d before inside. rising (suc i) (suc j) d (omega arith) (omega arith)) (λ d some. next d some))
   where
     next : (d : _) → 0 < length xs → key x + 1 ≤ key (get_or xs 0 d)
-    next d some = let h : key x < key (get_or xs 0 d) = rising zero (suc zero) d (omega arith) (omega arith) in omega (arith, h)
+    next d some = let rises_here : key x < key (get_or xs 0 d) = rising zero (suc zero) d (omega arith) (omega arith) in omega (arith, rises_here)
 
 -- ---- the rows of a pair
 
@@ -68,14 +68,14 @@ pub rows_accepted : {S : Type 0} (rules : Rules S (Unit {0})) (ss : List ℕ) (a
     → AreAccepted rules after rest → AreAccepted rules (before (length rows) least) (row_lines ss rows ++ rest)
 rows_accepted {S} rules ss arcs number before after least [] rest taken signals few of_pair whole rising behind = subst (λ (s : S). AreAccepted rules s rest) (sym (taken.ends least)) behind
 rows_accepted {S} rules ss arcs number before after least (r ∷ rows) rest taken signals few of_pair whole rising behind =
-    let is = All-head (IsOfPair arcs number) r rows of_pair in
+    let is_of_pair = All-head (IsOfPair arcs number) r rows of_pair in
     let wide = All-head IsWholeRow r rows whole in
-    let zs = row_small ss arcs number r few is in
+    let numbers_small = row_small ss arcs number r few is_of_pair in
     let count : length (row_numbers ss r) ≤ MOST_NUMBERS = omega (arith, row_count ss r wide, signals) in
-    let short = line_length (codes "row") (row_numbers ss r) (lit≤ tt) count zs in
+    let short = line_length (codes "row") (row_numbers ss r) (lit≤ tt) count numbers_small in
     let left : ℕ = suc (length rows) in
     let fewer : suc (length rows) - 1 ≡ length rows = omega arith in
-    let reads = row_spells ss arcs number least r few is wide rising.0 in
+    let reads = row_spells ss arcs number least r few is_of_pair wide rising.0 in
     let later = rows_accepted rules ss arcs number before after (r.arc + 1) rows rest taken signals few
     (All-tail (IsOfPair arcs number) r rows of_pair) (All-tail IsWholeRow r rows whole) rising.1 behind in
     let next = subst (λ (n : ℕ). AreAccepted rules (before n (r.arc + 1)) (row_lines ss rows ++ rest)) (sym fewer) later in
@@ -128,10 +128,10 @@ pub arcs_accepted : {S : Type 0} (rules : Rules S (Unit {0})) (version : Version
     → AreAccepted rules (before 0 (done ++ arcs)) rest → AreAccepted rules (before (length arcs) done) (arc_lines (used_signals l2 l5) arcs ++ rest)
 arcs_accepted rules version l2 l5 before done [] rest taken ranges sats used whole few some behind = subst (λ (l : List Arc). AreAccepted rules (before 0 l) rest) (append-nil done) behind
 arcs_accepted rules version l2 l5 before done (a ∷ arcs) rest taken ranges sats used whole few some behind =
-    let ss = used_signals l2 l5 in
-    let is = All-head IsArcInRange a arcs ranges in
+    let signals = used_signals l2 l5 in
+    let is_in_range = All-head IsArcInRange a arcs ranges in
     let sat = All-head (HasSatOf version) a arcs sats in
-    let off = All-head (HasUsedShifts ss) a arcs used in
+    let off = All-head (HasUsedShifts signals) a arcs used in
     let wide = All-head IsWholeArc a arcs whole in
     let more = free_more a arcs in
     let pushed = free_push done a in
@@ -139,13 +139,13 @@ arcs_accepted rules version l2 l5 before done (a ∷ arcs) rest taken ranges sat
     let fewer : suc (length arcs) - 1 ≡ length arcs = omega arith in
     let may : may_stand (free_count done) left a.datum ≡ true =
     stands (free_count done) left (free_count arcs) a.datum (omega arith) (omega (arith, few, more)) (omega (arith, some, more)) (λ short. none_free arcs (omega (arith, short))) in
-    let reads = arc_spells version l2 l5 (free_count done) left a is sat off wide may in
+    let reads = arc_spells version l2 l5 (free_count done) left a is_in_range sat off wide may in
     let with_this = subst (λ (l : List Arc). AreAccepted rules (before 0 l) rest) (sym (append_assoc done (a ∷ []) arcs)) behind in
     let later = arcs_accepted rules version l2 l5 before (done ++ a ∷ []) arcs rest taken (All-tail IsArcInRange a arcs ranges) (All-tail (HasSatOf version) a arcs sats)
-    (All-tail (HasUsedShifts ss) a arcs used) (All-tail IsWholeArc a arcs whole) (omega (arith, pushed, more, few)) (omega (arith, pushed, more, some)) with_this in
-    let next = subst (λ (n : ℕ). AreAccepted rules (before n (done ++ a ∷ [])) (arc_lines ss arcs ++ rest)) (sym fewer) later in
-    line_accepted rules (before left done) (arc_in version ss (free_count done) left) (λ (x : Arc). before (left - 1) (done ++ x ∷ [])) a (arc_line ss a) (arc_lines ss arcs ++ rest)
-    (taken.takes left done (omega arith)) (arc_length ss a is (bands_good l2 l5).few) reads next
+    (All-tail (HasUsedShifts signals) a arcs used) (All-tail IsWholeArc a arcs whole) (omega (arith, pushed, more, few)) (omega (arith, pushed, more, some)) with_this in
+    let next = subst (λ (n : ℕ). AreAccepted rules (before n (done ++ a ∷ [])) (arc_lines signals arcs ++ rest)) (sym fewer) later in
+    line_accepted rules (before left done) (arc_in version signals (free_count done) left) (λ (x : Arc). before (left - 1) (done ++ x ∷ [])) a (arc_line signals a) (arc_lines signals arcs ++ rest)
+    (taken.takes left done (omega arith)) (arc_length signals a is_in_range (bands_good l2 l5).few) reads next
   where
     none_free : (xs : List Arc) → length xs ≤ 0 → free_count xs ≡ 0
     none_free [] h = refl
@@ -156,10 +156,10 @@ pub counted_arcs_accepted : {S : Type 0} (rules : Rules S (Unit {0})) (version :
     → TakesLine rules s (count_in (codes "arcs") 2 200) (λ n. before n []) → ArcsAreTaken rules version (used_signals l2 l5) before → AreArcs arcs → All (HasSatOf version) arcs
     → All (HasUsedShifts (used_signals l2 l5)) arcs → All IsWholeArc arcs → AreAccepted rules (before 0 arcs) rest → AreAccepted rules s (counted_arcs (used_signals l2 l5) arcs ++ rest)
 counted_arcs_accepted rules version l2 l5 s before arcs rest takes taken are sats used whole behind =
-    let ss = used_signals l2 l5 in
-    let n = length arcs in
-    let few : n < 2 ^ 126 = omega (arith, are.few) in
-    let short = line_length (codes "arcs") (pos n ∷ []) (lit≤ tt) (lit≤ tt) (few, tt) in
-    let reads = count_spells (codes "arcs") 2 200 n are.some are.few (omega arith) in
+    let signals = used_signals l2 l5 in
+    let arc_count = length arcs in
+    let few : arc_count < 2 ^ 126 = omega (arith, are.few) in
+    let short = line_length (codes "arcs") (pos arc_count ∷ []) (lit≤ tt) (lit≤ tt) (few, tt) in
+    let reads = count_spells (codes "arcs") 2 200 arc_count are.some are.few (omega arith) in
     let later = arcs_accepted rules version l2 l5 before [] arcs rest taken are.ranges sats used whole (omega (arith, are.few_free)) (omega (arith, are.some_free)) behind in
-    line_accepted rules s (count_in (codes "arcs") 2 200) (λ (n : ℕ). before n []) n (count_line (codes "arcs") n) (arc_lines ss arcs ++ rest) takes short reads later
+    line_accepted rules s (count_in (codes "arcs") 2 200) (λ (arc_count : ℕ). before arc_count []) arc_count (count_line (codes "arcs") arc_count) (arc_lines signals arcs ++ rest) takes short reads later

@@ -21,7 +21,7 @@ pub contains_first : (xs : List (List ℤ)) (q : List ℤ) → Contains (q ∷ x
 contains_first xs q = (0, omega arith, refl)
 
 pub contains_later : (xs : List (List ℤ)) (x q : List ℤ) → Contains xs q → Contains (x ∷ xs) q
-contains_later xs x q c = (suc c.0, (let h = c.1 in omega arith), c.2)
+contains_later xs x q c = (suc c.0, (let place_below = c.1 in omega arith), c.2)
 
 -- the list without that place
 without : (ys : List (List ℤ)) (q : List ℤ) → IsOneOf ys q → List (List ℤ)
@@ -33,7 +33,7 @@ length-without : (ys : List (List ℤ)) (q : List ℤ) (m : IsOneOf ys q) → le
 unfolding without
 length-without [] q m = absurd m
 length-without (y ∷ ys) q (inl e) = omega arith
-length-without (y ∷ ys) q (inr m) = let r = length-without ys q m in omega arith
+length-without (y ∷ ys) q (inr m) = let one_shorter = length-without ys q m in omega arith
 
 still_there : (ys : List (List ℤ)) (q r : List ℤ) (m : IsOneOf ys q) → (q ≡ r → ⊥) → IsOneOf ys r → IsOneOf (without ys q m) r
 unfolding without
@@ -46,10 +46,10 @@ still_there (y ∷ ys) q r (inr m) d (inr n) = inr (still_there ys q r m d n)
 at_most : (xs ys : List (List ℤ)) → AllPairs (λ s t. s ≢ t) xs → All (IsOneOf ys) xs → length xs ≤ length ys
 at_most [] ys d e = omega arith
 at_most (x ∷ xs) ys d e =
-    let m : IsOneOf ys x = e 0 x (omega arith) in
-    let n : length (without ys x m) + 1 ≡ length ys = length-without ys x m in
-    let r : length xs ≤ length (without ys x m) = at_most xs (without ys x m) (λ i j q l h. d (suc i) (suc j) q (omega arith) (omega arith))
-    (λ k q h. still_there ys x (get_or xs k q) m (d 0 (suc k) q (omega arith) (omega arith)) (e (suc k) q (omega arith))) in
+    let is_one_of : IsOneOf ys x = e 0 x (omega arith) in
+    let one_fewer : length (without ys x is_one_of) + 1 ≡ length ys = length-without ys x is_one_of in
+    let fewer_left : length xs ≤ length (without ys x is_one_of) = at_most xs (without ys x is_one_of) (λ i j q l h. d (suc i) (suc j) q (omega arith) (omega arith))
+    (λ k q h. still_there ys x (get_or xs k q) is_one_of (d 0 (suc k) q (omega arith) (omega arith)) (e (suc k) q (omega arith))) in
     omega arith
 
 not_past : (a l : ℤ) → l ≤ℤ a → a <ℤ l → ⊥
@@ -63,7 +63,7 @@ met_within f p s q qs w (inr (inr o)) = absurd o
 -- different suffixes that a search has visited are at most as many as its visits
 pub within_most : (f : SearchForm) (p : ℤ) (fs : List Level) (s : List ℤ) (n : ℕ) (qs : List (List ℤ)) → AllPairs (λ q r. q ≢ r) qs → (v : HasVisited f p fs s n) →
     All (Contains v.suffixes) qs → length qs ≤ n
-within_most f p fs s n qs d v w = let e = v.many in let l = at_most qs v.suffixes d (λ k q h. one (get_or qs k q) (w k q h)) in omega arith
+within_most f p fs s n qs d v w = let many_suffixes = v.many in let at_most_suffixes = at_most qs v.suffixes d (λ k q h. one (get_or qs k q) (w k q h)) in omega arith
   where
     one : (q : List ℤ) → Contains v.suffixes q → IsOneOf v.suffixes q
     one q c = one_at v.suffixes q c.0 c.1 c.2
@@ -76,4 +76,4 @@ visited_all f p s n m h v = record { each = λ qs d w. most qs (at_most qs v.suf
     one q w = met_within f p s q v.suffixes w (v.met q w.some w.most)
 
     most : (qs : List (List ℤ)) → length qs ≤ length v.suffixes → length qs ≤ m
-    most qs l = let e = v.many in omega arith
+    most qs l = let many_suffixes = v.many in omega arith

@@ -45,32 +45,32 @@ unfolding low
 searchable f h = record {
   some = omega arith;
   each = length_stored f.d f.l f.columns 3 (integers_of f);
-  weights_from = λ k o l. subst (λ (a : Factor). pos 1 ≤ℤ a.d) (sym (get_stored f.d f.l f.columns 3 (integers_of f) k o (at l))) (f.kept_in (3 + k) (omega arith) (let m = at l in omega arith)).0;
-  weights_to = λ k o l. subst (λ (a : Factor). a.d ≤ℤ pos (2 ^ 52)) (sym (get_stored f.d f.l f.columns 3 (integers_of f) k o (at l))) (f.kept_in (3 + k) (omega arith) (let m = at l in omega arith)).1;
+  weights_from = λ k o l. subst (λ (a : Factor). pos 1 ≤ℤ a.d) (sym (get_stored f.d f.l f.columns 3 (integers_of f) k o (at l))) (f.kept_in (3 + k) (omega arith) (let place_below = at l in omega arith)).0;
+  weights_to = λ k o l. subst (λ (a : Factor). a.d ≤ℤ pos (2 ^ 52)) (sym (get_stored f.d f.l f.columns 3 (integers_of f) k o (at l))) (f.kept_in (3 + k) (omega arith) (let place_below = at l in omega arith)).1;
   g_in = g_small f;
-  below = λ z e. let k : 0 ≡ integers_of f - length z = omega arith in subst (λ (j : ℕ). lower_sum f.g (drop j (factors_of f)) z ≤ℤ (pos (2 ^ 60) *ℤ value_of f z)) k (lower_sums_below f z e);
+  below = λ z e. let none_left : 0 ≡ integers_of f - length z = omega arith in subst (λ (j : ℕ). lower_sum f.g (drop j (factors_of f)) z ≤ℤ (pos (2 ^ 60) *ℤ value_of f z)) none_left (lower_sums_below f z e);
 }
   where
     at : {k : ℕ} → k < length (factors_of f) → k < integers_of f
-    at l = let e = length_stored f.d f.l f.columns 3 (integers_of f) in omega arith
+    at l = let stored_length = length_stored f.d f.l f.columns 3 (integers_of f) in omega arith
 
 -- ---- what the code reads
 pub weight_is : (f : Form) (z : List ℤ) (i : ℕ) → i < integers_of f → integers_of f ≤ length z → weight (search_form f) (suffix z (i + 1) (integers_of f)) ≡ get_or f.d (3 + i) (pos 0)
 unfolding weight
 weight_is f z i h k =
-    let n : length (suffix z (i + 1) (integers_of f)) ≡ integers_of f - (i + 1) = suffix-length z (i + 1) (integers_of f) k in
-    let e : integers_of f - 1 - length (suffix z (i + 1) (integers_of f)) ≡ i = omega arith in
-    ap (λ j. (get_or (factors_of f) j no_factor).d) e ∙ ap (λ a. a.d) (get_stored f.d f.l f.columns 3 (integers_of f) i no_factor h)
+    let suffix_long : length (suffix z (i + 1) (integers_of f)) ≡ integers_of f - (i + 1) = suffix-length z (i + 1) (integers_of f) k in
+    let place_is : integers_of f - 1 - length (suffix z (i + 1) (integers_of f)) ≡ i = omega arith in
+    ap (λ j. (get_or (factors_of f) j no_factor).d) place_is ∙ ap (λ a. a.d) (get_stored f.d f.l f.columns 3 (integers_of f) i no_factor h)
 
 pub rest_is : (f : Form) (z : List ℤ) (i : ℕ) → i < integers_of f → integers_of f ≤ length z →
     rest (search_form f) (suffix z (i + 1) (integers_of f)) ≡ dot (list_from (λ r. entry f.l r (3 + i)) (3 + (i + 1)) (integers_of f - (i + 1) + 1)) (suffix z (i + 1) (integers_of f) ++ pos 1 ∷ [])
 unfolding rest
 rest_is f z i h k =
-    let n : length (suffix z (i + 1) (integers_of f)) ≡ integers_of f - (i + 1) = suffix-length z (i + 1) (integers_of f) k in
-    let e : integers_of f - 1 - length (suffix z (i + 1) (integers_of f)) ≡ i = omega arith in
-    let a : suc (3 + i) ≡ 3 + (i + 1) = omega arith in
-    let b : f.columns - (3 + i) - 1 ≡ integers_of f - (i + 1) + 1 = omega arith in
-    let v : List ℤ = suffix z (i + 1) (integers_of f) ++ pos 1 ∷ [] in
-    ap (λ j. dot (get_or (factors_of f) j no_factor).l v) e
-    ∙ ap (λ (t : Factor). dot t.l v) (get_stored f.d f.l f.columns 3 (integers_of f) i no_factor h)
-    ∙ ap₂ (λ j c. dot (list_from (λ r. entry f.l r (3 + i)) j c) v) a b
+    let suffix_long : length (suffix z (i + 1) (integers_of f)) ≡ integers_of f - (i + 1) = suffix-length z (i + 1) (integers_of f) k in
+    let place_is : integers_of f - 1 - length (suffix z (i + 1) (integers_of f)) ≡ i = omega arith in
+    let place_after : suc (3 + i) ≡ 3 + (i + 1) = omega arith in
+    let columns_left : f.columns - (3 + i) - 1 ≡ integers_of f - (i + 1) + 1 = omega arith in
+    let suffix_with_one : List ℤ = suffix z (i + 1) (integers_of f) ++ pos 1 ∷ [] in
+    ap (λ j. dot (get_or (factors_of f) j no_factor).l suffix_with_one) place_is
+    ∙ ap (λ (t : Factor). dot t.l suffix_with_one) (get_stored f.d f.l f.columns 3 (integers_of f) i no_factor h)
+    ∙ ap₂ (λ j c. dot (list_from (λ r. entry f.l r (3 + i)) j c) suffix_with_one) place_after columns_left

@@ -14,7 +14,7 @@ use Rattle.int_search.proofs.SuffixArrays.{suffix-cons, suffix-none, suffix-leng
 
 -- ---- the product of a row, from place k on
 drop_at : (r : List ℤ) (k : ℕ) → k < length r → drop k r ≡ get_or r k (pos 0) ∷ drop (k + 1) r
-drop_at r k h = let e : k + 1 ≡ suc k = add-one k in rw e (go r k h)
+drop_at r k h = let next_is : k + 1 ≡ suc k = add-one k in rw next_is (go r k h)
   where
     go : (r : List ℤ) (k : ℕ) → k < length r → drop k r ≡ get_or r k (pos 0) ∷ drop (suc k) r
     go [] k h = absurd (omega arith)
@@ -34,7 +34,7 @@ length_apply [] v = refl
 length_apply (r ∷ m) v = ap (λ k. suc k) (length_apply m v)
 
 pub image_length : (m : List (List ℤ)) (n : ℕ) (v : List ℤ) → n ≤ length m → length (image_of m n v) ≡ n
-image_length m n v h = length_apply (take n m) v ∙ (let e = length-take n m in omega arith)
+image_length m n v h = length_apply (take n m) v ∙ (let taken_length = length-take n m in omega arith)
 
 pub image_at : (m : List (List ℤ)) (n i : ℕ) (v : List ℤ) → i < n → n ≤ length m → get_or (image_of m n v) i (pos 0) ≡ dot (get_or m i []) v
 image_at m zero i v h g = absurd (omega arith)
@@ -98,21 +98,21 @@ pub identity_is : (m : List (List ℤ)) (size n : ℕ) (v : List ℤ) → HasSha
 identity_is m size n v s own others h e = same_entries (image_of m n v) v (l ∙ sym e) (λ k g. at k (rw (← l) g))
   where
     l : length (image_of m n v) ≡ n
-    l = image_length m n v (let r = s.rows in omega arith)
+    l = image_length m n v (let same_rows = s.rows in omega arith)
 
     at : (k : ℕ) → k < n → get_or (image_of m n v) k (pos 0) ≡ get_or v k (pos 0)
-    at k g = image_at m n k v g (let r = s.rows in omega arith)
-        ∙ dot_unit (get_or m k []) v k (omega arith) (let c = s.columns k (omega arith) in omega arith) (own k (omega arith)) (λ j d. others k j (λ i. d (sym i)))
+    at k g = image_at m n k v g (let same_rows = s.rows in omega arith)
+        ∙ dot_unit (get_or m k []) v k (omega arith) (let row_full = s.columns k (omega arith) in omega arith) (own k (omega arith)) (λ j d. others k j (λ i. d (sym i)))
 
 -- ---- the loop that writes an image
 pub done_set : (m : List (List ℤ)) (v y : List ℤ) (i : ℕ) (x : ℤ) → i < length y → ((k : ℕ) → k < i → get_or y k (pos 0) ≡ dot (get_or m k []) v) → x ≡ dot (get_or m i []) v → (k : ℕ) →
     k < i + 1 → get_or (set y i x) k (pos 0) ≡ dot (get_or m k []) v
 done_set m v y i x l h e = below_more _ _
-    (λ k g. let ne : k ≢ i = omega arith in rw get_or-set_other (h k g))
+    (λ k g. let not_there : k ≢ i = omega arith in rw get_or-set_other (h k g))
     (rw get_or-set_same e)
 
 pub image_done : (m : List (List ℤ)) (v y : List ℤ) (n : ℕ) → n ≤ length y → n ≤ length m → ((k : ℕ) → k < n → get_or y k (pos 0) ≡ dot (get_or m k []) v) → suffix y 0 n ≡ image_of m n v
-image_done m v y n h g d = same_entries (suffix y 0 n) (image_of m n v) (l ∙ sym (image_length m n v g)) (λ k i. let j : k < n = rw (← l) i in suffix_at y n k j h ∙ d k j ∙ sym (image_at m n k v j g))
+image_done m v y n h g d = same_entries (suffix y 0 n) (image_of m n v) (l ∙ sym (image_length m n v g)) (λ k i. let place_below : k < n = rw (← l) i in suffix_at y n k place_below h ∙ d k place_below ∙ sym (image_at m n k v place_below g))
   where
     l : length (suffix y 0 n) ≡ n
-    l = let e = suffix-length y 0 n h in omega arith
+    l = let suffix_long = suffix-length y 0 n h in omega arith

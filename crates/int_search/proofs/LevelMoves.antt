@@ -16,21 +16,21 @@ level_fresh f s a h k l = record {
   down_offset_is = k.down_offset_is ∙ sym (offset-is f a.down s);
   above = k.above;
   under = k.under;
-  apart = let e = k.apart in omega (arith, ints);
+  apart = let one_apart = k.apart in omega (arith, ints);
   balanced = fresh_balanced a.up a.down (rest f s) a.up_offset a.down_offset k.apart k.up_offset_is k.down_offset_is k.above k.under;
   low_is = k.low_is;
   within = l;
-  up_size = let e = k.up_size in omega arith;
-  down_size = let e = k.down_size in omega arith;
-  up_offset_size = let e = k.up_offset_size in omega arith;
-  down_offset_size = let e = k.down_offset_size in omega arith;
+  up_size = let up_fits = k.up_size in omega arith;
+  down_size = let down_fits = k.down_size in omega arith;
+  up_offset_size = let up_offset_fits = k.up_offset_size in omega arith;
+  down_offset_size = let down_offset_fits = k.down_offset_size in omega arith;
 }
   where
     fresh_balanced : (x y r u d : ℤ) → x ≡ y +ℤ pos 1 → u ≡ (pos (2 ^ 30) *ℤ x) +ℤ r → d ≡ (pos (2 ^ 30) *ℤ y) +ℤ r → pos 0 ≤ℤ u → d <ℤ pos 0 → unsigned_abs (u +ℤ d) ≤ 2 ^ 30
-    fresh_balanced x y r u d e g h p q = let w : u ≡ d +ℤ pos (2 ^ 30) = omega (arith, polys) in omega (arith, ints)
+    fresh_balanced x y r u d e g h p q = let offsets_apart : u ≡ d +ℤ pos (2 ^ 30) = omega (arith, polys) in omega (arith, ints)
 
 pub fresh_free : (e l : ℤ) (a : Level) → IsFresh e l a → (y : ℤ) → IsFree a y
-fresh_free e l a k y = let m = k.apart in by_lt_z a.down y (λ p. inr (omega (arith, ints))) (λ p. inl p)
+fresh_free e l a k y = let one_apart = k.apart in by_lt_z a.down y (λ p. inr (omega (arith, ints))) (λ p. inl p)
 
 pub moved_takes : (a b : Level) (x c : ℤ) (up : Bool) → a.down <ℤ a.up → Chooses a x c up → Moves a up b → Takes a x b
 moved_takes a b x c true h k m = record {
@@ -76,41 +76,41 @@ same_offset f x y s e = ap (λ z. offset f z s) e
 pub moved_level : (f : SearchForm) (a b : Level) (s : List ℤ) (x c : ℤ) (up : Bool) → IsLevel f a s → Chooses a x c up → Moves a up b → unsigned_abs x < 2 ^ 30 → unsigned_abs c ≤ 2 ^ 62 →
     IsLevel f b s
 moved_level f a b s x c true h k m p q =
-    let n = next_offset f a.up b.up s m.0 in
-    let d = same_offset f a.down b.down s m.2 in
+    let next_up_offset = next_offset f a.up b.up s m.0 in
+    let same_down_offset = same_offset f a.down b.down s m.2 in
     record {
       shorter = h.shorter;
-      up_offset_is = let e = h.up_offset_is in let g = m.1 in omega (arith, lins);
-      down_offset_is = let e = h.down_offset_is in let g = m.3 in omega (arith, lins);
-      above = let e = h.above in let g = m.1 in omega (arith, ints);
-      under = let e = h.under in let g = m.3 in omega (arith, ints);
-      apart = let e = h.apart in let g = m.0 in let w = m.2 in omega (arith, ints);
-      balanced = let e = h.balanced in let g = m.1 in let w = m.3 in let near = k.2 in omega (arith, ints);
+      up_offset_is = let up_offset_is = h.up_offset_is in let up_offset_moves = m.1 in omega (arith, lins);
+      down_offset_is = let down_offset_is = h.down_offset_is in let down_offset_stays = m.3 in omega (arith, lins);
+      above = let above_zero = h.above in let up_offset_grows = m.1 in omega (arith, ints);
+      under = let under_zero = h.under in let down_offset_same = m.3 in omega (arith, ints);
+      apart = let one_apart = h.apart in let up_moves = m.0 in let down_stays = m.2 in omega (arith, ints);
+      balanced = let was_balanced = h.balanced in let up_offset_rises = m.1 in let down_offset_kept = m.3 in let near = k.2 in omega (arith, ints);
       low_is = m.4 ∙ h.low_is;
       within = h.within;
-      up_size = let e = k.0 in let g = m.0 in omega (arith, ints);
-      down_size = let e = h.down_size in let g = m.2 in omega (arith, ints);
-      up_offset_size = let e = k.1 in let g = m.1 in omega (arith, ints);
-      down_offset_size = let e = h.down_offset_size in let g = m.3 in omega (arith, ints);
+      up_size = let entry_is = k.0 in let up_is_next = m.0 in omega (arith, ints);
+      down_size = let down_fits = h.down_size in let down_kept = m.2 in omega (arith, ints);
+      up_offset_size = let offset_is_chosen = k.1 in let up_offset_next = m.1 in omega (arith, ints);
+      down_offset_size = let down_offset_fits = h.down_offset_size in let down_offset_equal = m.3 in omega (arith, ints);
     }
 moved_level f a b s x c false h k m p q =
-    let r : a.down ≡ b.down +ℤ pos 1 = let g = m.0 in omega (arith, ints) in
-    let n = next_offset f b.down a.down s r in
-    let d = same_offset f a.up b.up s m.2 in
+    let old_down_is : a.down ≡ b.down +ℤ pos 1 = let down_falls = m.0 in omega (arith, ints) in
+    let next_down_offset = next_offset f b.down a.down s old_down_is in
+    let same_up_offset = same_offset f a.up b.up s m.2 in
     record {
       shorter = h.shorter;
-      up_offset_is = let e = h.up_offset_is in let g = m.3 in omega (arith, lins);
-      down_offset_is = let e = h.down_offset_is in let g = m.1 in omega (arith, lins);
-      above = let e = h.above in let g = m.3 in omega (arith, ints);
-      under = let e = h.under in let g = m.1 in omega (arith, ints);
-      apart = let e = h.apart in let g = m.0 in let w = m.2 in omega (arith, ints);
-      balanced = let e = h.balanced in let g = m.1 in let w = m.3 in let near = k.2 in omega (arith, ints);
+      up_offset_is = let up_offset_is = h.up_offset_is in let up_offset_stays = m.3 in omega (arith, lins);
+      down_offset_is = let down_offset_is = h.down_offset_is in let down_offset_moves = m.1 in omega (arith, lins);
+      above = let above_zero = h.above in let up_offset_same = m.3 in omega (arith, ints);
+      under = let under_zero = h.under in let down_offset_drops = m.1 in omega (arith, ints);
+      apart = let one_apart = h.apart in let down_moves = m.0 in let up_stays = m.2 in omega (arith, ints);
+      balanced = let was_balanced = h.balanced in let down_offset_sinks = m.1 in let up_offset_kept = m.3 in let near = k.2 in omega (arith, ints);
       low_is = m.4 ∙ h.low_is;
       within = h.within;
-      up_size = let e = h.up_size in let g = m.2 in omega (arith, ints);
-      down_size = let e = k.0 in let g = m.0 in omega (arith, ints);
-      up_offset_size = let e = h.up_offset_size in let g = m.3 in omega (arith, ints);
-      down_offset_size = let e = k.1 in let g = m.1 in omega (arith, ints);
+      up_size = let up_fits = h.up_size in let up_kept = m.2 in omega (arith, ints);
+      down_size = let entry_is = k.0 in let down_is_next = m.0 in omega (arith, ints);
+      up_offset_size = let up_offset_fits = h.up_offset_size in let up_offset_equal = m.3 in omega (arith, ints);
+      down_offset_size = let offset_is_chosen = k.1 in let down_offset_next = m.1 in omega (arith, ints);
     }
 
 pub chosen_offset : (f : SearchForm) (a : Level) (s : List ℤ) (x c : ℤ) (up : Bool) → IsLevel f a s → Chooses a x c up → offset f x s ≡ c
@@ -122,11 +122,11 @@ chosen_nearest a x c true k = record { nearest = inl (k.1, k.2) }
 chosen_nearest a x c false k = record { nearest = inr (k.1, k.2) }
 
 pub chosen_free : (a : Level) (x c : ℤ) (up : Bool) → Chooses a x c up → IsFree a x
-chosen_free a x c true k = inr (let e = k.0 in omega (arith, ints))
-chosen_free a x c false k = inl (let e = k.0 in omega (arith, ints))
+chosen_free a x c true k = inr (let entry_is = k.0 in omega (arith, ints))
+chosen_free a x c false k = inl (let entry_is = k.0 in omega (arith, ints))
 
 pub low_chosen : (f : SearchForm) (a : Level) (s : List ℤ) (x c : ℤ) (up : Bool) → IsSearchable f → IsLevel f a s → Chooses a x c up → low f (x ∷ s) ≡ a.low +ℤ (weight f s *ℤ (c *ℤ c))
 low_chosen f a s x c up m h k =
-    let e : offset f x s ≡ c = chosen_offset f a s x c up h k in
-    let g : a.low ≡ low f s = h.low_is in
-    low-cons f x s m.each h.shorter ∙ ap (λ l. low f s +ℤ (weight f s *ℤ (l *ℤ l))) e ∙ ap (λ l. l +ℤ (weight f s *ℤ (c *ℤ c))) (sym g)
+    let same_offset_is : offset f x s ≡ c = chosen_offset f a s x c up h k in
+    let low_is : a.low ≡ low f s = h.low_is in
+    low-cons f x s m.each h.shorter ∙ ap (λ l. low f s +ℤ (weight f s *ℤ (l *ℤ l))) same_offset_is ∙ ap (λ l. l +ℤ (weight f s *ℤ (c *ℤ c))) (sym low_is)

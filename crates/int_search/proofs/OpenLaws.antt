@@ -18,7 +18,7 @@ pub same_heads : (a b : List ℤ) (x y : ℤ) (s : List ℤ) → a ++ (x ∷ s) 
 same_heads [] [] x y s e = cc
 same_heads [] (z ∷ b) x y s e = absurd (omega (arith, simp length-append at (ap length e)))
 same_heads (z ∷ a) [] x y s e = absurd (omega (arith, simp length-append at (ap length e)))
-same_heads (z ∷ a) (w ∷ b) x y s e = let t : a ++ (x ∷ s) ≡ b ++ (y ∷ s) = cc in same_heads a b x y s t
+same_heads (z ∷ a) (w ∷ b) x y s e = let same_joined : a ++ (x ∷ s) ≡ b ++ (y ∷ s) = cc in same_heads a b x y s same_joined
 
 not_longer : (a : List ℤ) (x y : ℤ) (s : List ℤ) → x ∷ s ≡ a ++ (y ∷ (x ∷ s)) → ⊥
 not_longer a x y s e = omega (arith, simp length-append at (ap length e))
@@ -77,7 +77,7 @@ pub record HasLast (v : List ℤ) : Type 0 where
 
 pub has_last : (x : ℤ) (v : List ℤ) → HasLast (x ∷ v)
 has_last x [] = record { front = []; last = x; split = refl }
-has_last x (y ∷ v) = let h = has_last y v in record { front = x ∷ h.front; last = h.last; split = ap (λ w. x ∷ w) h.split }
+has_last x (y ∷ v) = let shorter_last = has_last y v in record { front = x ∷ shorter_last.front; last = shorter_last.last; split = ap (λ w. x ∷ w) shorter_last.split }
 
 pub inner_after : (a b c : Level) (r : List Level) (x : ℤ) (s v : List ℤ) → Takes a x b → ((y : ℤ) → IsFree c y) → IsOpen (a ∷ r) s v → (v ≡ x ∷ s) ⊎ IsOpen (c ∷ b ∷ r) (x ∷ s) v
 inner_after a b c r x s v t all (inr o) = inr (inr (inr o))
@@ -87,13 +87,13 @@ inner_after a b c r x s v t all (inl o) = go (t.others o.head o.free) o.front o.
     go (inr g) front e = inr (inr (inl (record { head = o.head; front = front; split = e; free = g })))
     go (inl m) [] e = inl (e ∙ ap (λ z. z ∷ s) m)
     go (inl m) (y ∷ front) e =
-        let l = has_last y front in
+        let front_last = has_last y front in
         inr (inl (record {
-          head = l.last;
-          front = l.front;
-          split = e ∙ ap (λ w. w ++ (o.head ∷ s)) l.split ∙ append_assoc l.front (l.last ∷ []) (o.head ∷ s)
-              ∙ ap (λ z. l.front ++ (l.last ∷ (z ∷ s))) m;
-          free = all l.last;
+          head = front_last.last;
+          front = front_last.front;
+          split = e ∙ ap (λ w. w ++ (o.head ∷ s)) front_last.split ∙ append_assoc front_last.front (front_last.last ∷ []) (o.head ∷ s)
+              ∙ ap (λ z. front_last.front ++ (front_last.last ∷ (z ∷ s))) m;
+          free = all front_last.last;
         }))
 
 -- ---- the list of what was visited
@@ -114,7 +114,7 @@ pub visited_more : (f : SearchForm) (p g : ℤ) (fs gs : List Level) (s t : List
     g ≤ℤ p → ((v : List ℤ) → length v ≤ f.size → IsOpen fs s v → (v ≡ q) ⊎ IsOpen gs t v) → HasVisited f p fs s n → HasVisited f g gs t (n + 1)
 visited_more f p g fs gs s t n q o c closed back fell after h = record {
   suffixes = q ∷ h.suffixes;
-  many = let m = h.many in omega arith;
+  many = let many_visited = h.many in omega arith;
   different = AllPairs-cons (λ a b. a ≢ b) q h.suffixes (open_apart fs s q h.suffixes o h.closed) h.different;
   counted = All-cons (Counts f) q h.suffixes c h.counted;
   closed = All-cons (λ v. IsOpen gs t v → ⊥) q h.suffixes closed (closed_still fs gs s t h.suffixes back h.closed);
@@ -149,7 +149,7 @@ visited_same f p fs gs s t n back after h = record {
 pub visited_over : (f : SearchForm) (p : ℤ) (fs : List Level) (s : List ℤ) (n : ℕ) (q : List ℤ) → IsOpen fs s q → Counts f q → HasVisited f p fs s n → IsOver f n
 visited_over f p fs s n q o c h = record {
   suffixes = q ∷ h.suffixes;
-  many = let m = h.many in omega arith;
+  many = let many_visited = h.many in omega arith;
   different = AllPairs-cons (λ a b. a ≢ b) q h.suffixes (open_apart fs s q h.suffixes o h.closed) h.different;
   counted = All-cons (Counts f) q h.suffixes c h.counted;
 }
@@ -168,7 +168,7 @@ pub pop_after : (f : SearchForm) (limit : ℤ) (a : Level) (r : List Level) (s v
     ((y : ℤ) → IsFree a y → limit <ℤ low f (y ∷ s)) → IsOpen (a ∷ r) s v → (limit <ℤ low f v) ⊎ IsOpen r (tail_of s) v
 pop_after f limit a r s v h k far (inr o) = inr o
 pop_after f limit a r s v h k far (inl o) =
-    let e : length (o.front ++ (o.head ∷ s)) ≡ length v = ap length (sym o.split) in
+    let same_length : length (o.front ++ (o.head ∷ s)) ≡ length v = ap length (sym o.split) in
     inl (subst (λ (w : List ℤ). limit <ℤ low f w) (sym o.split)
     (farther limit (low f (o.head ∷ s)) (low f (o.front ++ (o.head ∷ s))) (far o.head o.free) (low_grows f h o.front (o.head ∷ s) (omega arith))))
   where

@@ -24,7 +24,7 @@ abbrev pub IsOwn : List (List ℤ) → Type 0
 IsOwn map = (n : ℕ) (v : List ℤ) → n ≤ MOST_INTEGERS → length v ≡ n → image_of map n v ≡ v
 
 own_image : (form : Form) (map : List (List ℤ)) (v : List ℤ) → IsOwn map → length v ≡ integers_of form → search_image form map v ≡ v
-own_image form map v o e = let m = form.columns_to in o (integers_of form) v (omega arith) e
+own_image form map v o e = let few_columns = form.columns_to in o (integers_of form) v (omega arith) e
 
 -- the order by images is that by the vectors themselves
 own_less : (form : Form) (map : List (List ℤ)) (v w : List ℤ) → IsOwn map → length v ≡ integers_of form → length w ≡ integers_of form →

@@ -25,7 +25,7 @@ rounded_length f zero = ap length (rounded-zero f)
 rounded_length f (suc n) = ap length (rounded-suc f n) ∙ ap (λ k. suc k) (rounded_length f n)
 
 rounded_split : (f : SearchForm) (k n : ℕ) → k ≤ n → (front : List ℤ) × (rounded f n ≡ front ++ rounded f k)
-rounded_split f k zero h = let e : 0 ≡ k = omega arith in ([], ap (rounded f) e)
+rounded_split f k zero h = let none_left : 0 ≡ k = omega arith in ([], ap (rounded f) none_left)
 rounded_split f k (suc n) h = go (same_or_less k n h) (λ l. rounded_split f k n l)
   where
     same_or_less : (k n : ℕ) → k ≤ suc n → (suc n ≡ k) ⊎ (k ≤ n)
@@ -33,7 +33,7 @@ rounded_split f k (suc n) h = go (same_or_less k n h) (λ l. rounded_split f k n
 
     go : (suc n ≡ k) ⊎ (k ≤ n) → (k ≤ n → (front : List ℤ) × (rounded f n ≡ front ++ rounded f k)) → (front : List ℤ) × (rounded f (suc n) ≡ front ++ rounded f k)
     go (inl e) before = ([], ap (rounded f) e)
-    go (inr l) before = let r = before l in (nearest_div (neg_ℤ (rest f (rounded f n))) (2 ^ 30) ∷ r.0, rounded-suc f n ∙ ap (λ s. nearest_div (neg_ℤ (rest f (rounded f n))) (2 ^ 30) ∷ s) r.1)
+    go (inr l) before = let earlier_split = before l in (nearest_div (neg_ℤ (rest f (rounded f n))) (2 ^ 30) ∷ earlier_split.0, rounded-suc f n ∙ ap (λ s. nearest_div (neg_ℤ (rest f (rounded f n))) (2 ^ 30) ∷ s) earlier_split.1)
 
 pub top_first : (f : SearchForm) → value f.p (rounded f f.size) ≤ℤ top f
 unfolding top
@@ -52,21 +52,21 @@ top_wide f v h k = record { wide = inl (omega (arith, ints)) }
 
 pub counts_end : (f : SearchForm) (t q : List ℤ) → IsSearchable f → length (t ++ q) ≡ f.size → 0 < length q → value f.p (t ++ q) ≤ℤ top f → Counts f q
 counts_end f t q h k n m =
-    let g : low f q ≤ℤ low f (t ++ q) = low_grows f h t q (omega arith) in
-    let b : low f (t ++ q) ≤ℤ (pos (2 ^ 60) *ℤ value f.p (t ++ q)) = h.below (t ++ q) k in
-    let l : length (t ++ q) ≡ length t + length q = length-append t q in
-    record { some = n; most = omega arith; within = last (low f q) (low f (t ++ q)) (value f.p (t ++ q)) (top f) g b m }
+    let low_at_most : low f q ≤ℤ low f (t ++ q) = low_grows f h t q (omega arith) in
+    let low_below_value : low f (t ++ q) ≤ℤ (pos (2 ^ 60) *ℤ value f.p (t ++ q)) = h.below (t ++ q) k in
+    let joined_length : length (t ++ q) ≡ length t + length q = length-append t q in
+    record { some = n; most = omega arith; within = last (low f q) (low f (t ++ q)) (value f.p (t ++ q)) (top f) low_at_most low_below_value m }
   where
     last : (a b v t : ℤ) → a ≤ℤ b → b ≤ℤ (pos (2 ^ 60) *ℤ v) → v ≤ℤ t → a ≤ℤ (pos (2 ^ 60) *ℤ t)
     last a b v t h k l = omega (arith, polys)
 
 pub rounded_wide : (f : SearchForm) (k : ℕ) → IsSearchable f → k < f.size → 2 ^ 30 ≤ unsigned_abs (nearest_div (neg_ℤ (rest f (rounded f k))) (2 ^ 30)) → IsWide f 0
 rounded_wide f k h m w =
-    let r = rounded_split f (suc k) f.size (omega arith) in
-    let e : length (r.0 ++ rounded f (suc k)) ≡ f.size = ap length (sym r.1) ∙ rounded_length f f.size in
-    let v : value f.p (r.0 ++ rounded f (suc k)) ≤ℤ top f = subst (λ (s : List ℤ). value f.p s ≤ℤ top f) r.1 (top_first f) in
-    let c : Counts f (rounded f (suc k)) = counts_end f r.0 (rounded f (suc k)) h e (let n : length (rounded f (suc k)) ≡ suc k = rounded_length f (suc k) in omega arith) v in
-    record { wide = inr (rounded f (suc k), (c, (0, at), inl (r.0, inl r.1))) }
+    let split = rounded_split f (suc k) f.size (omega arith) in
+    let whole_size : length (split.0 ++ rounded f (suc k)) ≡ f.size = ap length (sym split.1) ∙ rounded_length f f.size in
+    let value_at_most : value f.p (split.0 ++ rounded f (suc k)) ≤ℤ top f = subst (λ (s : List ℤ). value f.p s ≤ℤ top f) split.1 (top_first f) in
+    let counts_whole : Counts f (rounded f (suc k)) = counts_end f split.0 (rounded f (suc k)) h whole_size (let rounded_size : length (rounded f (suc k)) ≡ suc k = rounded_length f (suc k) in omega arith) value_at_most in
+    record { wide = inr (rounded f (suc k), (counts_whole, (0, at), inl (split.0, inl split.1))) }
   where
     at : 2 ^ 30 ≤ unsigned_abs (get_or (rounded f (suc k)) 0 (pos 0))
     at = rw (rounded-suc f k) w
@@ -77,10 +77,10 @@ neighbour_is f x s e = ap (first_moved f) e
 
 pub neighbour_wide : (f : SearchForm) (x y : ℤ) (s : List ℤ) → IsSearchable f → rounded f f.size ≡ x ∷ s → y ≡ x +ℤ side (offset f x s) → 2 ^ 30 ≤ unsigned_abs y → IsWide f 0
 neighbour_wide f x y s h e m w =
-    let n : neighbour f ≡ y ∷ s = neighbour_is f x s e ∙ ap (λ z. z ∷ s) (sym m) in
-    let v : value f.p (y ∷ s) ≤ℤ top f = subst (λ (t : List ℤ). value f.p t ≤ℤ top f) n (top_second f) in
-    let l : length (y ∷ s) ≡ f.size = sym (ap length e) ∙ rounded_length f f.size in
-    record { wide = inr (y ∷ s, (counts_end f [] (y ∷ s) h l (omega arith) v, (0, w), inl ([], inr n))) }
+    let neighbour_is_new : neighbour f ≡ y ∷ s = neighbour_is f x s e ∙ ap (λ z. z ∷ s) (sym m) in
+    let value_at_most : value f.p (y ∷ s) ≤ℤ top f = subst (λ (t : List ℤ). value f.p t ≤ℤ top f) neighbour_is_new (top_second f) in
+    let whole_size : length (y ∷ s) ≡ f.size = sym (ap length e) ∙ rounded_length f f.size in
+    record { wide = inr (y ∷ s, (counts_end f [] (y ∷ s) h whole_size (omega arith) value_at_most, (0, w), inl ([], inr neighbour_is_new))) }
 
 pub neighbour_length : (f : SearchForm) → 0 < f.size → length (neighbour f) ≡ f.size
 neighbour_length f h = go (rounded f f.size) refl (rounded_length f f.size)
@@ -128,18 +128,18 @@ pub rounded_next : (f : SearchForm) (z : List ℤ) (i : ℕ) (x : ℤ) → f.siz
     x ≡ nearest_div (neg_ℤ (rest f (suffix z (i + 1) f.size))) (2 ^ 30) →
     suffix (set z i x) i f.size ≡ rounded f (f.size - i)
 rounded_next f z i x k h e g =
-    let n : f.size - i ≡ suc (f.size - (i + 1)) = omega arith in
-    suffix-set z i f.size x h k ∙ ap₂ (λ u v. u ∷ v) (g ∙ ap (λ v. nearest_div (neg_ℤ (rest f v)) (2 ^ 30)) e) e ∙ sym (rounded-suc f (f.size - (i + 1))) ∙ ap (rounded f) (sym n)
+    let size_left : f.size - i ≡ suc (f.size - (i + 1)) = omega arith in
+    suffix-set z i f.size x h k ∙ ap₂ (λ u v. u ∷ v) (g ∙ ap (λ v. nearest_div (neg_ℤ (rest f v)) (2 ^ 30)) e) e ∙ sym (rounded-suc f (f.size - (i + 1))) ∙ ap (rounded f) (sym size_left)
 
 pub rounded_is_wide : (f : SearchForm) (z : List ℤ) (i : ℕ) (x : ℤ) → IsSearchable f → i < f.size → suffix z (i + 1) f.size ≡ rounded f (f.size - (i + 1)) →
     x ≡ nearest_div (neg_ℤ (rest f (suffix z (i + 1) f.size))) (2 ^ 30) →
     2 ^ 30 ≤ unsigned_abs x → IsWide f 0
 rounded_is_wide f z i x k h e g w =
-    let q : x ≡ nearest_div (neg_ℤ (rest f (rounded f (f.size - (i + 1))))) (2 ^ 30) = g ∙ ap (λ v. nearest_div (neg_ℤ (rest f v)) (2 ^ 30)) e in
-    rounded_wide f (f.size - (i + 1)) k (omega arith) (subst (λ (y : ℤ). 2 ^ 30 ≤ unsigned_abs y) q w)
+    let is_nearest : x ≡ nearest_div (neg_ℤ (rest f (rounded f (f.size - (i + 1))))) (2 ^ 30) = g ∙ ap (λ v. nearest_div (neg_ℤ (rest f v)) (2 ^ 30)) e in
+    rounded_wide f (f.size - (i + 1)) k (omega arith) (subst (λ (y : ℤ). 2 ^ 30 ≤ unsigned_abs y) is_nearest w)
 
 pub rounded_first : (f : SearchForm) (z : List ℤ) → suffix z f.size f.size ≡ rounded f (f.size - f.size)
-rounded_first f z = let n : 0 ≡ f.size - f.size = omega arith in suffix-none z f.size f.size (omega arith) ∙ sym (rounded-zero f) ∙ ap (rounded f) n
+rounded_first f z = let none_left : 0 ≡ f.size - f.size = omega arith in suffix-none z f.size f.size (omega arith) ∙ sym (rounded-zero f) ∙ ap (rounded f) none_left
 
 -- ---- the neighbour
 pub point_head : (f : SearchForm) (z : List ℤ) → f.size ≤ length z → 0 < f.size → suffix z 0 f.size ≡ rounded f f.size → rounded f f.size ≡ get_or z 0 (pos 0) ∷ suffix z 1 f.size

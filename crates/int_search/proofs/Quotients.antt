@@ -8,13 +8,13 @@ use Rattle.whole_math.specs.Rounding.{floor_div, ceil_div}
 
 -- the ends of a new level
 pub ends_up : (up rest : ℤ) → up ≡ ceil_div (neg_ℤ rest) (2 ^ 30) → pos 0 ≤ℤ ((pos (2 ^ 30) *ℤ up) +ℤ rest)
-ends_up up rest e = let h = ceil_le (neg_ℤ rest) (2 ^ 30) (omega arith) in rw e (step (ceil_div (neg_ℤ rest) (2 ^ 30)) rest h)
+ends_up up rest e = let at_ceiling = ceil_le (neg_ℤ rest) (2 ^ 30) (omega arith) in rw e (step (ceil_div (neg_ℤ rest) (2 ^ 30)) rest at_ceiling)
   where
     step : (u r : ℤ) → neg_ℤ r ≤ℤ (u *ℤ pos (2 ^ 30)) → pos 0 ≤ℤ ((pos (2 ^ 30) *ℤ u) +ℤ r)
     step u r h = omega (arith, polys, mul_comm_ℤ u (pos (2 ^ 30)))
 
 pub ends_down : (up down rest : ℤ) → up ≡ ceil_div (neg_ℤ rest) (2 ^ 30) → up ≡ down +ℤ pos 1 → ((pos (2 ^ 30) *ℤ down) +ℤ rest) <ℤ pos 0
-ends_down up down rest e g = let h = ceil_lt (neg_ℤ rest) (2 ^ 30) (omega arith) in step (ceil_div (neg_ℤ rest) (2 ^ 30)) down rest h (sym e ∙ g)
+ends_down up down rest e g = let below_ceiling = ceil_lt (neg_ℤ rest) (2 ^ 30) (omega arith) in step (ceil_div (neg_ℤ rest) (2 ^ 30)) down rest below_ceiling (sym e ∙ g)
   where
     step : (u d r : ℤ) → (u *ℤ pos (2 ^ 30)) <ℤ (neg_ℤ r +ℤ pos (2 ^ 30)) → u ≡ d +ℤ pos 1 → ((pos (2 ^ 30) *ℤ d) +ℤ r) <ℤ pos 0
     step u d r h g = omega (arith, polys, mul_comm_ℤ u (pos (2 ^ 30)))

@@ -41,8 +41,8 @@ use Rattle.int_search.proofs.PlainLaws.{length_of}
 -- ---- what the search needs of the map
 pub reduced_can : (f : Form) (map back : List (List ℤ)) → 4 < f.columns → IsMap map → Undoes (integers_of f) back map → CanSearch f map
 reduced_can f map back h m u =
-    let t = f.columns_to in
-    let s : length map ≡ MOST_INTEGERS = m.shape.rows in
+    let few_columns = f.columns_to in
+    let row_count : length map ≡ MOST_INTEGERS = m.shape.rows in
     let within : integers_of f ≤ length map = omega arith in
     record {
       some = h;
@@ -65,15 +65,15 @@ pub record IsDecorrelated (f r : Form) (u : Unimodular) : Type 0 where
 
 image_is : (f r : Form) (u : Unimodular) (v : List ℤ) → IsDecorrelated f r u → length v ≡ integers_of f → search_image r u.map v ≡ apply (block (integers_of f) u.map) v
 image_is f r u v d e =
-    let t = f.columns_to in
-    let s = d.rows in
+    let few_columns = f.columns_to in
+    let row_count = d.rows in
     ap (λ (k : ℕ). image_of u.map k v) d.integers ∙ image_block u.map (integers_of f) v (omega arith) e
 
 value_is : (f r : Form) (u : Unimodular) (v : List ℤ) → IsDecorrelated f r u → length v ≡ integers_of f → value (columns_of r) v ≡ value_of f (apply (block (integers_of f) u.map) v)
 value_is f r u v d e =
-    let s = d.some in
-    let k : integers_of f + 1 ≡ f.columns - 3 = omega arith in
-    ap (λ (p : List Column). value p v) d.form ∙ reduced_value (integers_of f) u.map f.p v f.symmetric e ∙ ap (λ (m : ℕ). value (form_from (entry f.p) 0 m) (apply (block (integers_of f) u.map) v)) k
+    let some_integers = d.some in
+    let size_with_constant : integers_of f + 1 ≡ f.columns - 3 = omega arith in
+    ap (λ (p : List Column). value p v) d.form ∙ reduced_value (integers_of f) u.map f.p v f.symmetric e ∙ ap (λ (m : ℕ). value (form_from (entry f.p) 0 m) (apply (block (integers_of f) u.map) v)) size_with_constant
 
 image_less : (f r : Form) (u : Unimodular) (v w : List ℤ) → IsDecorrelated f r u → length v ≡ integers_of f → length w ≡ integers_of f → IsLess (search_form r) (search_image r u.map) v w →
     Less (columns_of f) (apply (block (integers_of f) u.map) v) (apply (block (integers_of f) u.map) w)
@@ -137,24 +137,24 @@ own_of : List Column → ℤ
 own_of [] = pos 0
 own_of (c ∷ a) = c.own
 
-ok_same : (p q : List Factor × List Column) → (let x : StepsAnswer = Ok p in x) ≡ Ok q → p ≡ q
+ok_same : (p q : List Factor × List Column) → (let answer : StepsAnswer = Ok p in answer) ≡ Ok q → p ≡ q
 ok_same p q e = cc
 
 forms_same : (a b : ℕ) (x y : List Factor) (g h : ℤ) (p q : List Column) → a ≡ b → x ≡ y → g ≡ h → p ≡ q →
-    (let s : SearchForm = record { size = a; factors = x; g = g; p = p } in s) ≡ record { size = b; factors = y; g = h; p = q }
-forms_same a b x y g h p q i j k l = ap (λ (z : ℕ). let s : SearchForm = record { size = z; factors = x; g = g; p = p } in s) i
-    ∙ ap (λ (z : List Factor). let s : SearchForm = record { size = b; factors = z; g = g; p = p } in s) j
-    ∙ ap (λ (z : ℤ). let s : SearchForm = record { size = b; factors = y; g = z; p = p } in s) k
-    ∙ ap (λ (z : List Column). let s : SearchForm = record { size = b; factors = y; g = h; p = z } in s) l
+    (let form : SearchForm = record { size = a; factors = x; g = g; p = p } in form) ≡ record { size = b; factors = y; g = h; p = q }
+forms_same a b x y g h p q i j k l = ap (λ (z : ℕ). let form : SearchForm = record { size = z; factors = x; g = g; p = p } in form) i
+    ∙ ap (λ (z : List Factor). let form : SearchForm = record { size = b; factors = z; g = g; p = p } in form) j
+    ∙ ap (λ (z : ℤ). let form : SearchForm = record { size = b; factors = y; g = z; p = p } in form) k
+    ∙ ap (λ (z : List Column). let form : SearchForm = record { size = b; factors = y; g = h; p = z } in form) l
 
 search_same : (f r : Form) (u : Unimodular) (n : ℕ) (c : HasCountIn f n u.map) → IsDecorrelated f r u →
-    (let x : StepsAnswer = Ok (c.factors, constant_form c.g) in x) ≡ Ok (factors_of r, constant_form r.g) →
+    (let answer : StepsAnswer = Ok (c.factors, constant_form c.g) in answer) ≡ Ok (factors_of r, constant_form r.g) →
     search_form r ≡ decorrelated f u.map c.factors c.g
 unfolding own_of
 search_same f r u n c d e =
-    let i : (c.factors, constant_form c.g) ≡ (factors_of r, constant_form r.g) = ok_same (c.factors, constant_form c.g) (factors_of r, constant_form r.g) e in
+    let same_parts : (c.factors, constant_form c.g) ≡ (factors_of r, constant_form r.g) = ok_same (c.factors, constant_form c.g) (factors_of r, constant_form r.g) e in
     forms_same (integers_of r) (integers_of f) (factors_of r) c.factors r.g c.g (columns_of r) (transformed_form (integers_of f) u.map f.p) d.integers
-    (sym (ap (λ (p : List Factor × List Column). p.0) i)) (sym (ap (λ (p : List Factor × List Column). own_of p.1) i)) d.form
+    (sym (ap (λ (p : List Factor × List Column). p.0) same_parts)) (sym (ap (λ (p : List Factor × List Column). own_of p.1) same_parts)) d.form
 
 -- ---- what the search has visited there
 pub reduced_visits : (f r : Form) (u : Unimodular) (budget : ℕ) (b : TwoBest) → IsDecorrelated f r u →
@@ -172,7 +172,7 @@ apart : (x y : ℤ) → x <ℤ y → y ≤ℤ x → ⊥
 apart x y h g = omega (arith, lins)
 
 pub reduced_fault : (f r : Form) (u : Unimodular) (n : ℕ) (fault : SearchFault) (c : HasCountIn f n u.map) → IsDecorrelated f r u →
-    (let x : StepsAnswer = Ok (c.factors, constant_form c.g) in x) ≡ Ok (factors_of r, constant_form r.g) →
+    (let answer : StepsAnswer = Ok (c.factors, constant_form c.g) in answer) ≡ Ok (factors_of r, constant_form r.g) →
     IsFault (search_form r) (search_image r u.map) n fault → ⊥
 reduced_fault f r u n Spent c d e h = c.counted (subst (λ (s : SearchForm). IsOver s n) (search_same f r u n c d e) h)
 reduced_fault f r u n Overwidth c d e h = wide (subst (λ (s : SearchForm). IsTooWide s (search_image r u.map) n) (search_same f r u n c d e) h)

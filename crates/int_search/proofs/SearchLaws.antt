@@ -69,7 +69,7 @@ search_inner f im a b c r x s one two n k t fb fc all l = record {
 }
   where
     longer : (v : List ℤ) → length v ≡ f.size → (v ≡ x ∷ s) ⊎ IsOpen (c ∷ b ∷ r) (x ∷ s) v → IsOpen (c ∷ b ∷ r) (x ∷ s) v
-    longer v g (inl e) = absurd (let m = fc.shorter in let w = ap length e in omega arith)
+    longer v g (inl e) = absurd (let is_shorter = fc.shorter in let same_length = ap length e in omega arith)
     longer v g (inr o) = o
 
     go : (v : List ℤ) → length v ≡ f.size → IsSettled f im one two v ⊎ IsOpen (a ∷ r) s v → IsSettled f im one two v ⊎ IsOpen (c ∷ b ∷ r) (x ∷ s) v
@@ -164,7 +164,7 @@ search_start f im a one two h p q o b fa all = record {
     ended (x ∷ q) g = has_last x q
 
     full : (v : List ℤ) → length v ≡ f.size → HasLast v
-    full v g = ended v (let m = h.some in omega arith)
+    full v g = ended v (let some_integers = h.some in omega arith)
 
     found : (v : List ℤ) → HasLast v → IsOpenAt a [] v
     found v w = record { head = w.last; front = w.front; split = w.split; free = all w.last }

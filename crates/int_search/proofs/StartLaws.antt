@@ -28,7 +28,7 @@ begins f im v u y x p q w a b l t g = g.begun im v u a.size b.size (less_of f im
 
 pub wide_point : (f : SearchForm) (im : List ℤ → List ℤ) (v : List ℤ) → IsSearchable f → length v ≡ f.size → value f.p v ≤ℤ top f → IsReached f 0 v → HasLarge (im v) →
     IsWideIn f im 0
-wide_point f im v k e t r l = record { vector = v; full = e; counted = counts_end f [] v k e (let s = k.some in omega arith) t; large = l; reached = r }
+wide_point f im v k e t r l = record { vector = v; full = e; counted = counts_end f [] v k e (let some_integers = k.some in omega arith) t; large = l; reached = r }
 
 pub points_differ : (f : SearchForm) (im : List ℤ → List ℤ) (v u y x : List ℤ) → IsSearchable f → IsOneToOne f.size im → v ≡ rounded f f.size → u ≡ neighbour f → Holds f.size y (im v) →
     Holds f.size x (im u) → suffix y 0 f.size ≡ suffix x 0 f.size → ⊥

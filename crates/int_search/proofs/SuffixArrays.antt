@@ -45,15 +45,15 @@ drop_tail (x ∷ l) (suc i) = drop_tail l i
 
 pub suffix-cons : (z : List ℤ) (i n : ℕ) → i < n → n ≤ length z → suffix z i n ≡ get_or z i (pos 0) ∷ suffix z (i + 1) n
 unfolding suffix
-suffix-cons z i n h k = let e : i + 1 ≡ suc i = add-one i in rw e (cut_cons z i n h k)
+suffix-cons z i n h k = let next_is : i + 1 ≡ suc i = add-one i in rw next_is (cut_cons z i n h k)
 
 pub suffix-set : (z : List ℤ) (i n : ℕ) (x : ℤ) → i < n → n ≤ length z → suffix (set z i x) i n ≡ x ∷ suffix z (i + 1) n
 unfolding suffix
-suffix-set z i n x h k = let e : i + 1 ≡ suc i = add-one i in rw e (cut_set z i n x h k)
+suffix-set z i n x h k = let next_is : i + 1 ≡ suc i = add-one i in rw next_is (cut_set z i n x h k)
 
 pub suffix-tail : (z : List ℤ) (i n : ℕ) → tail_of (suffix z i n) ≡ suffix z (i + 1) n
 unfolding suffix
-suffix-tail z i n = let e : i + 1 ≡ suc i = add-one i in rw e (drop_tail (take n z) i)
+suffix-tail z i n = let next_is : i + 1 ≡ suc i = add-one i in rw next_is (drop_tail (take n z) i)
 
 pub suffix-length : (z : List ℤ) (i n : ℕ) → n ≤ length z → length (suffix z i n) ≡ n - i
 unfolding suffix
@@ -67,15 +67,15 @@ suffix-all z n = refl
 pub affine_step : (g : ℕ → ℤ) (z : List ℤ) (b k n : ℕ) → k < n → n ≤ length z →
     dot (list_from g (b + k) (n - k + 1)) (suffix z k n ++ pos 1 ∷ []) ≡ (g (b + k) *ℤ get_or z k (pos 0)) +ℤ dot (list_from g (b + (k + 1)) (n - (k + 1) + 1)) (suffix z (k + 1) n ++ pos 1 ∷ [])
 affine_step g z b k n h m =
-    let e : n - k + 1 ≡ suc (n - (k + 1) + 1) = omega arith in
-    let i : suc (b + k) ≡ b + (k + 1) = omega arith in
-    ap₂ (λ c v. dot (list_from g (b + k) c) (v ++ pos 1 ∷ [])) e (suffix-cons z k n h m)
-    ∙ ap (λ j. (g (b + k) *ℤ get_or z k (pos 0)) +ℤ dot (list_from g j (n - (k + 1) + 1)) (suffix z (k + 1) n ++ pos 1 ∷ [])) i
+    let one_more_left : n - k + 1 ≡ suc (n - (k + 1) + 1) = omega arith in
+    let place_after : suc (b + k) ≡ b + (k + 1) = omega arith in
+    ap₂ (λ c v. dot (list_from g (b + k) c) (v ++ pos 1 ∷ [])) one_more_left (suffix-cons z k n h m)
+    ∙ ap (λ j. (g (b + k) *ℤ get_or z k (pos 0)) +ℤ dot (list_from g j (n - (k + 1) + 1)) (suffix z (k + 1) n ++ pos 1 ∷ [])) place_after
 
 pub affine_end : (g : ℕ → ℤ) (z : List ℤ) (b n : ℕ) → dot (list_from g (b + n) (n - n + 1)) (suffix z n n ++ pos 1 ∷ []) ≡ g (b + n)
 affine_end g z b n =
-    let e : n - n + 1 ≡ suc 0 = omega arith in
-    ap₂ (λ c v. dot (list_from g (b + n) c) (v ++ pos 1 ∷ [])) e (suffix-none z n n (omega arith)) ∙ last (g (b + n))
+    let one_left : n - n + 1 ≡ suc 0 = omega arith in
+    ap₂ (λ c v. dot (list_from g (b + n) c) (v ++ pos 1 ∷ [])) one_left (suffix-none z n n (omega arith)) ∙ last (g (b + n))
   where
     last : (x : ℤ) → (x *ℤ pos 1) +ℤ pos 0 ≡ x
     last x = omega (arith, ints)

@@ -46,11 +46,11 @@ offset-is f x s = refl
 
 pub weight_from : (f : SearchForm) (s : List ℤ) → IsSearchable f → length s < f.size → pos 1 ≤ℤ weight f s
 unfolding weight
-weight_from f s h k = let e = h.each in h.weights_from (f.size - 1 - length s) no_factor (omega arith)
+weight_from f s h k = let weights_long = h.each in h.weights_from (f.size - 1 - length s) no_factor (omega arith)
 
 pub weight_to : (f : SearchForm) (s : List ℤ) → IsSearchable f → length s < f.size → weight f s ≤ℤ pos (2 ^ 52)
 unfolding weight
-weight_to f s h k = let e = h.each in h.weights_to (f.size - 1 - length s) no_factor (omega arith)
+weight_to f s h k = let weights_long = h.each in h.weights_to (f.size - 1 - length s) no_factor (omega arith)
 
 le_more : (a b d : ℤ) → a ≤ℤ b → pos 0 ≤ℤ d → a ≤ℤ (b +ℤ d)
 le_more a b d h k = omega (arith, lins)
@@ -65,7 +65,7 @@ low_grows f h (x ∷ t) s k =
 
 -- no lower sum is below that of the empty suffix
 pub low_from : (f : SearchForm) (s : List ℤ) → IsSearchable f → length s ≤ f.size → (pos (2 ^ 60) *ℤ f.g) ≤ℤ low f s
-low_from f s h k = subst (λ (m : ℤ). m ≤ℤ low f s) (low-nil f h.each) (subst (λ (v : List ℤ). low f [] ≤ℤ low f v) (nil s) (low_grows f h s [] (let e = ap length (nil s) in omega arith)))
+low_from f s h k = subst (λ (m : ℤ). m ≤ℤ low f s) (low-nil f h.each) (subst (λ (v : List ℤ). low f [] ≤ℤ low f v) (nil s) (low_grows f h s [] (let no_entries = ap length (nil s) in omega arith)))
   where
     nil : (v : List ℤ) → v ++ [] ≡ v
     nil [] = refl
@@ -75,15 +75,15 @@ low_from f s h k = subst (λ (m : ℤ). m ≤ℤ low f s) (low-nil f h.each) (su
 -- the square grows with the distance from 0, on either side
 pub square_up : (a b : ℤ) → pos 0 ≤ℤ a → a ≤ℤ b → (a *ℤ a) ≤ℤ (b *ℤ b)
 square_up a b h k =
-    let p : (a *ℤ a) ≤ℤ (a *ℤ b) = mul_le_left a a b h k in
-    let q : (a *ℤ b) ≤ℤ (b *ℤ b) = mul_le_right b a b (omega (arith, lins)) k in
+    let squares_at_most : (a *ℤ a) ≤ℤ (a *ℤ b) = mul_le_left a a b h k in
+    let right_at_most : (a *ℤ b) ≤ℤ (b *ℤ b) = mul_le_right b a b (omega (arith, lins)) k in
     omega (arith, lins)
 
 pub square_from : (c x : ℤ) → ((pos 0 ≤ℤ c) × (c ≤ℤ x)) ⊎ (((pos 0 ≤ℤ c) × (c ≤ℤ neg_ℤ x)) ⊎ (((c ≤ℤ pos 0) × (neg_ℤ c ≤ℤ x)) ⊎ ((c ≤ℤ pos 0) × (x ≤ℤ c)))) → (c *ℤ c) ≤ℤ (x *ℤ x)
 square_from c x (inl h) = square_up c x h.0 h.1
-square_from c x (inr (inl h)) = let p : (c *ℤ c) ≤ℤ (neg_ℤ x *ℤ neg_ℤ x) = square_up c (neg_ℤ x) h.0 h.1 in omega (arith, lins, neg_square x)
-square_from c x (inr (inr (inl h))) = let p : (neg_ℤ c *ℤ neg_ℤ c) ≤ℤ (x *ℤ x) = square_up (neg_ℤ c) x (omega (arith, lins)) h.1 in omega (arith, lins, neg_square c)
-square_from c x (inr (inr (inr h))) = let p : (neg_ℤ c *ℤ neg_ℤ c) ≤ℤ (neg_ℤ x *ℤ neg_ℤ x) = square_up (neg_ℤ c) (neg_ℤ x) (omega (arith, lins)) (omega (arith, lins)) in
+square_from c x (inr (inl h)) = let squares_at_most : (c *ℤ c) ≤ℤ (neg_ℤ x *ℤ neg_ℤ x) = square_up c (neg_ℤ x) h.0 h.1 in omega (arith, lins, neg_square x)
+square_from c x (inr (inr (inl h))) = let squares_at_most : (neg_ℤ c *ℤ neg_ℤ c) ≤ℤ (x *ℤ x) = square_up (neg_ℤ c) x (omega (arith, lins)) h.1 in omega (arith, lins, neg_square c)
+square_from c x (inr (inr (inr h))) = let squares_at_most : (neg_ℤ c *ℤ neg_ℤ c) ≤ℤ (neg_ℤ x *ℤ neg_ℤ x) = square_up (neg_ℤ c) (neg_ℤ x) (omega (arith, lins)) (omega (arith, lins)) in
     omega (arith, lins, neg_square c, neg_square x)
 
 pub offset_mono : (f : SearchForm) (x y : ℤ) (s : List ℤ) → x ≤ℤ y → offset f x s ≤ℤ offset f y s
@@ -100,19 +100,19 @@ pub record IsNearest (a : Level) (c : ℤ) : Type 0 where
 pub far_all : (f : SearchForm) (a : Level) (s : List ℤ) (c limit : ℤ) → IsSearchable f → IsLevel f a s → IsNearest a c →
     limit <ℤ (low f s +ℤ (weight f s *ℤ (c *ℤ c))) → (y : ℤ) → IsFree a y → limit <ℤ low f (y ∷ s)
 far_all f a s c limit h k n l y free =
-    let w : pos 0 ≤ℤ weight f s = one_nn (weight_from f s h k.shorter) in
-    let q : (c *ℤ c) ≤ℤ (offset f y s *ℤ offset f y s) = square_from c (offset f y s) (sides n.nearest free) in
-    let p : (weight f s *ℤ (c *ℤ c)) ≤ℤ (weight f s *ℤ (offset f y s *ℤ offset f y s)) = mul_le_left (weight f s) (c *ℤ c) (offset f y s *ℤ offset f y s) w q in
+    let weight_positive : pos 0 ≤ℤ weight f s = one_nn (weight_from f s h k.shorter) in
+    let square_far : (c *ℤ c) ≤ℤ (offset f y s *ℤ offset f y s) = square_from c (offset f y s) (sides n.nearest free) in
+    let product_far : (weight f s *ℤ (c *ℤ c)) ≤ℤ (weight f s *ℤ (offset f y s *ℤ offset f y s)) = mul_le_left (weight f s) (c *ℤ c) (offset f y s *ℤ offset f y s) weight_positive square_far in
     rw (low-cons f y s h.each k.shorter) (omega (arith, lins))
   where
     sides : ((c ≡ a.up_offset) × (a.up_offset ≤ℤ neg_ℤ a.down_offset)) ⊎ ((c ≡ a.down_offset) × (neg_ℤ a.down_offset ≤ℤ a.up_offset)) → IsFree a y →
         ((pos 0 ≤ℤ c) × (c ≤ℤ offset f y s)) ⊎ (((pos 0 ≤ℤ c) × (c ≤ℤ neg_ℤ (offset f y s))) ⊎ (((c ≤ℤ pos 0) × (neg_ℤ c ≤ℤ offset f y s)) ⊎ ((c ≤ℤ pos 0) × (offset f y s ≤ℤ c))))
-    sides (inl m) (inr u) = let g : offset f a.up s ≤ℤ offset f y s = offset_mono f a.up y s u in let e = k.up_offset_is in let z = k.above in inl (omega (arith, lins), omega (arith, lins))
-    sides (inl m) (inl d) = let g : offset f y s ≤ℤ offset f a.down s = offset_mono f y a.down s d in let e = k.down_offset_is in let z = k.above in
+    sides (inl m) (inr u) = let offset_at_most : offset f a.up s ≤ℤ offset f y s = offset_mono f a.up y s u in let up_offset_is = k.up_offset_is in let above_zero = k.above in inl (omega (arith, lins), omega (arith, lins))
+    sides (inl m) (inl d) = let offset_at_most : offset f y s ≤ℤ offset f a.down s = offset_mono f y a.down s d in let down_offset_is = k.down_offset_is in let above_zero = k.above in
         inr (inl (omega (arith, lins), omega (arith, lins)))
-    sides (inr m) (inr u) = let g : offset f a.up s ≤ℤ offset f y s = offset_mono f a.up y s u in let e = k.up_offset_is in let z = k.under in
+    sides (inr m) (inr u) = let offset_at_most : offset f a.up s ≤ℤ offset f y s = offset_mono f a.up y s u in let up_offset_is = k.up_offset_is in let under_zero = k.under in
         inr (inr (inl (omega (arith, lins), omega (arith, lins))))
-    sides (inr m) (inl d) = let g : offset f y s ≤ℤ offset f a.down s = offset_mono f y a.down s d in let e = k.down_offset_is in let z = k.under in
+    sides (inr m) (inl d) = let offset_at_most : offset f y s ≤ℤ offset f a.down s = offset_mono f y a.down s d in let down_offset_is = k.down_offset_is in let under_zero = k.under in
         inr (inr (inr (omega (arith, lins), omega (arith, lins))))
 
 -- ---- the bound of the value

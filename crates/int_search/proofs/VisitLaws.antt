@@ -63,7 +63,7 @@ ends : (a b : List ℤ) (m n : ℤ) (u v : List ℤ) → a ++ (m ∷ u) ≡ b ++
 ends [] [] m n u v e = inl (record { heads = cc; tails = cc })
 ends [] (z ∷ b) m n u v e = inr (inl (b, cc))
 ends (z ∷ a) [] m n u v e = inr (inr (a, cc))
-ends (z ∷ a) (w ∷ b) m n u v e = let t : a ++ (m ∷ u) ≡ b ++ (n ∷ v) = cc in ends a b m n u v t
+ends (z ∷ a) (w ∷ b) m n u v e = let same_joined : a ++ (m ∷ u) ≡ b ++ (n ∷ v) = cc in ends a b m n u v same_joined
 
 -- the entry before an ending of a longer ending
 inside : (a b g : List ℤ) (x y z : ℤ) (t u : List ℤ) → a ++ (x ∷ t) ≡ b ++ (y ∷ u) → t ≡ g ++ (z ∷ u) → z ≡ y

@@ -51,31 +51,31 @@ pub weight_here : (form : Form) (im : List ℤ → List ℤ) (w : SearchState) (
     IsWeightHere (search_form form) w (get_or form.d (3 + w.size - l) (pos 0))
 weight_here form im w a l k h t n e =
     let f : SearchForm = search_form form in
-    let s = latest_level f im w a h t in
+    let is_level = latest_level f im w a h t in
     let dep = h.depth in
-    let sz = h.size in
-    let zr = h.room in
-    let mo = form.columns_to in
-    let i : 3 + w.size - l ≡ 3 + (f.size - length w.stack) = omega arith in
-    let j : (f.size - length w.stack) + 1 ≡ f.size + 1 - length w.stack = omega arith in
-    let d : get_or form.d (3 + w.size - l) (pos 0) ≡ weight f (here f w) =
-    ap (λ m. get_or form.d m (pos 0)) i ∙ sym (weight_is form w.z (f.size - length w.stack) (omega arith) (omega arith)) ∙ ap (λ m. weight f (suffix w.z m f.size)) j in
-    record { is = d; from = rw d (weight_from f (here f w) (searchable form k) s.shorter); to = rw d (weight_to f (here f w) (searchable form k) s.shorter) }
+    let size_is = h.size in
+    let has_room = h.room in
+    let few_columns = form.columns_to in
+    let place_is : 3 + w.size - l ≡ 3 + (f.size - length w.stack) = omega arith in
+    let place_after : (f.size - length w.stack) + 1 ≡ f.size + 1 - length w.stack = omega arith in
+    let weight_is_stored : get_or form.d (3 + w.size - l) (pos 0) ≡ weight f (here f w) =
+    ap (λ m. get_or form.d m (pos 0)) place_is ∙ sym (weight_is form w.z (f.size - length w.stack) (omega arith) (omega arith)) ∙ ap (λ m. weight f (suffix w.z m f.size)) place_after in
+    record { is = weight_is_stored; from = rw weight_is_stored (weight_from f (here f w) (searchable form k) is_level.shorter); to = rw weight_is_stored (weight_to f (here f w) (searchable form k) is_level.shorter) }
 
 -- ---- a level is left: what is past the room is past the second
 pub walk_pop : (f : SearchForm) (im : List ℤ → List ℤ) (w : SearchState) (a : Level) (x c d left : ℤ) (up : Bool) → IsSearchable f → f.size ≤ MOST_INTEGERS → IsLatest w.stack a →
     0 < length w.stack → Chooses a x c up →
     d ≡ weight f (here f w) → left ≡ (pos (2 ^ 60) *ℤ w.best.p2) -ℤ a.low → left <ℤ (d *ℤ (c *ℤ c)) → IsWalk f im w → IsWalk f im (record w { stack = drop 1 w.stack })
 walk_pop f im w a x c d left up k mo t n ch e l far h =
-    let s = focus f im w a h t in
-    let q : left <ℤ (weight f (here f w) *ℤ (c *ℤ c)) = subst (λ (v : ℤ). left <ℤ (v *ℤ (c *ℤ c))) e far in
-    let p : (pos (2 ^ 60) *ℤ value f.p h.two) <ℤ (low f (here f w) +ℤ (weight f (here f w) *ℤ (c *ℤ c))) =
-    step w.best.p2 (value f.p h.two) a.low (low f (here f w)) (weight f (here f w) *ℤ (c *ℤ c)) left h.best.p2 s.levels.0.low_is l q in
-    let r = search_pop f im a (drop 1 w.stack) (here f w) h.one h.two w.visits c k s (chosen_nearest a x c up ch) p in
-    let y : length (drop 1 w.stack) + 1 ≡ length w.stack = drop_length w.stack n in
+    let is_search = focus f im w a h t in
+    let left_below_term : left <ℤ (weight f (here f w) *ℤ (c *ℤ c)) = subst (λ (v : ℤ). left <ℤ (v *ℤ (c *ℤ c))) e far in
+    let value_below_low : (pos (2 ^ 60) *ℤ value f.p h.two) <ℤ (low f (here f w) +ℤ (weight f (here f w) *ℤ (c *ℤ c))) =
+    step w.best.p2 (value f.p h.two) a.low (low f (here f w)) (weight f (here f w) *ℤ (c *ℤ c)) left h.best.p2 is_search.levels.0.low_is l left_below_term in
+    let popped_search = search_pop f im a (drop 1 w.stack) (here f w) h.one h.two w.visits c k is_search (chosen_nearest a x c up ch) value_below_low in
+    let one_shorter : length (drop 1 w.stack) + 1 ≡ length w.stack = drop_length w.stack n in
     let dep = h.depth in
-    let i : f.size + 1 - length (drop 1 w.stack) ≡ (f.size + 1 - length w.stack) + 1 = omega arith in
-    let u : tail_of (here f w) ≡ suffix w.z (f.size + 1 - length (drop 1 w.stack)) f.size = suffix-tail w.z (f.size + 1 - length w.stack) f.size ∙ ap (λ j. suffix w.z j f.size) (sym i) in
+    let place_after : f.size + 1 - length (drop 1 w.stack) ≡ (f.size + 1 - length w.stack) + 1 = omega arith in
+    let tail_is : tail_of (here f w) ≡ suffix w.z (f.size + 1 - length (drop 1 w.stack)) f.size = suffix-tail w.z (f.size + 1 - length w.stack) f.size ∙ ap (λ j. suffix w.z j f.size) (sym place_after) in
     record {
       size = h.size;
       depth = omega arith;
@@ -85,7 +85,7 @@ walk_pop f im w a x c d left up k mo t n ch e l far h =
       one = h.one;
       two = h.two;
       best = h.best;
-      search = subst (λ (v : List ℤ). IsSearch f im (drop 1 w.stack) v h.one h.two w.visits) u r;
+      search = subst (λ (v : List ℤ). IsSearch f im (drop 1 w.stack) v h.one h.two w.visits) tail_is popped_search;
     }
   where
     step : (p v l m q r : ℤ) → p ≡ v → l ≡ m → r ≡ (pos (2 ^ 60) *ℤ p) -ℤ l → r <ℤ q → (pos (2 ^ 60) *ℤ v) <ℤ (m +ℤ q)
@@ -96,14 +96,14 @@ pub walk_reach : (f : SearchForm) (im : List ℤ → List ℤ) (w : SearchState)
     Chooses r.level r.choice.entry r.choice.offset r.choice.is_up →
     d ≡ weight f (here f w) → left ≡ (pos (2 ^ 60) *ℤ w.best.p2) -ℤ r.level.low → IsTermWithin left d r.choice.offset t → r.low ≡ r.level.low +ℤ t → IsReach f w r
 walk_reach f im w r d t left k h l n ch e g i j =
-    let s = latest_level f im w r.level h l in
+    let is_level = latest_level f im w r.level h l in
     record {
       some = n;
       latest = l;
-      level = s;
+      level = is_level;
       chosen = ch;
       low_is = j ∙ ap (λ v. r.level.low +ℤ v) (i.is ∙ ap (λ v. v *ℤ (r.choice.offset *ℤ r.choice.offset)) e)
-          ∙ sym (low_chosen f r.level (here f w) r.choice.entry r.choice.offset r.choice.is_up k s ch);
+          ∙ sym (low_chosen f r.level (here f w) r.choice.entry r.choice.offset r.choice.is_up k is_level ch);
       within = step r.low r.level.low t left w.best.p2 j i.within g;
       offset_small = i.small;
     }
@@ -121,10 +121,10 @@ reach_within f im w r h v = step r.low (low f (r.choice.entry ∷ here f w)) w.b
 set_here : (f : SearchForm) (im : List ℤ → List ℤ) (w : SearchState) (x : ℤ) → f.size ≤ MOST_INTEGERS → IsWalk f im w → 0 < length w.stack →
     suffix (set w.z (f.size - length w.stack) x) (f.size - length w.stack) f.size ≡ x ∷ here f w
 set_here f im w x m h n =
-    let p = h.depth in
-    let z = h.room in
-    let i : (f.size - length w.stack) + 1 ≡ f.size + 1 - length w.stack = omega arith in
-    suffix-set w.z (f.size - length w.stack) f.size x (omega arith) (omega arith) ∙ ap (λ j. x ∷ suffix w.z j f.size) i
+    let depth_at_most = h.depth in
+    let has_room = h.room in
+    let place_after : (f.size - length w.stack) + 1 ≡ f.size + 1 - length w.stack = omega arith in
+    suffix-set w.z (f.size - length w.stack) f.size x (omega arith) (omega arith) ∙ ap (λ j. x ∷ suffix w.z j f.size) place_after
 
 -- a visit above the first integer
 pub walk_inner : (f : SearchForm) (im : List ℤ → List ℤ) (w : SearchState) (r : NextEntry) (b c : Level) (z : List ℤ) (st : List Level) (e : ℤ) → IsSearchable f → f.size ≤ MOST_INTEGERS →
@@ -132,35 +132,35 @@ pub walk_inner : (f : SearchForm) (im : List ℤ → List ℤ) (w : SearchState)
     Moves r.level r.choice.is_up b → 0 < f.size - length w.stack → z ≡ set w.z (f.size - length w.stack) r.choice.entry → st ≡ c ∷ (b ∷ drop 1 w.stack) → IsSmall z →
     e ≡ rest f (suffix z (f.size - length w.stack) f.size) → IsFresh e r.low c → IsWalk f im (record w { z = z; stack = st; visits = w.visits + 1 })
 walk_inner f im w r b c z st e k mo h v sm mv n ez es small ee fr =
-    let s = focus f im w r.level h v.latest in
-    let x : ℤ = r.choice.entry in
-    let t : Takes r.level x b = moved_takes r.level b x r.choice.offset r.choice.is_up s.levels.0.apart v.chosen mv in
-    let fb : IsLevel f b (here f w) = moved_level f r.level b (here f w) x r.choice.offset r.choice.is_up s.levels.0 v.chosen mv sm v.offset_small in
-    let sh : suffix z (f.size - length w.stack) f.size ≡ x ∷ here f w = ap (λ q. suffix q (f.size - length w.stack) f.size) ez ∙ set_here f im w x mo h v.some in
-    let l = reach_within f im w r h v in
+    let is_search = focus f im w r.level h v.latest in
+    let entry : ℤ = r.choice.entry in
+    let takes_entry : Takes r.level entry b = moved_takes r.level b entry r.choice.offset r.choice.is_up is_search.levels.0.apart v.chosen mv in
+    let moved_is_level : IsLevel f b (here f w) = moved_level f r.level b (here f w) entry r.choice.offset r.choice.is_up is_search.levels.0 v.chosen mv sm v.offset_small in
+    let suffix_with_entry : suffix z (f.size - length w.stack) f.size ≡ entry ∷ here f w = ap (λ q. suffix q (f.size - length w.stack) f.size) ez ∙ set_here f im w entry mo h v.some in
+    let low_at_most = reach_within f im w r h v in
     let dep = h.depth in
-    let zr = h.room in
+    let has_room = h.room in
     let some = v.some in
-    let ln : length (here f w) ≡ f.size - (f.size + 1 - length w.stack) = suffix-length w.z (f.size + 1 - length w.stack) f.size (omega arith) in
-    let fr2 : IsFresh (rest f (x ∷ here f w)) (low f (x ∷ here f w)) c =
-    subst (λ (u : ℤ). IsFresh (rest f (x ∷ here f w)) u c) v.low_is (subst (λ (u : ℤ). IsFresh u r.low c) (ee ∙ ap (rest f) sh) fr) in
-    let fc : IsLevel f c (x ∷ here f w) = level_fresh f (x ∷ here f w) c (omega arith) fr2 (bound_top (low f (x ∷ here f w)) (value f.p h.two) (top f) l s.bound) in
-    let q = search_inner f im r.level b c (drop 1 w.stack) x (here f w) h.one h.two w.visits s t fb fc (fresh_free (rest f (x ∷ here f w)) (low f (x ∷ here f w)) c fr2) l in
-    let y : length (drop 1 w.stack) + 1 ≡ length w.stack = drop_length w.stack v.some in
-    let i : f.size + 1 - length (c ∷ (b ∷ drop 1 w.stack)) ≡ f.size - length w.stack = omega arith in
-    let u : x ∷ here f w ≡ suffix z (f.size + 1 - length (c ∷ (b ∷ drop 1 w.stack))) f.size = sym sh ∙ ap (λ j. suffix z j f.size) (sym i) in
-    let p : IsSearch f im (c ∷ (b ∷ drop 1 w.stack)) (suffix z (f.size + 1 - length (c ∷ (b ∷ drop 1 w.stack))) f.size) h.one h.two (w.visits + 1) =
-    subst (λ (v : List ℤ). IsSearch f im (c ∷ (b ∷ drop 1 w.stack)) v h.one h.two (w.visits + 1)) u q in
+    let suffix_long : length (here f w) ≡ f.size - (f.size + 1 - length w.stack) = suffix-length w.z (f.size + 1 - length w.stack) f.size (omega arith) in
+    let fr2 : IsFresh (rest f (entry ∷ here f w)) (low f (entry ∷ here f w)) c =
+    subst (λ (u : ℤ). IsFresh (rest f (entry ∷ here f w)) u c) v.low_is (subst (λ (u : ℤ). IsFresh u r.low c) (ee ∙ ap (rest f) suffix_with_entry) fr) in
+    let fresh_is_level : IsLevel f c (entry ∷ here f w) = level_fresh f (entry ∷ here f w) c (omega arith) fr2 (bound_top (low f (entry ∷ here f w)) (value f.p h.two) (top f) low_at_most is_search.bound) in
+    let inner_search = search_inner f im r.level b c (drop 1 w.stack) entry (here f w) h.one h.two w.visits is_search takes_entry moved_is_level fresh_is_level (fresh_free (rest f (entry ∷ here f w)) (low f (entry ∷ here f w)) c fr2) low_at_most in
+    let one_shorter : length (drop 1 w.stack) + 1 ≡ length w.stack = drop_length w.stack v.some in
+    let depth_is : f.size + 1 - length (c ∷ (b ∷ drop 1 w.stack)) ≡ f.size - length w.stack = omega arith in
+    let suffix_is : entry ∷ here f w ≡ suffix z (f.size + 1 - length (c ∷ (b ∷ drop 1 w.stack))) f.size = sym suffix_with_entry ∙ ap (λ j. suffix z j f.size) (sym depth_is) in
+    let search_at_suffix : IsSearch f im (c ∷ (b ∷ drop 1 w.stack)) (suffix z (f.size + 1 - length (c ∷ (b ∷ drop 1 w.stack))) f.size) h.one h.two (w.visits + 1) =
+    subst (λ (v : List ℤ). IsSearch f im (c ∷ (b ∷ drop 1 w.stack)) v h.one h.two (w.visits + 1)) suffix_is inner_search in
     record {
       size = h.size;
-      depth = let g = ap length es in omega arith;
-      room = ap length ez ∙ length-set w.z (f.size - length w.stack) x ∙ h.room;
+      depth = let stack_length = ap length es in omega arith;
+      room = ap length ez ∙ length-set w.z (f.size - length w.stack) entry ∙ h.room;
       small = small;
       top = h.top;
       one = h.one;
       two = h.two;
       best = h.best;
-      search = subst (λ (fs : List Level). IsSearch f im fs (suffix z (f.size + 1 - length fs) f.size) h.one h.two (w.visits + 1)) (sym es) p;
+      search = subst (λ (fs : List Level). IsSearch f im fs (suffix z (f.size + 1 - length fs) f.size) h.one h.two (w.visits + 1)) (sym es) search_at_suffix;
     }
   where
     bound_top : (l v t : ℤ) → l ≤ℤ (pos (2 ^ 60) *ℤ v) → v ≤ℤ t → l ≤ℤ (pos (2 ^ 60) *ℤ t)
@@ -172,39 +172,39 @@ pub walk_leaf : (f : SearchForm) (im : List ℤ → List ℤ) (w new : SearchSta
     Moves r.level r.choice.is_up b → f.size - length w.stack ≡ 0 → z ≡ set w.z 0 r.choice.entry → st ≡ b ∷ drop 1 w.stack → IsSmall z →
     Offers f im (record w { z = z; stack = st; visits = w.visits + 1 }) new → IsWalk f im new
 walk_leaf f im w new r b z st k mo h v sm mv n ez es small o =
-    let s = focus f im w r.level h v.latest in
-    let x : ℤ = r.choice.entry in
-    let t : Takes r.level x b = moved_takes r.level b x r.choice.offset r.choice.is_up s.levels.0.apart v.chosen mv in
-    let fb : IsLevel f b (here f w) = moved_level f r.level b (here f w) x r.choice.offset r.choice.is_up s.levels.0 v.chosen mv sm v.offset_small in
-    let l = reach_within f im w r h v in
+    let is_search = focus f im w r.level h v.latest in
+    let entry : ℤ = r.choice.entry in
+    let takes_entry : Takes r.level entry b = moved_takes r.level b entry r.choice.offset r.choice.is_up is_search.levels.0.apart v.chosen mv in
+    let moved_is_level : IsLevel f b (here f w) = moved_level f r.level b (here f w) entry r.choice.offset r.choice.is_up is_search.levels.0 v.chosen mv sm v.offset_small in
+    let low_at_most = reach_within f im w r h v in
     let dep = h.depth in
-    let zr = h.room in
+    let has_room = h.room in
     let some = v.some in
-    let sh : suffix z 0 f.size ≡ x ∷ here f w = ap (λ q. suffix q 0 f.size) ez ∙ subst (λ (j : ℕ). suffix (set w.z j x) j f.size ≡ x ∷ here f w) n (set_here f im w x mo h v.some) in
-    let ln : length (here f w) ≡ f.size - (f.size + 1 - length w.stack) = suffix-length w.z (f.size + 1 - length w.stack) f.size (omega arith) in
+    let suffix_with_entry : suffix z 0 f.size ≡ entry ∷ here f w = ap (λ q. suffix q 0 f.size) ez ∙ subst (λ (j : ℕ). suffix (set w.z j entry) j f.size ≡ entry ∷ here f w) n (set_here f im w entry mo h v.some) in
+    let suffix_long : length (here f w) ≡ f.size - (f.size + 1 - length w.stack) = suffix-length w.z (f.size + 1 - length w.stack) f.size (omega arith) in
     let full : length (here f w) + 1 ≡ f.size = omega arith in
-    let g : TakesOffer f im new.best h.one h.two (suffix z 0 f.size) = o.taken h.one h.two s.one_size s.two_size s.ordered h.best in
-    let off : IsOffered f im h.one h.two (x ∷ here f w) g.new_one g.new_two = subst (λ (q : List ℤ). IsOffered f im h.one h.two q g.new_one g.new_two) sh g.offered in
-    let q = search_leaf f im r.level b (drop 1 w.stack) x (here f w) h.one h.two g.new_one g.new_two w.visits s t fb full l off in
-    let y : length (drop 1 w.stack) + 1 ≡ length w.stack = drop_length w.stack v.some in
-    let i : f.size + 1 - length (b ∷ drop 1 w.stack) ≡ f.size + 1 - length w.stack = omega arith in
+    let taken_offer : TakesOffer f im new.best h.one h.two (suffix z 0 f.size) = o.taken h.one h.two is_search.one_size is_search.two_size is_search.ordered h.best in
+    let off : IsOffered f im h.one h.two (entry ∷ here f w) taken_offer.new_one taken_offer.new_two = subst (λ (q : List ℤ). IsOffered f im h.one h.two q taken_offer.new_one taken_offer.new_two) suffix_with_entry taken_offer.offered in
+    let leaf_search = search_leaf f im r.level b (drop 1 w.stack) entry (here f w) h.one h.two taken_offer.new_one taken_offer.new_two w.visits is_search takes_entry moved_is_level full low_at_most off in
+    let one_shorter : length (drop 1 w.stack) + 1 ≡ length w.stack = drop_length w.stack v.some in
+    let depth_is : f.size + 1 - length (b ∷ drop 1 w.stack) ≡ f.size + 1 - length w.stack = omega arith in
     let one : f.size + 1 - length w.stack ≡ 1 = omega arith in
-    let u : here f w ≡ suffix new.z (f.size + 1 - length (b ∷ drop 1 w.stack)) f.size =
-    ap (λ j. suffix w.z j f.size) one ∙ sym (suffix-above w.z 0 1 f.size x (omega arith)) ∙ ap (λ j. suffix j 1 f.size) (sym (o.z ∙ ez)) ∙ ap (λ j. suffix new.z j f.size) (sym (i ∙ one)) in
-    let p : IsSearch f im (b ∷ drop 1 w.stack) (suffix new.z (f.size + 1 - length (b ∷ drop 1 w.stack)) f.size) g.new_one g.new_two (w.visits + 1) =
-    subst (λ (v : List ℤ). IsSearch f im (b ∷ drop 1 w.stack) v g.new_one g.new_two (w.visits + 1)) u q in
-    let p1 : IsSearch f im new.stack (here f new) g.new_one g.new_two (w.visits + 1) =
-    subst (λ (fs : List Level). IsSearch f im fs (suffix new.z (f.size + 1 - length fs) f.size) g.new_one g.new_two (w.visits + 1)) (sym (o.stack ∙ es)) p in
+    let suffix_is : here f w ≡ suffix new.z (f.size + 1 - length (b ∷ drop 1 w.stack)) f.size =
+    ap (λ j. suffix w.z j f.size) one ∙ sym (suffix-above w.z 0 1 f.size entry (omega arith)) ∙ ap (λ j. suffix j 1 f.size) (sym (o.z ∙ ez)) ∙ ap (λ j. suffix new.z j f.size) (sym (depth_is ∙ one)) in
+    let search_at_suffix : IsSearch f im (b ∷ drop 1 w.stack) (suffix new.z (f.size + 1 - length (b ∷ drop 1 w.stack)) f.size) taken_offer.new_one taken_offer.new_two (w.visits + 1) =
+    subst (λ (v : List ℤ). IsSearch f im (b ∷ drop 1 w.stack) v taken_offer.new_one taken_offer.new_two (w.visits + 1)) suffix_is leaf_search in
+    let search_of_stack : IsSearch f im new.stack (here f new) taken_offer.new_one taken_offer.new_two (w.visits + 1) =
+    subst (λ (fs : List Level). IsSearch f im fs (suffix new.z (f.size + 1 - length fs) f.size) taken_offer.new_one taken_offer.new_two (w.visits + 1)) (sym (o.stack ∙ es)) search_at_suffix in
     record {
       size = o.size ∙ h.size;
-      depth = let e = ap length (o.stack ∙ es) in omega arith;
-      room = ap length (o.z ∙ ez) ∙ length-set w.z 0 x ∙ h.room;
+      depth = let stack_length = ap length (o.stack ∙ es) in omega arith;
+      room = ap length (o.z ∙ ez) ∙ length-set w.z 0 entry ∙ h.room;
       small = subst IsSmall (sym o.z) small;
       top = h.top;
-      one = g.new_one;
-      two = g.new_two;
-      best = g.best;
-      search = subst (λ (m : ℕ). IsSearch f im new.stack (here f new) g.new_one g.new_two m) (sym o.visits) p1;
+      one = taken_offer.new_one;
+      two = taken_offer.new_two;
+      best = taken_offer.best;
+      search = subst (λ (m : ℕ). IsSearch f im new.stack (here f new) taken_offer.new_one taken_offer.new_two m) (sym o.visits) search_of_stack;
     }
 
 -- the image of the visited vector is too wide
@@ -212,22 +212,22 @@ pub walk_wide_image : (f : SearchForm) (im : List ℤ → List ℤ) (w : SearchS
     z ≡ set w.z 0 r.choice.entry →
     HasLarge (im (suffix z 0 f.size)) → IsWideIn f im (w.visits + 1)
 walk_wide_image f im w r z mo h v n ez large =
-    let s = focus f im w r.level h v.latest in
-    let x : ℤ = r.choice.entry in
+    let is_search = focus f im w r.level h v.latest in
+    let entry : ℤ = r.choice.entry in
     let dep = h.depth in
-    let zr = h.room in
+    let has_room = h.room in
     let some = v.some in
-    let sh : suffix z 0 f.size ≡ x ∷ here f w = ap (λ q. suffix q 0 f.size) ez ∙ subst (λ (j : ℕ). suffix (set w.z j x) j f.size ≡ x ∷ here f w) n (set_here f im w x mo h v.some) in
-    let ln : length (here f w) ≡ f.size - (f.size + 1 - length w.stack) = suffix-length w.z (f.size + 1 - length w.stack) f.size (omega arith) in
-    search_wide_image f im r.level (drop 1 w.stack) x r.choice.offset (here f w) h.one h.two w.visits (w.visits + 1) s (chosen_nearest r.level x r.choice.offset r.choice.is_up v.chosen)
-    (chosen_offset f r.level (here f w) x r.choice.offset r.choice.is_up v.level v.chosen) (omega arith) (omega arith) (reach_within f im w r h v) (subst (λ (q : List ℤ). HasLarge (im q)) sh large)
+    let suffix_with_entry : suffix z 0 f.size ≡ entry ∷ here f w = ap (λ q. suffix q 0 f.size) ez ∙ subst (λ (j : ℕ). suffix (set w.z j entry) j f.size ≡ entry ∷ here f w) n (set_here f im w entry mo h v.some) in
+    let suffix_long : length (here f w) ≡ f.size - (f.size + 1 - length w.stack) = suffix-length w.z (f.size + 1 - length w.stack) f.size (omega arith) in
+    search_wide_image f im r.level (drop 1 w.stack) entry r.choice.offset (here f w) h.one h.two w.visits (w.visits + 1) is_search (chosen_nearest r.level entry r.choice.offset r.choice.is_up v.chosen)
+    (chosen_offset f r.level (here f w) entry r.choice.offset r.choice.is_up v.level v.chosen) (omega arith) (omega arith) (reach_within f im w r h v) (subst (λ (q : List ℤ). HasLarge (im q)) suffix_with_entry large)
 
 -- ---- sizes
 pub low_size : (f : SearchForm) (im : List ℤ → List ℤ) (w : SearchState) (a : Level) → IsSearchable f → IsWalk f im w → IsLatest w.stack a → unsigned_abs a.low ≤ 2 ^ 122
 low_size f im w a k h t =
-    let s = latest_level f im w a h t in
-    let sh = s.shorter in
-    last a.low (low f (here f w)) f.g (top f) s.low_is s.within (low_from f (here f w) k (omega arith)) k.g_in h.top
+    let is_level = latest_level f im w a h t in
+    let is_shorter = is_level.shorter in
+    last a.low (low f (here f w)) f.g (top f) is_level.low_is is_level.within (low_from f (here f w) k (omega arith)) k.g_in h.top
   where
     last : (a l g t : ℤ) → a ≡ l → l ≤ℤ (pos (2 ^ 60) *ℤ t) → (pos (2 ^ 60) *ℤ g) ≤ℤ l → unsigned_abs g < 2 ^ 52 → t <ℤ pos (2 ^ 62) → unsigned_abs a ≤ 2 ^ 122
     last a l g t e u v s p = omega (arith, polys)
@@ -239,8 +239,8 @@ p2_size f im w k h = last w.best.p2 (value f.p h.two) (top f) h.best.p2 (value_f
     last p v t a b c d = omega (arith, ints)
 
 pub chosen_sizes : (f : SearchForm) (a : Level) (s : List ℤ) (x c : ℤ) (up : Bool) → IsLevel f a s → Chooses a x c up → (unsigned_abs x ≤ 2 ^ 61) × (unsigned_abs c ≤ 2 ^ 100)
-chosen_sizes f a s x c true h k = let p = h.up_size in let q = h.up_offset_size in (omega (arith, ints), omega (arith, ints))
-chosen_sizes f a s x c false h k = let p = h.down_size in let q = h.down_offset_size in (omega (arith, ints), omega (arith, ints))
+chosen_sizes f a s x c true h k = let up_fits = h.up_size in let up_offset_fits = h.up_offset_size in (omega (arith, ints), omega (arith, ints))
+chosen_sizes f a s x c false h k = let down_fits = h.down_size in let down_offset_fits = h.down_offset_size in (omega (arith, ints), omega (arith, ints))
 
 -- ---- the ends of a turn
 pub walk_over : (f : SearchForm) (im : List ℤ → List ℤ) (w : SearchState) (r : NextEntry) → IsWalk f im w → IsReach f w r → IsOver f w.visits
@@ -264,8 +264,8 @@ walk_end f im w budget h n v = record {
 
 pub left_less : (budget v v' m a b : ℕ) → v' ≡ v + 1 → v < budget → a ≤ b + 1 → 2 ≤ m → (budget - v') * m + a < (budget - v) * m + b
 left_less budget v v' m a b e h k n =
-    let g : budget - v ≡ (budget - v') + 1 = omega arith in
-    let q : (budget - v) * m ≡ (budget - v') * m + m = ap (λ j. j * m) g ∙ step (budget - v') m in
+    let one_less_left : budget - v ≡ (budget - v') + 1 = omega arith in
+    let product_is : (budget - v) * m ≡ (budget - v') * m + m = ap (λ j. j * m) one_less_left ∙ step (budget - v') m in
     omega arith
   where
     step : (x m : ℕ) → (x + 1) * m ≡ x * m + m
@@ -286,12 +286,12 @@ walk_begins f b a size z st e g k es zr zs ss ee ge fr = record { begun = λ im 
         let nothing : suffix z (f.size - 1 + 1) f.size ≡ [] = suffix-none z (f.size - 1 + 1) f.size (omega arith) in
         let fr2 : IsFresh (rest f []) (low f []) a =
         subst (λ (u : ℤ). IsFresh (rest f []) u a) (ge ∙ sym (low-nil f k.each)) (subst (λ (u : ℤ). IsFresh u g a) (ee ∙ ap (rest f) nothing) fr) in
-        let w : low f [] ≤ℤ (pos (2 ^ 60) *ℤ top f) = last (low f []) (low f two) (value f.p two) (top f)
+        let low_at_most : low f [] ≤ℤ (pos (2 ^ 60) *ℤ top f) = last (low f []) (low f two) (value f.p two) (top f)
         (subst (λ (m : ℤ). m ≤ℤ low f two) (sym (low-nil f k.each)) (low_from f two k (omega arith))) (k.below two q) bd in
-        let fa : IsLevel f a [] = level_fresh f [] a (omega arith) fr2 w in
-        let r = search_start f im a one two k p q o bd fa (fresh_free (rest f []) (low f []) a fr2) in
-        let l : length st ≡ 1 = ap length ss in
-        let u : [] ≡ suffix z (f.size + 1 - length st) f.size = sym (suffix-none z (f.size + 1 - length st) f.size (omega arith)) in
+        let first_is_level : IsLevel f a [] = level_fresh f [] a (omega arith) fr2 low_at_most in
+        let started_search = search_start f im a one two k p q o bd first_is_level (fresh_free (rest f []) (low f []) a fr2) in
+        let one_level : length st ≡ 1 = ap length ss in
+        let nothing_taken : [] ≡ suffix z (f.size + 1 - length st) f.size = sym (suffix-none z (f.size + 1 - length st) f.size (omega arith)) in
         record {
           size = es;
           depth = omega arith;
@@ -301,7 +301,7 @@ walk_begins f b a size z st e g k es zr zs ss ee ge fr = record { begun = λ im 
           one = one;
           two = two;
           best = hb;
-          search = subst (λ (fs : List Level). IsSearch f im fs (suffix z (f.size + 1 - length st) f.size) one two 0) (sym ss) (subst (λ (v : List ℤ). IsSearch f im (a ∷ []) v one two 0) u r);
+          search = subst (λ (fs : List Level). IsSearch f im fs (suffix z (f.size + 1 - length st) f.size) one two 0) (sym ss) (subst (λ (v : List ℤ). IsSearch f im (a ∷ []) v one two 0) nothing_taken started_search);
         }
 
 -- ---- an offer
@@ -325,7 +325,7 @@ pub leaf_visit : (f : SearchForm) (im : List ℤ → List ℤ) (w new : SearchSt
 leaf_visit f im w new r b z st true k mo h v sm mv n ez es small o = record {
   walk = walk_leaf f im w new r b z st k mo h v sm mv n ez es small o;
   visits = o.visits;
-  depth = let y = drop_length w.stack v.some in let e = ap length (o.stack ∙ es) in omega arith;
+  depth = let one_shorter = drop_length w.stack v.some in let stack_length = ap length (o.stack ∙ es) in omega arith;
 }
 leaf_visit f im w new r b z st false k mo h v sm mv n ez es small o = walk_wide_image f im w r z mo h v n ez o
 

@@ -84,7 +84,7 @@ first_three f k = refl
 
 -- no wide number among narrow ones
 pub not_wide : (s : List ℤ) → ((i : ℕ) → unsigned_abs (item s i) < 2 ^ 46) → HasWide s → ⊥
-not_wide s h w = let a : unsigned_abs (item s w.0) < 2 ^ 46 = h w.0 in absurd (omega (arith, a, w.1))
+not_wide s h w = let is_small : unsigned_abs (item s w.0) < 2 ^ 46 = h w.0 in absurd (omega (arith, is_small, w.1))
 
 -- ---- the baseline, from the numbers x that the integers' numbers y give
 pub baseline_is : (d : List ℤ) (l : List (List ℤ)) (columns : ℕ) (x y z : List ℤ) → 4 ≤ columns → length z ≡ columns - 4 → list_from (item y) 3 (length z) ≡ scaled (pos (2 ^ 16)) z →

@@ -8,7 +8,7 @@ use Rattle.quadratic_form.proofs.Places.{len_list}
 use Rattle.integer_form.specs.Factors.{stored}
 
 more : (k : ℕ) → pos 1 +ℤ pos k ≡ pos (suc k)
-more k = let e : 1 + k ≡ suc k = omega arith in ap pos e
+more k = let same_successor : 1 + k ≡ suc k = omega arith in ap pos same_successor
 
 pub len_form : (e : ℕ → ℕ → ℤ) (j k : ℕ) → len (form_from e j k) ≡ pos k
 len_form e j zero = refl

@@ -13,5 +13,5 @@ stored_same d e f g columns j (suc count) h k = ap₂ (λ (x : Factor) (s : List
     (stored_same d e f g columns (suc j) count (λ i a b. h i (omega arith) (omega arith)) (λ r i a b. k r i (omega arith) (omega arith)))
   where
     one : factor_at (slice_index_or d j (pos 0)) f j (columns - j - 1) ≡ factor_at (slice_index_or e j (pos 0)) g j (columns - j - 1)
-    one = ap₂ (λ (x : ℤ) (s : List ℤ). let y : Factor = record { d = x; l = s } in y) (h j (omega arith) (omega arith))
+    one = ap₂ (λ (x : ℤ) (s : List ℤ). let factor : Factor = record { d = x; l = s } in factor) (h j (omega arith) (omega arith))
         (list_same (λ i. entry f i j) (λ i. entry g i j) (suc j) (columns - j - 1) (λ r a b. k r j (omega arith) (omega arith)))

@@ -30,27 +30,27 @@ last_and_first x y z w h₁ h₂ h₃ h₄ = (omega (arith, lins, clamps), omega
 -- ---- the four cases of signs
 above_above : (a b c d : ℤ) → a ≤ℤ b → c ≤ℤ d → pos 0 ≤ℤ a → pos 0 ≤ℤ c → (a *ℤ c ≡ least_corner a b c d) × (b *ℤ d ≡ most_corner a b c d)
 above_above a b c d ab cd a0 c0 =
-    let b0 : pos 0 ≤ℤ b = omega (arith, lins) in
-    let d0 : pos 0 ≤ℤ d = omega (arith, lins) in
-    first_and_last (a *ℤ c) (a *ℤ d) (b *ℤ c) (b *ℤ d) (mul_le_left a c d a0 cd) (mul_le_left b c d b0 cd) (mul_le_right c a b c0 ab) (mul_le_right d a b d0 ab)
+    let b_not_negative : pos 0 ≤ℤ b = omega (arith, lins) in
+    let d_not_negative : pos 0 ≤ℤ d = omega (arith, lins) in
+    first_and_last (a *ℤ c) (a *ℤ d) (b *ℤ c) (b *ℤ d) (mul_le_left a c d a0 cd) (mul_le_left b c d b_not_negative cd) (mul_le_right c a b c0 ab) (mul_le_right d a b d_not_negative ab)
 
 above_below : (a b c d : ℤ) → a ≤ℤ b → c ≤ℤ d → pos 0 ≤ℤ a → d ≤ℤ pos 0 → (b *ℤ c ≡ least_corner a b c d) × (a *ℤ d ≡ most_corner a b c d)
 above_below a b c d ab cd a0 d0 =
-    let b0 : pos 0 ≤ℤ b = omega (arith, lins) in
-    let c0 : c ≤ℤ pos 0 = omega (arith, lins) in
-    third_and_second (a *ℤ c) (a *ℤ d) (b *ℤ c) (b *ℤ d) (mul_le_left a c d a0 cd) (mul_le_left b c d b0 cd) (turned_right c a b c0 ab) (turned_right d a b d0 ab)
+    let b_not_negative : pos 0 ≤ℤ b = omega (arith, lins) in
+    let c_not_positive : c ≤ℤ pos 0 = omega (arith, lins) in
+    third_and_second (a *ℤ c) (a *ℤ d) (b *ℤ c) (b *ℤ d) (mul_le_left a c d a0 cd) (mul_le_left b c d b_not_negative cd) (turned_right c a b c_not_positive ab) (turned_right d a b d0 ab)
 
 below_above : (a b c d : ℤ) → a ≤ℤ b → c ≤ℤ d → b ≤ℤ pos 0 → pos 0 ≤ℤ c → (a *ℤ d ≡ least_corner a b c d) × (b *ℤ c ≡ most_corner a b c d)
 below_above a b c d ab cd b0 c0 =
-    let a0 : a ≤ℤ pos 0 = omega (arith, lins) in
-    let d0 : pos 0 ≤ℤ d = omega (arith, lins) in
-    second_and_third (a *ℤ c) (a *ℤ d) (b *ℤ c) (b *ℤ d) (turned_left a c d a0 cd) (turned_left b c d b0 cd) (mul_le_right c a b c0 ab) (mul_le_right d a b d0 ab)
+    let a_not_positive : a ≤ℤ pos 0 = omega (arith, lins) in
+    let d_not_negative : pos 0 ≤ℤ d = omega (arith, lins) in
+    second_and_third (a *ℤ c) (a *ℤ d) (b *ℤ c) (b *ℤ d) (turned_left a c d a_not_positive cd) (turned_left b c d b0 cd) (mul_le_right c a b c0 ab) (mul_le_right d a b d_not_negative ab)
 
 below_below : (a b c d : ℤ) → a ≤ℤ b → c ≤ℤ d → b ≤ℤ pos 0 → d ≤ℤ pos 0 → (b *ℤ d ≡ least_corner a b c d) × (a *ℤ c ≡ most_corner a b c d)
 below_below a b c d ab cd b0 d0 =
-    let a0 : a ≤ℤ pos 0 = omega (arith, lins) in
-    let c0 : c ≤ℤ pos 0 = omega (arith, lins) in
-    last_and_first (a *ℤ c) (a *ℤ d) (b *ℤ c) (b *ℤ d) (turned_left a c d a0 cd) (turned_left b c d b0 cd) (turned_right c a b c0 ab) (turned_right d a b d0 ab)
+    let a_not_positive : a ≤ℤ pos 0 = omega (arith, lins) in
+    let c_not_positive : c ≤ℤ pos 0 = omega (arith, lins) in
+    last_and_first (a *ℤ c) (a *ℤ d) (b *ℤ c) (b *ℤ d) (turned_left a c d a_not_positive cd) (turned_left b c d b0 cd) (turned_right c a b c_not_positive ab) (turned_right d a b d0 ab)
 
 -- x and y, or where the other box is below 0, y and x
 pub record InOrder (end x y first last : ℤ) : Type 0 where

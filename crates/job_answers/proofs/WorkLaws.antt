@@ -55,13 +55,13 @@ text_over : (work : FileWork) (name text : List ℕ) (job : TextJob) (end : Endi
 text_over work name text job end is read (inl answered) =
     verdict_over work (name ∷ []) NoLine (TextEnds job work.told name) end read answered.verdict (inl (record { text = text; is = is; ends_so = inl answered }))
 text_over work name text job end is read (inr refused) =
-    let s = ap (λ (e : Ending). e.status) refused.end_is in
+    let status_is = ap (λ (e : Ending). e.status) refused.end_is in
     record {
       ends_so = inl (record { text = text; is = is; ends_so = inr refused });
       answered = λ verdict. read;
       refused = λ is_refused. inl (read_whole work.told work.left name refused.at end read.last refused.end_is is_refused);
-      fault = λ fault. absurd (cc (s, fault));
-      named = λ fault. absurd (cc (s, fault));
+      fault = λ fault. absurd (cc (status_is, fault));
+      named = λ fault. absurd (cc (status_is, fault));
     }
 
 pub text_done : (work : FileWork) (name text : List ℕ) (job : TextJob) (r : Result JobOutput JobStop) → IsTextOf work.told name text → IsReadToEnd work.told work.left name
@@ -89,20 +89,20 @@ only_fault work name end opens line never = λ is. record {
 unloaded_over : (work : FileWork) (name : List ℕ) (job : TextJob) (end : Ending) → OpensFirst (name ∷ []) work.openings work.left.openings → EndsUnloaded work.told name end
     → (end.status ≡ ReadFault → Rose work.faults work.faults_now) → (work.sure name → end.status ≢ ReadFault) → EndsOver work (name ∷ []) NoLine (TextEnds job work.told name) end
 unloaded_over work name job end opens (inl large) rose never =
-    let s = ap (λ (e : Ending). e.status) large.end_is in
+    let status_is = ap (λ (e : Ending). e.status) large.end_is in
     record {
       ends_so = inr (inl large);
-      answered = λ verdict. absurd (subst IsVerdictStatus s verdict);
+      answered = λ verdict. absurd (subst IsVerdictStatus status_is verdict);
       refused = λ is. inl (large_whole work.told work.left name end large is);
       fault = rose;
-      named = λ fault. absurd (cc (s, fault));
+      named = λ fault. absurd (cc (status_is, fault));
     }
 unloaded_over work name job end opens (inr fault) rose never =
-    let s = ap (λ (e : Ending). e.status) fault in
+    let status_is = ap (λ (e : Ending). e.status) fault in
     record {
       ends_so = inr (inr fault);
-      answered = λ verdict. absurd (subst IsVerdictStatus s verdict);
-      refused = λ is. absurd (cc (s, is));
+      answered = λ verdict. absurd (subst IsVerdictStatus status_is verdict);
+      refused = λ is. absurd (cc (status_is, is));
       fault = rose;
       named = only_fault work name end opens (λ is. ap (λ (e : Ending). e.err) fault) never;
     }

@@ -33,17 +33,17 @@ above_is x r lo hi d mean other e angle c s c' t g k = by_lt_z (angle.num *ℤ p
     (λ l. upper_easy angle.num (pos angle.den) d.num (pos d.den) x r (weak _ _ l) g.radius (near_nn d mean other g.near) (weak _ _ (positive_of angle)) (weak _ _ (positive_of d)))
     (λ l.
     let z : ℤ = (angle.num *ℤ pos (2 ^ 56)) -ℤ (x *ℤ pos angle.den) in
-    let z0 : pos 0 ≤ℤ z = less_nn l in
+    let z_not_negative : pos 0 ≤ℤ z = less_nn l in
     let w : ℤ = pos angle.den *ℤ pos (2 ^ 56) in
     let far : Rational = record { num = z; den = angle.den * 2 ^ 56; positive = mul-pos angle.positive (pow_pos 56) } in
-    let n : AreWithin far angle (of_scale 56 x) = (
-      own_near z (pos angle.den *ℤ pos (2 ^ 56)) z0,
-      back_turned (angle.num *ℤ pos (2 ^ 56)) (x *ℤ pos angle.den) (pos angle.den) (pos (2 ^ 56)) z0
+    let is_within : AreWithin far angle (of_scale 56 x) = (
+      own_near z (pos angle.den *ℤ pos (2 ^ 56)) z_not_negative,
+      back_turned (angle.num *ℤ pos (2 ^ 56)) (x *ℤ pos angle.den) (pos angle.den) (pos (2 ^ 56)) z_not_negative
           (weak _ _ (lt_pos 0 (angle.den * 2 ^ 56) far.positive)),
     ) in
-    let law = sharp_law 5 far angle (of_scale 56 x) c s c' t (lit≤ tt) g.is_anomaly.is_pair k n in
+    let law = sharp_law 5 far angle (of_scale 56 x) c s c' t (lit≤ tt) g.is_anomaly.is_pair k is_within in
     upper angle.num (pos angle.den) s.num (pos s.den) mean.num (pos mean.den) other.num (pos other.den) e.num (pos e.den) t.num (pos t.den) d.num (pos d.den) x r hi
-    g.held.1 (le_eq (sym g.is_anomaly.equation)) g.near.0 law.1.0 g.e_high g.e_low g.above z0 (positive_of angle) (positive_of s) (positive_of mean)
+    g.held.1 (le_eq (sym g.is_anomaly.equation)) g.near.0 law.1.0 g.e_high g.e_low g.above z_not_negative (positive_of angle) (positive_of s) (positive_of mean)
     (positive_of other) (positive_of e) (positive_of t) (positive_of d))
 
 pub below_is : (x r lo hi : ℤ) (d mean other e angle c s c' t : Rational) → IsSeen x r lo hi d mean other e angle c s t → IsAnglePair 5 (of_scale 56 x) c' t →
@@ -52,15 +52,15 @@ below_is x r lo hi d mean other e angle c s c' t g k = by_lt_z (x *ℤ pos angle
     (λ l. lower_easy angle.num (pos angle.den) d.num (pos d.den) x r (weak _ _ l) g.radius (near_nn d mean other g.near) (weak _ _ (positive_of angle)) (weak _ _ (positive_of d)))
     (λ l.
     let z : ℤ = (x *ℤ pos angle.den) -ℤ (angle.num *ℤ pos (2 ^ 56)) in
-    let z0 : pos 0 ≤ℤ z = less_nn l in
+    let z_not_negative : pos 0 ≤ℤ z = less_nn l in
     let far : Rational = record { num = z; den = angle.den * 2 ^ 56; positive = mul-pos angle.positive (pow_pos 56) } in
-    let n : AreWithin far angle (of_scale 56 x) = (
-      back_near (x *ℤ pos angle.den) (angle.num *ℤ pos (2 ^ 56)) (pos angle.den *ℤ pos (2 ^ 56)) z0 (weak _ _ (lt_pos 0 (angle.den * 2 ^ 56) far.positive)),
+    let is_within : AreWithin far angle (of_scale 56 x) = (
+      back_near (x *ℤ pos angle.den) (angle.num *ℤ pos (2 ^ 56)) (pos angle.den *ℤ pos (2 ^ 56)) z_not_negative (weak _ _ (lt_pos 0 (angle.den * 2 ^ 56) far.positive)),
       turned z (pos angle.den) (pos (2 ^ 56)),
     ) in
-    let law = sharp_law 5 far angle (of_scale 56 x) c s c' t (lit≤ tt) g.is_anomaly.is_pair k n in
+    let law = sharp_law 5 far angle (of_scale 56 x) c s c' t (lit≤ tt) g.is_anomaly.is_pair k is_within in
     lower angle.num (pos angle.den) s.num (pos s.den) mean.num (pos mean.den) other.num (pos other.den) e.num (pos e.den) t.num (pos t.den) d.num (pos d.den) x r lo
-    g.held.0 (le_eq g.is_anomaly.equation) g.near.1 law.1.1 g.e_high g.e_low g.below z0 (positive_of angle) (positive_of s) (positive_of mean)
+    g.held.0 (le_eq g.is_anomaly.equation) g.near.1 law.1.1 g.e_high g.e_low g.below z_not_negative (positive_of angle) (positive_of s) (positive_of mean)
     (positive_of other) (positive_of e) (positive_of t) (positive_of d))
   where
     turned : (z a b : ℤ) → (z *ℤ (a *ℤ b)) ≤ℤ (z *ℤ (b *ℤ a))
@@ -116,18 +116,18 @@ pub contraction : (ml mh el eh x r a b fl fh al ah cl ch sl sh : ℤ) (d mean ot
 contraction ml mh el eh x r a b fl fh al ah cl ch sl sh d mean other e angle c s f h n k g =
     let star = canonical_exists 5 (of_scale 56 x) (between_range x r al ah x f.low_is f.high_is f.low_end f.high_end (back x r f.radius) (on x r f.radius)) in
     let t : Rational = star.1 in
-    let p = canonical_is_pair 5 (of_scale 56 x) star.0 t star.2 in
+    let is_pair = canonical_is_pair 5 (of_scale 56 x) star.0 t star.2 in
     let seen : IsSeen x r fl fh d mean other e angle c s t = record {
       is_anomaly = g;
       near = n;
-      held = f.right other e t h k (f.sine star.0 t p);
+      held = f.right other e t h k (f.sine star.0 t is_pair);
       e_low = e_sign e.num (pos e.den) el k.0 f.e_low (weak _ _ (positive_of e));
       e_high = e_bound e.num (pos e.den) eh k.1 f.e_high (weak _ _ (positive_of e));
       above = f.above;
       below = f.below;
       radius = f.radius;
     } in
-    record { above = above_is x r fl fh d mean other e angle c s star.0 t seen p; below = below_is x r fl fh d mean other e angle c s star.0 t seen p }
+    record { above = above_is x r fl fh d mean other e angle c s star.0 t seen is_pair; below = below_is x r fl fh d mean other e angle c s star.0 t seen is_pair }
 
 boxed : (x r al ah : ℤ) (z : Rational) → al ≡ x -ℤ r → ah ≡ x +ℤ r → ((x -ℤ r) *ℤ pos z.den) ≤ℤ (z.num *ℤ pos (2 ^ 56)) → (z.num *ℤ pos (2 ^ 56)) ≤ℤ ((x +ℤ r) *ℤ pos z.den) → InBox 56 al ah z
 boxed x r al ah z e f h k = (subst (λ (i : ℤ). (i *ℤ pos z.den) ≤ℤ (z.num *ℤ pos (2 ^ 56))) (sym e) h, subst (λ (i : ℤ). (z.num *ℤ pos (2 ^ 56)) ≤ℤ (i *ℤ pos z.den)) (sym f) k)
@@ -136,11 +136,11 @@ pub found_holds : (ml mh el eh x r a b fl fh al ah cl ch sl sh : ℤ) (mean e an
     InBox 56 ml mh mean → InBox 60 el eh e → SolvesKepler mean e angle c s → InBox 56 al ah angle × InBox 60 cl ch c × InBox 60 sl sh s
 found_holds ml mh el eh x r a b fl fh al ah cl ch sl sh mean e angle c s f h k g =
     let zero : Rational = record { num = pos 0; den = 1; positive = lit< tt } in
-    let n : AreWithin zero mean mean = (zero_near mean.num (pos mean.den), zero_near mean.num (pos mean.den)) in
-    let q = contraction ml mh el eh x r a b fl fh al ah cl ch sl sh zero mean mean e angle c s f h n k g in
-    let i : InBox 56 al ah angle = boxed x r al ah angle f.low_is f.high_is (plain_low angle.num (pos angle.den) x r q.below) (plain_high angle.num (pos angle.den) x r q.above) in
-    let j = f.pair angle c s i g.is_pair in
-    (i, j.0, j.1)
+    let none_apart : AreWithin zero mean mean = (zero_near mean.num (pos mean.den), zero_near mean.num (pos mean.den)) in
+    let is_close = contraction ml mh el eh x r a b fl fh al ah cl ch sl sh zero mean mean e angle c s f h none_apart k g in
+    let angle_in_box : InBox 56 al ah angle = boxed x r al ah angle f.low_is f.high_is (plain_low angle.num (pos angle.den) x r is_close.below) (plain_high angle.num (pos angle.den) x r is_close.above) in
+    let pair_in_boxes = f.pair angle c s angle_in_box g.is_pair in
+    (angle_in_box, pair_in_boxes.0, pair_in_boxes.1)
 
 -- the angle, clamped to the box
 record IsClamped (al ah : ℤ) (d angle z : Rational) : Type 0 where
@@ -153,15 +153,15 @@ clamp : (x r al ah : ℤ) (d angle : Rational) → IsClose x r d angle → InRan
 clamp x r al ah d angle q i r0 d0 e f h k =
     let n : ℤ = angle.num in
     let m : ℤ = pos angle.den in
-    let m0 : pos 0 ≤ℤ m = weak _ _ (positive_of angle) in
-    let w0 : pos 0 ≤ℤ pos d.den = weak _ _ (positive_of d) in
-    let p0 : pos 0 ≤ℤ pos (2 ^ 56) = le_pos 0 (2 ^ 56) (lit≤ tt) in
+    let m_not_negative : pos 0 ≤ℤ m = weak _ _ (positive_of angle) in
+    let den_not_negative : pos 0 ≤ℤ pos d.den = weak _ _ (positive_of d) in
+    let scale_not_negative : pos 0 ≤ℤ pos (2 ^ 56) = le_pos 0 (2 ^ 56) (lit≤ tt) in
     by_lt_z ((x +ℤ r) *ℤ m) (n *ℤ pos (2 ^ 56))
     (λ l. (
       of_scale 56 (x +ℤ r),
       record {
-        held = boxed x r al ah (of_scale 56 (x +ℤ r)) e f (mul_le_right (pos (2 ^ 56)) (x -ℤ r) (x +ℤ r) p0 (across x r r0)) (le_refl_ℤ ((x +ℤ r) *ℤ pos (2 ^ 56)));
-        near = (high_near n m d.num (pos d.den) x r q.above d0 m0, high_back n m d.num (pos d.den) x r (weak _ _ l) d0 m0 w0);
+        held = boxed x r al ah (of_scale 56 (x +ℤ r)) e f (mul_le_right (pos (2 ^ 56)) (x -ℤ r) (x +ℤ r) scale_not_negative (across x r r0)) (le_refl_ℤ ((x +ℤ r) *ℤ pos (2 ^ 56)));
+        near = (high_near n m d.num (pos d.den) x r q.above d0 m_not_negative, high_back n m d.num (pos d.den) x r (weak _ _ l) d0 m_not_negative den_not_negative);
         in_range = between_range x r al ah (x +ℤ r) e f h k (across x r r0) (le_refl_ℤ (x +ℤ r));
       },
     ))
@@ -169,8 +169,8 @@ clamp x r al ah d angle q i r0 d0 e f h k =
     (λ l. (
       of_scale 56 (x -ℤ r),
       record {
-        held = boxed x r al ah (of_scale 56 (x -ℤ r)) e f (le_refl_ℤ ((x -ℤ r) *ℤ pos (2 ^ 56))) (mul_le_right (pos (2 ^ 56)) (x -ℤ r) (x +ℤ r) p0 (across x r r0));
-        near = (low_back n m d.num (pos d.den) x r (weak _ _ l) d0 m0 w0, low_near n m d.num (pos d.den) x r q.below d0 m0);
+        held = boxed x r al ah (of_scale 56 (x -ℤ r)) e f (le_refl_ℤ ((x -ℤ r) *ℤ pos (2 ^ 56))) (mul_le_right (pos (2 ^ 56)) (x -ℤ r) (x +ℤ r) scale_not_negative (across x r r0));
+        near = (low_back n m d.num (pos d.den) x r (weak _ _ l) d0 m_not_negative den_not_negative, low_near n m d.num (pos d.den) x r q.below d0 m_not_negative);
         in_range = between_range x r al ah (x -ℤ r) e f h k (le_refl_ℤ (x -ℤ r)) (across x r r0);
       },
     ))
@@ -178,7 +178,7 @@ clamp x r al ah d angle q i r0 d0 e f h k =
       angle,
       record {
         held = boxed x r al ah angle e f l u;
-        near = (own_two n m d.num (pos d.den) d0 m0, own_two n m d.num (pos d.den) d0 m0);
+        near = (own_two n m d.num (pos d.den) d0 m_not_negative, own_two n m d.num (pos d.den) d0 m_not_negative);
         in_range = i;
       },
     )))
@@ -187,19 +187,19 @@ pub found_near : (ml mh el eh x r a b fl fh al ah cl ch sl sh : ℤ) (d mean e a
     IsNearBox 56 ml mh d mean → InBox 60 el eh e → SolvesKepler mean e angle c s → IsNearBox 56 al ah (times 2 d) angle
     × IsNearBox 60 cl ch (add_r (times 4 d) (two_to_minus 60)) c × IsNearBox 60 sl sh (add_r (times 4 d) (two_to_minus 60)) s
 found_near ml mh el eh x r a b fl fh al ah cl ch sl sh d mean e angle c s f h k g =
-    let q = contraction ml mh el eh x r a b fl fh al ah cl ch sl sh d mean h.inside e angle c s f h.held h.near k g in
-    let d0 = near_nn d mean h.inside h.near in
-    let z = clamp x r al ah d angle q g.is_pair.in_range f.radius d0 f.low_is f.high_is f.low_end f.high_end in
-    let star = canonical_exists 5 z.0 z.1.in_range in
+    let is_close = contraction ml mh el eh x r a b fl fh al ah cl ch sl sh d mean h.inside e angle c s f h.held h.near k g in
+    let d_not_negative = near_nn d mean h.inside h.near in
+    let clamped = clamp x r al ah d angle is_close g.is_pair.in_range f.radius d_not_negative f.low_is f.high_is f.low_end f.high_end in
+    let star = canonical_exists 5 clamped.0 clamped.1.in_range in
     let u : Rational = star.0 in
     let v : Rational = star.1 in
-    let p = canonical_is_pair 5 z.0 u v star.2 in
-    let law = sharp_law 5 (times 2 d) angle z.0 c s u v (lit≤ tt) g.is_pair p z.1.near in
-    let j = f.pair z.0 u v z.1.held p in
-    let w0 : pos 0 ≤ℤ pos d.den = weak _ _ (positive_of d) in (
-      record { inside = z.0; held = z.1.held; near = z.1.near },
-      record { inside = u; held = j.0; near = (loose c u law.0.0 w0, loose u c law.0.1 w0) },
-      record { inside = v; held = j.1; near = (loose s v law.1.0 w0, loose v s law.1.1 w0) },
+    let is_pair = canonical_is_pair 5 clamped.0 u v star.2 in
+    let law = sharp_law 5 (times 2 d) angle clamped.0 c s u v (lit≤ tt) g.is_pair is_pair clamped.1.near in
+    let pair_in_boxes = f.pair clamped.0 u v clamped.1.held is_pair in
+    let den_not_negative : pos 0 ≤ℤ pos d.den = weak _ _ (positive_of d) in (
+      record { inside = clamped.0; held = clamped.1.held; near = clamped.1.near },
+      record { inside = u; held = pair_in_boxes.0; near = (loose c u law.0.0 den_not_negative, loose u c law.0.1 den_not_negative) },
+      record { inside = v; held = pair_in_boxes.1; near = (loose s v law.1.0 den_not_negative, loose v s law.1.1 den_not_negative) },
     )
   where
     loose : (x y : Rational) → sub_r x y ≤ʳ add_r (times 2 (times 2 d)) (two_to_minus 67) → pos 0 ≤ℤ pos d.den → sub_r x y ≤ʳ add_r (times 4 d) (two_to_minus 60)

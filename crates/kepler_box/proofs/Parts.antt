@@ -38,18 +38,18 @@ pub record IsSizedProduct (p q a b : ℤ) : Type 0 where
 -- the ends of the product, in units of 2^-56
 pub product_ends : (p q a b : ℤ) → IsSizedProduct p q a b → (neg_ℤ (pos (2 ^ 52)) ≤ℤ floor_div (least_corner p q a b) (2 ^ 64)) × (ceil_div (most_corner p q a b) (2 ^ 64) ≤ℤ pos (2 ^ 52))
 product_ends p q a b h =
-    let p1 = le_trans_ℤ h.ordered h.e_high in
-    let q0 = le_trans_ℤ h.e_low h.ordered in
-    let pa = corner_size p a h.e_low p1 h.a_size in
-    let pb = corner_size p b h.e_low p1 h.b_size in
-    let qa = corner_size q a q0 h.e_high h.a_size in
-    let qb = corner_size q b q0 h.e_high h.b_size in (
-      floor_greatest (least_corner p q a b) (neg_ℤ (pos (2 ^ 52))) (2 ^ 64) (lit< tt) (least_case (λ z. neg_ℤ (pos (2 ^ 116)) ≤ℤ z) (p *ℤ a) (p *ℤ b) (q *ℤ a) (q *ℤ b) pa.0 pb.0 qa.0 qb.0),
-      ceil_least (most_corner p q a b) (pos (2 ^ 52)) (2 ^ 64) (lit< tt) (most_case (λ z. z ≤ℤ pos (2 ^ 116)) (p *ℤ a) (p *ℤ b) (q *ℤ a) (q *ℤ b) pa.1 pb.1 qa.1 qb.1),
+    let p_at_most_limit = le_trans_ℤ h.ordered h.e_high in
+    let q_not_negative = le_trans_ℤ h.e_low h.ordered in
+    let pa_between = corner_size p a h.e_low p_at_most_limit h.a_size in
+    let pb_between = corner_size p b h.e_low p_at_most_limit h.b_size in
+    let qa_between = corner_size q a q_not_negative h.e_high h.a_size in
+    let qb_between = corner_size q b q_not_negative h.e_high h.b_size in (
+      floor_greatest (least_corner p q a b) (neg_ℤ (pos (2 ^ 52))) (2 ^ 64) (lit< tt) (least_case (λ z. neg_ℤ (pos (2 ^ 116)) ≤ℤ z) (p *ℤ a) (p *ℤ b) (q *ℤ a) (q *ℤ b) pa_between.0 pb_between.0 qa_between.0 qb_between.0),
+      ceil_least (most_corner p q a b) (pos (2 ^ 52)) (2 ^ 64) (lit< tt) (most_case (λ z. z ≤ℤ pos (2 ^ 116)) (p *ℤ a) (p *ℤ b) (q *ℤ a) (q *ℤ b) pa_between.1 pb_between.1 qa_between.1 qb_between.1),
     )
 
 pub product_fits : (p q a b : ℤ) → IsSizedProduct p q a b → Past (floor_div (least_corner p q a b) (2 ^ 64)) (ceil_div (most_corner p q a b) (2 ^ 64)) → ⊥
-product_fits p q a b h = let e = product_ends p q a b h in go (floor_div (least_corner p q a b) (2 ^ 64)) (ceil_div (most_corner p q a b) (2 ^ 64)) e.0 e.1
+product_fits p q a b h = let ends_fit = product_ends p q a b h in go (floor_div (least_corner p q a b) (2 ^ 64)) (ceil_div (most_corner p q a b) (2 ^ 64)) ends_fit.0 ends_fit.1
   where
     go : (l h : ℤ) → neg_ℤ (pos (2 ^ 52)) ≤ℤ l → h ≤ℤ pos (2 ^ 52) → Past l h → ⊥
     go l h i j (inl k) = omega (arith, ints)
@@ -57,7 +57,7 @@ product_fits p q a b h = let e = product_ends p q a b h in go (floor_div (least_
 
 pub sum_fits : (p q a b ml mh pl ph : ℤ) → IsSizedProduct p q a b → neg_ℤ (pos (12 * 2 ^ 56)) ≤ℤ ml → mh ≤ℤ pos (12 * 2 ^ 56)
     → pl ≡ floor_div (least_corner p q a b) (2 ^ 64) → ph ≡ ceil_div (most_corner p q a b) (2 ^ 64) → Past (ml +ℤ pl) (mh +ℤ ph) → ⊥
-sum_fits p q a b ml mh pl ph h m0 m1 el eh = let e = product_ends p q a b h in go ml mh pl ph m0 m1 (subst (λ z. neg_ℤ (pos (2 ^ 52)) ≤ℤ z) (sym el) e.0) (subst (λ z. z ≤ℤ pos (2 ^ 52)) (sym eh) e.1)
+sum_fits p q a b ml mh pl ph h m0 m1 el eh = let ends_fit = product_ends p q a b h in go ml mh pl ph m0 m1 (subst (λ z. neg_ℤ (pos (2 ^ 52)) ≤ℤ z) (sym el) ends_fit.0) (subst (λ z. z ≤ℤ pos (2 ^ 52)) (sym eh) ends_fit.1)
   where
     go : (m n l h : ℤ) → neg_ℤ (pos (12 * 2 ^ 56)) ≤ℤ m → n ≤ℤ pos (12 * 2 ^ 56) → neg_ℤ (pos (2 ^ 52)) ≤ℤ l → h ≤ℤ pos (2 ^ 52) → Past (m +ℤ l) (n +ℤ h) → ⊥
     go m n l h m0 n0 i j (inl k) = omega (arith, ints)
@@ -139,22 +139,22 @@ residual ml mh el eh m x a b fl fh r =
     let t : ℤ = floor_div (a +ℤ b) 2 in
     let mid = middle a b t (floor_le (a +ℤ b) 2 (lit< tt)) (lt_floor (a +ℤ b) 2 (lit< tt)) r.sine.ordered r.sine.narrow in
     let z : ℤ = floor_div (el *ℤ t) (2 ^ 64) in
-    let z0 = floor_le (el *ℤ t) (2 ^ 64) (lit< tt) in
-    let z1 = lt_floor (el *ℤ t) (2 ^ 64) (lit< tt) in
-    let w = r.settled (m +ℤ z) (step_is m el x a b t (m +ℤ z) r.sine mid.0 mid.1 mid.2 mid.3 refl) in
-    let e1 = le_trans_ℤ r.sized.ordered r.sized.e_high in
-    let ab = sizes a b r.sized.a_size r.sized.b_size in
+    let floor_at_most = floor_le (el *ℤ t) (2 ^ 64) (lit< tt) in
+    let below_next = lt_floor (el *ℤ t) (2 ^ 64) (lit< tt) in
+    let next_is_near = r.settled (m +ℤ z) (step_is m el x a b t (m +ℤ z) r.sine mid.0 mid.1 mid.2 mid.3 refl) in
+    let low_at_most_limit = le_trans_ℤ r.sized.ordered r.sized.e_high in
+    let sizes_within = sizes a b r.sized.a_size r.sized.b_size in
     let own = apart_self el in
-    let le = le_refl_ℤ el in
+    let low_at_low = le_refl_ℤ el in
     let most : most_corner el eh a b ≤ℤ ((el *ℤ t) +ℤ pos 18446744073709551616) = most_case (λ (y : ℤ). y ≤ℤ ((el *ℤ t) +ℤ pos 18446744073709551616)) (el *ℤ a) (el *ℤ b) (eh *ℤ a) (eh *ℤ b)
-    (corner_high el eh el t a (under a t mid.0) own le r.sized.e_low e1 ab.1) (corner_high el eh el t b mid.3 own le r.sized.e_low e1 ab.3)
-    (corner_high eh eh el t a (under a t mid.0) r.e_narrow r.sized.ordered r.sized.e_low e1 ab.1) (corner_high eh eh el t b mid.3 r.e_narrow r.sized.ordered r.sized.e_low e1 ab.3) in
+    (corner_high el eh el t a (under a t mid.0) own low_at_low r.sized.e_low low_at_most_limit sizes_within.1) (corner_high el eh el t b mid.3 own low_at_low r.sized.e_low low_at_most_limit sizes_within.3)
+    (corner_high eh eh el t a (under a t mid.0) r.e_narrow r.sized.ordered r.sized.e_low low_at_most_limit sizes_within.1) (corner_high eh eh el t b mid.3 r.e_narrow r.sized.ordered r.sized.e_low low_at_most_limit sizes_within.3) in
     let least : ((el *ℤ t) -ℤ pos 18446744073709551616) ≤ℤ least_corner el eh a b = least_case (λ (y : ℤ). ((el *ℤ t) -ℤ pos 18446744073709551616) ≤ℤ y) (el *ℤ a) (el *ℤ b) (eh *ℤ a) (eh *ℤ b)
-    (corner_low el eh el t a mid.2 own le r.sized.e_low e1 ab.0) (corner_low el eh el t b (under t b mid.1) own le r.sized.e_low e1 ab.2)
-    (corner_low eh eh el t a mid.2 r.e_narrow r.sized.ordered r.sized.e_low e1 ab.0) (corner_low eh eh el t b (under t b mid.1) r.e_narrow r.sized.ordered r.sized.e_low e1 ab.2) in
-    let up = ceil_least (most_corner el eh a b) (z +ℤ pos 2) (2 ^ 64) (lit< tt) (two_up (most_corner el eh a b) (el *ℤ t) z most z1) in
-    let down = floor_greatest (least_corner el eh a b) (z -ℤ pos 1) (2 ^ 64) (lit< tt) (one_down (least_corner el eh a b) (el *ℤ t) z least z0) in
-    (above m z x mh fh (ceil_div (most_corner el eh a b) (2 ^ 64)) r.hi_is up w.0 r.m_above, below m z x ml fl (floor_div (least_corner el eh a b) (2 ^ 64)) r.lo_is down w.1 r.m_below)
+    (corner_low el eh el t a mid.2 own low_at_low r.sized.e_low low_at_most_limit sizes_within.0) (corner_low el eh el t b (under t b mid.1) own low_at_low r.sized.e_low low_at_most_limit sizes_within.2)
+    (corner_low eh eh el t a mid.2 r.e_narrow r.sized.ordered r.sized.e_low low_at_most_limit sizes_within.0) (corner_low eh eh el t b (under t b mid.1) r.e_narrow r.sized.ordered r.sized.e_low low_at_most_limit sizes_within.2) in
+    let ceil_at_most = ceil_least (most_corner el eh a b) (z +ℤ pos 2) (2 ^ 64) (lit< tt) (two_up (most_corner el eh a b) (el *ℤ t) z most below_next) in
+    let down = floor_greatest (least_corner el eh a b) (z -ℤ pos 1) (2 ^ 64) (lit< tt) (one_down (least_corner el eh a b) (el *ℤ t) z least floor_at_most) in
+    (above m z x mh fh (ceil_div (most_corner el eh a b) (2 ^ 64)) r.hi_is ceil_at_most next_is_near.0 r.m_above, below m z x ml fl (floor_div (least_corner el eh a b) (2 ^ 64)) r.lo_is down next_is_near.1 r.m_below)
   where
     middle : (a b t : ℤ) → (t *ℤ pos 2) ≤ℤ (a +ℤ b) → (a +ℤ b) <ℤ ((t *ℤ pos 2) +ℤ pos 2) → a ≤ℤ b → (b -ℤ a) ≤ℤ pos 512 → (a ≤ℤ t) × (t ≤ℤ b) × ((t -ℤ a) ≤ℤ pos 256) × ((b -ℤ t) ≤ℤ pos 256)
     middle a b t h k i j = (omega (arith, ints), omega (arith, ints), omega (arith, ints), omega (arith, ints))
@@ -213,7 +213,7 @@ wider_pair w h = omega (arith, ints)
 
 -- ---- what is in reach of a mean anomaly
 pub reached_low : (m x : ℤ) → neg_ℤ (pos (12 * 2 ^ 56)) ≤ℤ m → AreNear (pos (2 ^ 52)) x m → neg_ℤ (pos (13 * 2 ^ 56)) ≤ℤ x
-reached_low m x h n = let k = n.1 in omega (arith, ints)
+reached_low m x h n = let fall_within = n.1 in omega (arith, ints)
 
 pub reached_high : (m x : ℤ) → m ≤ℤ pos (12 * 2 ^ 56) → AreNear (pos (2 ^ 52)) x m → x ≤ℤ pos (13 * 2 ^ 56)
-reached_high m x h n = let k = n.0 in omega (arith, ints)
+reached_high m x h n = let rise_within = n.0 in omega (arith, ints)

@@ -36,9 +36,9 @@ one_side m e x y a b d rx ry e0 e1 d0 w p q =
     let gap = sine_gap s.num (pos s.den) p.sine t.num (pos t.den) q.sine d (p.near star.0 s star.2).0 (q.near moon.0 t moon.2).1 law.1.0 (lt_pos 0 s.den s.positive) (lt_pos 0 t.den t.positive) in
     let i : ℤ = floor_div (e *ℤ p.sine) (2 ^ 64) in
     let j : ℤ = floor_div (e *ℤ q.sine) (2 ^ 64) in
-    let r = step_gap e p.sine q.sine i j d (floor_le (e *ℤ p.sine) (2 ^ 64) (lit< tt))
+    let gap_shrinks = step_gap e p.sine q.sine i j d (floor_le (e *ℤ p.sine) (2 ^ 64) (lit< tt))
     (weak (e *ℤ q.sine) ((j *ℤ pos (2 ^ 64)) +ℤ pos (2 ^ 64)) (lt_floor (e *ℤ q.sine) (2 ^ 64) (lit< tt))) gap e0 e1 d0 in
-    subst (λ (z : ℤ). (pos 16 *ℤ z) ≤ℤ (d +ℤ pos 32)) (sym (move m i j a b p.next_is q.next_is)) r
+    subst (λ (z : ℤ). (pos 16 *ℤ z) ≤ℤ (d +ℤ pos 32)) (sym (move m i j a b p.next_is q.next_is)) gap_shrinks
 
 -- 16 |next(x) - next(y)| ≤ |x - y| + 32
 pub steps_shrink : (m e x y a b d : ℤ) → InRange 5 (of_scale 56 x) → InRange 5 (of_scale 56 y) → pos 0 ≤ℤ e → e ≤ℤ pos (2 ^ 55) → pos 0 ≤ℤ d → AreNear d x y → IsStep m e x a → IsStep m e y b →
@@ -58,14 +58,14 @@ pull_size e s e0 e1 h = pull_within (e *ℤ s) (floor_div (e *ℤ s) (2 ^ 64)) (
     (lt_floor (e *ℤ s) (2 ^ 64) (lit< tt)) (abs_mul_le e s (2 ^ 55) (2 ^ 61) (size_of e e0 e1) h)
 
 pub step_near : (m e x a : ℤ) → pos 0 ≤ℤ e → e ≤ℤ pos (2 ^ 55) → IsStep m e x a → AreNear (pos (2 ^ 52)) a m
-step_near m e x a e0 e1 p = let q = pull_size e p.sine e0 e1 p.size in go m a (floor_div (e *ℤ p.sine) (2 ^ 64)) p.next_is q.0 q.1
+step_near m e x a e0 e1 p = let pull_bounded = pull_size e p.sine e0 e1 p.size in go m a (floor_div (e *ℤ p.sine) (2 ^ 64)) p.next_is pull_bounded.0 pull_bounded.1
   where
     go : (m a f : ℤ) → a ≡ m +ℤ f → neg_ℤ (pos (2 ^ 52)) ≤ℤ f → f ≤ℤ pos (2 ^ 52) → AreNear (pos (2 ^ 52)) a m
     go m a f e h k = (omega (arith, ints), omega (arith, ints))
 
 -- ---- the rounds
 pub settled_start : (m e x : ℤ) → pos 0 ≤ℤ e → e ≤ℤ pos (2 ^ 55) → AreNear (pos (2 ^ 52)) x m → Settled 0 m e x
-settled_start m e x e0 e1 n a p = let q = step_near m e x a e0 e1 p in (go a x m q.0 n.1, back a x m q.1 n.0)
+settled_start m e x e0 e1 n a p = let next_is_near = step_near m e x a e0 e1 p in (go a x m next_is_near.0 n.1, back a x m next_is_near.1 n.0)
   where
     go : (a x m : ℤ) → (a -ℤ m) ≤ℤ pos (2 ^ 52) → (m -ℤ x) ≤ℤ pos (2 ^ 52) → ((a -ℤ x) *ℤ pos 1) ≤ℤ (pos (2 ^ 53) +ℤ (pos 3 *ℤ pos 1))
     go a x m h k = omega (arith, ints)
@@ -99,25 +99,25 @@ choose P d a b p q (inr e) = subst P (sym e) q
 pub settled_step : (j i : ℕ) (m e x y : ℤ) → i ≡ j + 1 → pos 0 ≤ℤ e → e ≤ℤ pos (2 ^ 55) → InRange 5 (of_scale 56 x) → InRange 5 (of_scale 56 y) → Settled j m e x → IsStep m e x y → Settled i m e y
 settled_step j i m e x y ij e0 e1 rx ry h p z q =
     let d = magnitude y x in
-    let s = steps_shrink m e y x z y d.0 ry rx e0 e1 d.1.nn d.1.within q p in
+    let steps_nearer = steps_shrink m e y x z y d.0 ry rx e0 e1 d.1.nn d.1.within q p in
     let old = h y p in
-    let b : (d.0 *ℤ pos (16 ^ j)) ≤ℤ (pos (2 ^ 53) +ℤ (pos 3 *ℤ pos (16 ^ j))) =
+    let distance_bounded : (d.0 *ℤ pos (16 ^ j)) ≤ℤ (pos (2 ^ 53) +ℤ (pos 3 *ℤ pos (16 ^ j))) =
     choose (λ (d : ℤ). (d *ℤ pos (16 ^ j)) ≤ℤ (pos (2 ^ 53) +ℤ (pos 3 *ℤ pos (16 ^ j)))) d.0 (y -ℤ x) (x -ℤ y) old.0 old.1 d.1.either in
-    let w0 : pos 0 ≤ℤ pos (16 ^ j) = le_pos 0 (16 ^ j) (omega arith) in
-    let k : 16 ^ j * 16 ≡ 16 ^ i = sym (ap (λ (n : ℕ). 16 ^ n) (ij ∙ add-one j) ∙ pow-suc 16 j) in (
-      subst (λ (n : ℕ). ((z -ℤ y) *ℤ pos n) ≤ℤ (pos (2 ^ 53) +ℤ (pos 3 *ℤ pos n))) k (round (z -ℤ y) d.0 (pos (16 ^ j)) s.0 b w0),
-      subst (λ (n : ℕ). ((y -ℤ z) *ℤ pos n) ≤ℤ (pos (2 ^ 53) +ℤ (pos 3 *ℤ pos n))) k (round (y -ℤ z) d.0 (pos (16 ^ j)) s.1 b w0),
+    let power_not_negative : pos 0 ≤ℤ pos (16 ^ j) = le_pos 0 (16 ^ j) (omega arith) in
+    let power_is_next : 16 ^ j * 16 ≡ 16 ^ i = sym (ap (λ (n : ℕ). 16 ^ n) (ij ∙ add-one j) ∙ pow-suc 16 j) in (
+      subst (λ (n : ℕ). ((z -ℤ y) *ℤ pos n) ≤ℤ (pos (2 ^ 53) +ℤ (pos 3 *ℤ pos n))) power_is_next (round (z -ℤ y) d.0 (pos (16 ^ j)) steps_nearer.0 distance_bounded power_not_negative),
+      subst (λ (n : ℕ). ((y -ℤ z) *ℤ pos n) ≤ℤ (pos (2 ^ 53) +ℤ (pos 3 *ℤ pos n))) power_is_next (round (y -ℤ z) d.0 (pos (16 ^ j)) steps_nearer.1 distance_bounded power_not_negative),
     )
 
 pub settled_end : (m e x : ℤ) → Settled 14 m e x → (next : ℤ) → IsStep m e x next → AreNear (pos 3) next x
-settled_end m e x h z q = let p = h z q in (go (z -ℤ x) p.0, go (x -ℤ z) p.1)
+settled_end m e x h z q = let distance_bounded = h z q in (go (z -ℤ x) distance_bounded.0, go (x -ℤ z) distance_bounded.1)
   where
     go : (z : ℤ) → (z *ℤ pos 72057594037927936) ≤ℤ (pos 9007199254740992 +ℤ (pos 3 *ℤ pos 72057594037927936)) → z ≤ℤ pos 3
     go z h = omega (arith, ints)
 
 -- where a step changes nothing, each further step leads at most 2 units away
 pub settled_fixed : (m e x : ℤ) → pos 0 ≤ℤ e → e ≤ℤ pos (2 ^ 55) → InRange 5 (of_scale 56 x) → IsStep m e x x → (next : ℤ) → IsStep m e x next → AreNear (pos 3) next x
-settled_fixed m e x e0 e1 r p next q = let s = steps_shrink m e x x next x (pos 0) r r e0 e1 (le_refl_ℤ (pos 0)) (own x) q p in (go (next -ℤ x) s.0, go (x -ℤ next) s.1)
+settled_fixed m e x e0 e1 r p next q = let steps_nearer = steps_shrink m e x x next x (pos 0) r r e0 e1 (le_refl_ℤ (pos 0)) (own x) q p in (go (next -ℤ x) steps_nearer.0, go (x -ℤ next) steps_nearer.1)
   where
     own : (x : ℤ) → AreNear (pos 0) x x
     own x = (omega (arith, lins), omega (arith, lins))

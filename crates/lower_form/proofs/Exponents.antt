@@ -7,7 +7,7 @@ use Rattle.quadratic_form.specs.Lowering.{OwnBelow, IsExponent}
 
 below_power : (n : ℕ) → n < 2 ^ n
 below_power zero = omega arith
-below_power (suc n) = let h = below_power n in omega arith
+below_power (suc n) = let smaller_below = below_power n in omega arith
 
 -- what is below a power is below each greater one
 greater : (z : ℤ) (h k : ℕ) → h ≤ k → z <ℤ pos (2 ^ (50 + h)) → z <ℤ pos (2 ^ (50 + k))
@@ -38,8 +38,8 @@ some_serves [] = (0, tt)
 some_serves (a ∷ c) =
     let z = pos 63 *ℤ a.own in
     let rest = some_serves c in
-    let h = unsigned_abs z + rest.0 in
-    (h, (greater z (unsigned_abs z) h (omega arith) (own_serves z), later c rest.0 h (omega arith) rest.1))
+    let exponent = unsigned_abs z + rest.0 in
+    (exponent, (greater z (unsigned_abs z) exponent (omega arith) (own_serves z), later c rest.0 exponent (omega arith) rest.1))
 
 either : (c : List Column) (h : ℕ) → OwnBelow h c ⊎ (OwnBelow h c → ⊥)
 either [] h = inl tt
@@ -71,4 +71,4 @@ pub has_exponent : (c : List Column) → (h : ℕ) × IsExponent h c
 has_exponent c = let some = some_serves c in least_up_to c some.0 some.1
 
 pub exponent_unique : (h k : ℕ) (c : List Column) → IsExponent h c → IsExponent k c → h ≡ k
-exponent_unique h k c a b = let x : h ≤ k = a.least k b.enough in let y : k ≤ h = b.least h a.enough in omega (arith, x, y)
+exponent_unique h k c a b = let left_at_most : h ≤ k = a.least k b.enough in let right_at_most : k ≤ h = b.least h a.enough in omega (arith, left_at_most, right_at_most)

@@ -33,23 +33,23 @@ diagonal_form f j (suc k) =
     (diagonal_form f (suc j) k)
 
 end_list : (f : ℕ → ℤ) (j i : ℕ) (x : ℤ) → ((c : ℕ) → j ≤ c → c < j + i → f c ≡ pos 0) → f (j + i) ≡ x → list_from f j (suc i) ≡ zeros i ++ (x ∷ [])
-end_list f j zero x h e = let m : j + 0 ≡ j = omega arith in ap (λ y. y ∷ []) (subst (λ (k : ℕ). f k ≡ x) m e)
-end_list f j (suc i) x h e = let m : j + suc i ≡ suc j + i = omega arith in
-    ap₂ (λ y s. y ∷ s) (h j (omega arith) (omega arith)) (end_list f (suc j) i x (λ c a b. h c (omega arith) (omega arith)) (subst (λ (k : ℕ). f k ≡ x) m e))
+end_list f j zero x h e = let place_is : j + 0 ≡ j = omega arith in ap (λ y. y ∷ []) (subst (λ (k : ℕ). f k ≡ x) place_is e)
+end_list f j (suc i) x h e = let place_is : j + suc i ≡ suc j + i = omega arith in
+    ap₂ (λ y s. y ∷ s) (h j (omega arith) (omega arith)) (end_list f (suc j) i x (λ c a b. h c (omega arith) (omega arith)) (subst (λ (k : ℕ). f k ≡ x) place_is e))
 
 -- the radii of an integer and of the constant
 of_integer : (n : Normal) (i c : ℕ) → n.columns ≡ columns i → 3 ≤ c → c < 3 + i → radius_at n c ≡ pos 0
 of_integer n i c e h g =
-    let a : nat_lt c 3 ≡ false = grind (arith, nat_tests) in
-    let b : nat_eq (suc c) n.columns ≡ false = apart (suc c) n.columns (omega arith) in
-    ap₂ (λ (p q : Bool). cond p (slice_index_or n.r c (pos 0)) (cond q (slice_index_or n.r 3 (pos 0)) (pos 0))) a b
+    let not_in_front : nat_lt c 3 ≡ false = grind (arith, nat_tests) in
+    let not_last : nat_eq (suc c) n.columns ≡ false = apart (suc c) n.columns (omega arith) in
+    ap₂ (λ (p q : Bool). cond p (slice_index_or n.r c (pos 0)) (cond q (slice_index_or n.r 3 (pos 0)) (pos 0))) not_in_front not_last
 
 of_constant : (n : Normal) (i : ℕ) → n.columns ≡ columns i → radius_at n (3 + i) ≡ slice_index_or n.r 3 (pos 0)
 of_constant n i e =
-    let a : nat_lt (3 + i) 3 ≡ false = grind (arith, nat_tests) in
-    let s : suc (3 + i) ≡ n.columns = omega arith in
-    let b : nat_eq (suc (3 + i)) n.columns ≡ true = subst (λ (m : ℕ). nat_eq (suc (3 + i)) m ≡ true) s (eq-eqb (suc (3 + i)) (suc (3 + i)) refl) in
-    ap₂ (λ (p q : Bool). cond p (slice_index_or n.r (3 + i) (pos 0)) (cond q (slice_index_or n.r 3 (pos 0)) (pos 0))) a b
+    let not_in_front : nat_lt (3 + i) 3 ≡ false = grind (arith, nat_tests) in
+    let place_is_last : suc (3 + i) ≡ n.columns = omega arith in
+    let is_last : nat_eq (suc (3 + i)) n.columns ≡ true = subst (λ (m : ℕ). nat_eq (suc (3 + i)) m ≡ true) place_is_last (eq-eqb (suc (3 + i)) (suc (3 + i)) refl) in
+    ap₂ (λ (p q : Bool). cond p (slice_index_or n.r (3 + i) (pos 0)) (cond q (slice_index_or n.r 3 (pos 0)) (pos 0))) not_in_front is_last
 
 abbrev loss_at : Normal → ℕ → ℤ
 loss_at n c = negsuc 16127 *ℤ radius_at n c
@@ -98,8 +98,8 @@ counted n i h e = omega arith
 
 pub first_form_is : (n : Normal) (h : ℕ) → 4 ≤ n.columns → form_from (first_entry n h) 0 n.columns ≡ first_form h n
 first_form_is n h k =
-    let i : ℕ = n.columns - 4 in
-    let e : n.columns ≡ columns (n.columns - 4) = counted n.columns (n.columns - 4) k refl in
-    ap (λ (m : ℕ). form_from (first_entry n h) 0 m) e
+    let integers : ℕ = n.columns - 4 in
+    let columns_are : n.columns ≡ columns (n.columns - 4) = counted n.columns (n.columns - 4) k refl in
+    ap (λ (m : ℕ). form_from (first_entry n h) 0 m) columns_are
     ∙ form_rounded (2 ^ h) (pos n.columns) (bound_entry n) (first_entry n h) 0 (columns (n.columns - 4)) (λ r a b. first_own n h r) (λ r c a b d. first_other n h r c b)
-    ∙ ap (λ (b : List Column). rounded (2 ^ h) (pos n.columns) b) (bounding_is n (n.columns - 4) e)
+    ∙ ap (λ (b : List Column). rounded (2 ^ h) (pos n.columns) b) (bounding_is n (n.columns - 4) columns_are)

@@ -28,8 +28,8 @@ front_answer h n p e = go (form_small (first_form h n)) refl e
     go false o e = absurd cc
 
 pub front_range : (h : ℕ) (n : Normal) (p : List Factor × List Column) → front_of h n ≡ Ok p → AllInRange p.0 × SmallForm p.1
-front_range h n p e = let a : (form_small (first_form h n) ≡ true) × (steps 0 3 (first_form h n) ≡ Ok p) = front_answer h n p e in
-    steps_range 0 3 (first_form h n) p a.1 (form_is (first_form h n) a.0)
+front_range h n p e = let small_and_stepped : (form_small (first_form h n) ≡ true) × (steps 0 3 (first_form h n) ≡ Ok p) = front_answer h n p e in
+    steps_range 0 3 (first_form h n) p small_and_stepped.1 (form_is (first_form h n) small_and_stepped.0)
 
 -- what the front form keeps
 pub record Fronted (columns h : ℕ) (n : Normal) (d : List ℤ) (l p : List (List ℤ)) : Type 0 where
@@ -48,7 +48,7 @@ fronted columns h n d d' l l' t p to e z kept factors outside form = record {
       (⊎_elim (λ (a : c < 3). factors_below d' l' columns 0 3 below range.0 r c (omega arith) a) (λ (a : 3 ≤ c). subst (λ (x : ℤ). unsigned_abs x < 2 ^ 52) (sym (z r c (inl a))) zero_small)
       (cases_lt c 3));
   factors_outside = λ r c a. same r c ∙ below r c a;
-  taken = e ∙ ap₂ (λ (s : List Factor) (a : List Column). let x : StepsAnswer = Ok (s, a) in x) (sym (stored_same d d' l l' columns 0 3 (λ i a b. kept i b) (λ r i a b. same r i))) (sym form);
+  taken = e ∙ ap₂ (λ (s : List Factor) (a : List Column). let answer : StepsAnswer = Ok (s, a) in answer) (sym (stored_same d d' l l' columns 0 3 (λ i a b. kept i b) (λ r i a b. same r i))) (sym form);
 }
   where
     range : AllInRange (stored d' l' columns 0 3) × SmallForm (form_from (entry t) 3 (columns - 3))

@@ -24,10 +24,10 @@ fewer m n e = omega arith
 pub first_is : (arcs : List Arc) (ss : List ℕ) (pairs : List PairRows) (n : Normal) (h : ℕ) → IsNormalOf arcs ss pairs n → first_form h n ≡ first_rounding h (integer_count arcs ss)
     (signal_groups arcs ss pairs)
 first_is arcs ss pairs n h k =
-    let i : ℕ = integer_count arcs ss in
-    let gs : List SignalGroup = signal_groups arcs ss pairs in
-    ap₂ (λ (m j : ℕ). rounded (2 ^ h) (pos m) (bounding_form j (form_of n) (radii_from n.r))) (k.columns ∙ sym (four_and i)) (fewer n.columns i k.columns)
-    ∙ ap₂ (λ (a : List Column) (r : Radii). rounded (2 ^ h) (pos (columns i)) (bounding_form i a r)) (form_is arcs ss pairs n k) (ap (λ (r : List ℤ). radii_from r) k.radii)
+    let integers : ℕ = integer_count arcs ss in
+    let groups : List SignalGroup = signal_groups arcs ss pairs in
+    ap₂ (λ (m j : ℕ). rounded (2 ^ h) (pos m) (bounding_form j (form_of n) (radii_from n.r))) (k.columns ∙ sym (four_and integers)) (fewer n.columns integers k.columns)
+    ∙ ap₂ (λ (a : List Column) (r : Radii). rounded (2 ^ h) (pos (columns integers)) (bounding_form integers a r)) (form_is arcs ss pairs n k) (ap (λ (r : List ℤ). radii_from r) k.radii)
 
 pub bounds_all : (arcs : List Arc) (ss : List ℕ) (pairs : List PairRows) (n : Normal) (h : ℕ) (p : List Factor × List Column) → IsNormalOf arcs ss pairs n → steps 0 3 (first_form h n) ≡ Ok p →
     BoundsAllData arcs ss pairs h p.1

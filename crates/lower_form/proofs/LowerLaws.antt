@@ -22,29 +22,29 @@ use Rattle.lower_form.proofs.FrontKept.{front_answer}
 
 -- ---- k steps and then m
 
-empty : (j m : ℕ) → let x : StepsAnswer = Ok ([], []) in steps j m [] ≡ x
+empty : (j m : ℕ) → let answer : StepsAnswer = Ok ([], []) in steps j m [] ≡ answer
 empty j zero = refl
 empty j (suc m) = refl
 
 pub steps_after : (j k m : ℕ) (a : List Column) (p : List Factor × List Column) → steps j k a ≡ Ok p → steps j (k + m) a ≡ before p.0 (steps (j + k) m p.1)
 steps_after j zero m a p e =
-    let q : (List Factor × List Column) = ([], a) in
-    let i : q ≡ p = cc in
-    subst (λ (z : List Factor × List Column). steps j (0 + m) a ≡ before z.0 (steps (j + 0) m z.1)) i (ap₂ (λ x y. steps x y a) (sym (add-zero j)) (zero-add m))
+    let outcome : (List Factor × List Column) = ([], a) in
+    let same_outcome : outcome ≡ p = cc in
+    subst (λ (z : List Factor × List Column). steps j (0 + m) a ≡ before z.0 (steps (j + 0) m z.1)) same_outcome (ap₂ (λ x y. steps x y a) (sym (add-zero j)) (zero-add m))
 steps_after j (suc k) m [] p e =
-    let q : (List Factor × List Column) = ([], []) in
-    let i : q ≡ p = cc in
-    subst (λ (z : List Factor × List Column). steps j (suc k + m) [] ≡ before z.0 (steps (j + suc k) m z.1)) i (empty j (suc k + m) ∙ sym (empty (j + suc k) m))
+    let outcome : (List Factor × List Column) = ([], []) in
+    let same_outcome : outcome ≡ p = cc in
+    subst (λ (z : List Factor × List Column). steps j (suc k + m) [] ≡ before z.0 (steps (j + suc k) m z.1)) same_outcome (empty j (suc k + m) ∙ sym (empty (j + suc k) m))
 steps_after j (suc k) m (c ∷ a) p e = ap (λ (n : ℕ). steps j n (c ∷ a)) (suc-add k m) ∙ first (step j c a) refl (λ b q. steps_after (suc j) k m b q) e
   where
     second : (u : Factor × List Column) (r : StepsAnswer) → ((q : List Factor × List Column) → r ≡ Ok q → steps (suc j) (k + m) u.1 ≡ before q.0 (steps (suc j + k) m q.1)) → with_factor u.0 r
         ≡ Ok p → with_factor u.0 (steps (suc j) (k + m) u.1) ≡ before p.0 (steps (j + suc k) m p.1)
     second u (Err n) ih e = absurd cc
     second u (Ok q) ih e =
-        let w : (List Factor × List Column) = (u.0 ∷ q.0, q.1) in
-        let i : w ≡ p = cc in
+        let longer_outcome : (List Factor × List Column) = (u.0 ∷ q.0, q.1) in
+        let same_outcome : longer_outcome ≡ p = cc in
         ap (λ (x : StepsAnswer). with_factor u.0 x) (ih q refl ∙ ap (λ (n : ℕ). before q.0 (steps n m q.1)) (later j k))
-        ∙ subst (λ (z : List Factor × List Column). with_factor u.0 (before q.0 (steps (j + suc k) m q.1)) ≡ before z.0 (steps (j + suc k) m z.1)) i refl
+        ∙ subst (λ (z : List Factor × List Column). with_factor u.0 (before q.0 (steps (j + suc k) m q.1)) ≡ before z.0 (steps (j + suc k) m z.1)) same_outcome refl
 
     first : (r : StepAnswer) → step j c a ≡ r → ((b : List Column) (q : List Factor × List Column) → steps (suc j) k b ≡ Ok q → steps (suc j) (k + m) b ≡ before q.0
         (steps (suc j + k) m q.1)) →
@@ -83,8 +83,8 @@ all_columns n h = omega arith
 
 -- where the front answers, the whole elimination is its factors and then the further steps
 pub front_then : (h : ℕ) (n : Normal) (p : List Factor × List Column) → front_of h n ≡ Ok p → elimination_of h n ≡ before p.0 (steps 3 (n.columns - 4) p.1)
-front_then h n p e = let a : (form_small (first_form h n) ≡ true) × (steps 0 3 (first_form h n) ≡ Ok p) = front_answer h n p e in
-    small_first h n a.0 ∙ ap (λ (k : ℕ). steps 0 k (first_form h n)) (all_columns n.columns n.columns_from) ∙ steps_after 0 3 (n.columns - 4) (first_form h n) p a.1
+front_then h n p e = let small_and_stepped : (form_small (first_form h n) ≡ true) × (steps 0 3 (first_form h n) ≡ Ok p) = front_answer h n p e in
+    small_first h n small_and_stepped.0 ∙ ap (λ (k : ℕ). steps 0 k (first_form h n)) (all_columns n.columns n.columns_from) ∙ steps_after 0 3 (n.columns - 4) (first_form h n) p small_and_stepped.1
 
 -- where the front is refused, so is the whole
 pub front_stops : (h : ℕ) (n : Normal) (i : Refusal) → front_of h n ≡ Err i → elimination_of h n ≡ Err i
@@ -104,14 +104,14 @@ lower_is n r f a b = record {
   exponent = subst (λ (h : ℕ). IsExponent h (form_of n)) (sym b.h) a.exponent;
   front = front;
   taken = front_then f.h n (stored f.d f.l f.columns 0 3, form_of_table f.p (f.columns - 3)) front
-      ∙ ap (λ (x : StepsAnswer). before (stored f.d f.l f.columns 0 3) x) rest ∙ together ∙ ap (λ (k : ℕ). let x : StepsAnswer = Ok (stored f.d f.l f.columns 0 k, constant_form f.g) in x)
+      ∙ ap (λ (x : StepsAnswer). before (stored f.d f.l f.columns 0 3) x) rest ∙ together ∙ ap (λ (k : ℕ). let answer : StepsAnswer = Ok (stored f.d f.l f.columns 0 k, constant_form f.g) in answer)
       (sym (integers_count f.columns f.columns_from));
 }
   where
     front : front_of f.h n ≡ Ok (stored f.d f.l f.columns 0 3, form_of_table f.p (f.columns - 3))
     front = ap (λ (h : ℕ). front_of h n) b.h ∙ a.taken
-        ∙ ap₂ (λ (s : List Factor) (k : ℕ). let x : StepsAnswer = Ok (s, form_of_table r.p (k - 3)) in x) (sym b.baseline) (sym b.columns)
-        ∙ ap (λ (t : List (List ℤ)). let x : StepsAnswer = Ok (stored f.d f.l f.columns 0 3, form_of_table t (f.columns - 3)) in x) (sym b.p)
+        ∙ ap₂ (λ (s : List Factor) (k : ℕ). let answer : StepsAnswer = Ok (s, form_of_table r.p (k - 3)) in answer) (sym b.baseline) (sym b.columns)
+        ∙ ap (λ (t : List (List ℤ)). let answer : StepsAnswer = Ok (stored f.d f.l f.columns 0 3, form_of_table t (f.columns - 3)) in answer) (sym b.p)
 
     rest : steps 3 (n.columns - 4) (form_of_table f.p (f.columns - 3)) ≡ Ok (stored f.d f.l f.columns 3 (f.columns - 4), constant_form f.g)
     rest = ap (λ (k : ℕ). steps 3 (k - 4) (form_of_table f.p (f.columns - 3))) (sym (b.columns ∙ a.columns)) ∙ f.eliminated
@@ -122,7 +122,7 @@ lower_is n r f a b = record {
 
 -- a refusal of the front, and of the finish, is that of the whole
 pub front_told : (n : Normal) (e : LowerFault) → ((h : ℕ) → IsExponent h (form_of n) → IsToldAs e (front_of h n)) → (h : ℕ) → IsExponent h (form_of n) → IsToldAs e (elimination_of h n)
-front_told n e t h k = let a : IsToldAs e (front_of h n) = t h k in (a.0, (front_stops h n a.0 a.1.0, a.1.1))
+front_told n e t h k = let is_told : IsToldAs e (front_of h n) = t h k in (is_told.0, (front_stops h n is_told.0 is_told.1.0, is_told.1.1))
 
 pub finish_told : (n : Normal) (r : FrontForm) (e : LowerFault) → IsFrontOf n r → IsToldAs e (finish_of r) → (h : ℕ) → IsExponent h (form_of n) → IsToldAs e (elimination_of h n)
 finish_told n r e a t h k = (

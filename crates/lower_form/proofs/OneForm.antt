@@ -28,13 +28,13 @@ same_normal arcs ss pairs n m a b =
 
 abbrev elimination_by : ℕ → ℕ → List Column → List ℤ → Result (List Factor × List Column) Refusal
 elimination_by h columns form r =
-    let a : List Column = rounded (2 ^ h) (pos columns) (bounding_form (columns - 4) form (radii_from r)) in
-    elim (form_small a) [ true ↦ steps 0 (columns - 1) a | false ↦ Err wide_entry ]
+    let rounded_form : List Column = rounded (2 ^ h) (pos columns) (bounding_form (columns - 4) form (radii_from r)) in
+    elim (form_small rounded_form) [ true ↦ steps 0 (columns - 1) rounded_form | false ↦ Err wide_entry ]
 
 abbrev front_by : ℕ → ℕ → List Column → List ℤ → Result (List Factor × List Column) Refusal
 front_by h columns form r =
-    let a : List Column = rounded (2 ^ h) (pos columns) (bounding_form (columns - 4) form (radii_from r)) in
-    elim (form_small a) [ true ↦ steps 0 3 a | false ↦ Err wide_entry ]
+    let rounded_form : List Column = rounded (2 ^ h) (pos columns) (bounding_form (columns - 4) form (radii_from r)) in
+    elim (form_small rounded_form) [ true ↦ steps 0 3 rounded_form | false ↦ Err wide_entry ]
 
 pub same_elimination : (h : ℕ) (n m : Normal) → SameNormal n m → elimination_of h n ≡ elimination_of h m
 same_elimination h n m same = λ t. elimination_by h (same.columns t) (same.form t) (same.radii t)

@@ -18,10 +18,10 @@ use Rattle.normal_sum.specs.RadiusSums.{IsAtMost}
 use Rattle.normal_sum.proofs.Words.{small_w64, small_w128}
 
 pub radii_same : (a b c d a' b' c' d' : ℤ) → a ≡ a' → b ≡ b' → c ≡ c' → d ≡ d' →
-    let p : Radii = record { r1 = a; r2 = b; r3 = c; ry = d } in let q : Radii = record { r1 = a'; r2 = b'; r3 = c'; ry = d' } in p ≡ q
+    let first_radii : Radii = record { r1 = a; r2 = b; r3 = c; ry = d } in let second_radii : Radii = record { r1 = a'; r2 = b'; r3 = c'; ry = d' } in first_radii ≡ second_radii
 radii_same a b c d a' b' c' d' e f g h =
-    ap (λ (z : ℤ). let p : Radii = record { r1 = z; r2 = b; r3 = c; ry = d } in p) e ∙ ap (λ (z : ℤ). let p : Radii = record { r1 = a'; r2 = z; r3 = c; ry = d } in p) f
-    ∙ ap (λ (z : ℤ). let p : Radii = record { r1 = a'; r2 = b'; r3 = z; ry = d } in p) g ∙ ap (λ (z : ℤ). let p : Radii = record { r1 = a'; r2 = b'; r3 = c'; ry = z } in p) h
+    ap (λ (z : ℤ). let changed_radii : Radii = record { r1 = z; r2 = b; r3 = c; ry = d } in changed_radii) e ∙ ap (λ (z : ℤ). let changed_radii : Radii = record { r1 = a'; r2 = z; r3 = c; ry = d } in changed_radii) f
+    ∙ ap (λ (z : ℤ). let changed_radii : Radii = record { r1 = a'; r2 = b'; r3 = z; ry = d } in changed_radii) g ∙ ap (λ (z : ℤ). let changed_radii : Radii = record { r1 = a'; r2 = b'; r3 = c'; ry = z } in changed_radii) h
 
 pub radii_assoc : (p q r : Radii) → add_radii (add_radii p q) r ≡ add_radii p (add_radii q r)
 radii_assoc p q r = radii_same _ _ _ _ _ _ _ _ (+ℤ_assoc p.r1 q.r1 r.r1) (+ℤ_assoc p.r2 q.r2 r.r2) (+ℤ_assoc p.r3 q.r3 r.r3) (+ℤ_assoc p.ry q.ry r.ry)
@@ -53,16 +53,16 @@ pub record Added (x s w r : ℤ) : Type 0 where
 pub added_is : (x s w r : ℤ) → pos 0 ≤ℤ s → s ≤ℤ pos (2 ^ 110) → pos 0 ≤ℤ w → w ≤ℤ pos (2 ^ 35) → pos 0 ≤ℤ r → r ≤ℤ pos (2 ^ 20) →
     x ≡ to_z w128 (of_z w128 s) +ℤ (to_z w64 (of_z w64 w) *ℤ (to_z w64 (of_z w64 r) *ℤ to_z w64 (of_z w64 r))) → pos 0 ≤ℤ x → x ≤ℤ (to_z w128 (of_z w128 s) +ℤ pos (2 ^ 75)) → Added x s w r
 added_is x s w r s0 s1 w0 w1 r0 r1 e x0 x1 =
-    let es : to_z w128 (of_z w128 s) ≡ s = small_w128 s s0 (widen s s1) in
-    let ew : to_z w64 (of_z w64 w) ≡ w = small_w64 w w0 w1 in
-    let er : to_z w64 (of_z w64 r) ≡ r = small_w64 r r0 (radius r r1) in
-    let y1 : x ≤ℤ (s +ℤ pos (2 ^ 75)) = subst (λ (z : ℤ). x ≤ℤ (z +ℤ pos (2 ^ 75))) es x1 in
-    let ex : to_z w128 (of_z w128 x) ≡ x = small_w128 x x0 (both x s y1 s1) in
+    let sum_kept : to_z w128 (of_z w128 s) ≡ s = small_w128 s s0 (widen s s1) in
+    let weight_kept : to_z w64 (of_z w64 w) ≡ w = small_w64 w w0 w1 in
+    let radius_kept : to_z w64 (of_z w64 r) ≡ r = small_w64 r r0 (radius r r1) in
+    let not_beyond_sum : x ≤ℤ (s +ℤ pos (2 ^ 75)) = subst (λ (z : ℤ). x ≤ℤ (z +ℤ pos (2 ^ 75))) sum_kept x1 in
+    let value_kept : to_z w128 (of_z w128 x) ≡ x = small_w128 x x0 (both x s not_beyond_sum s1) in
     record {
-      value = ex ∙ e ∙ ap (λ z. z +ℤ (to_z w64 (of_z w64 w) *ℤ (to_z w64 (of_z w64 r) *ℤ to_z w64 (of_z w64 r)))) es ∙ ap (λ z. s +ℤ (z *ℤ (to_z w64 (of_z w64 r) *ℤ to_z w64 (of_z w64 r)))) ew
-          ∙ ap (λ z. s +ℤ (w *ℤ (z *ℤ z))) er;
-      from = subst (λ (z : ℤ). pos 0 ≤ℤ z) (sym ex) x0;
-      to = subst (λ (z : ℤ). z ≤ℤ (s +ℤ pos (2 ^ 75))) (sym ex) y1;
+      value = value_kept ∙ e ∙ ap (λ z. z +ℤ (to_z w64 (of_z w64 w) *ℤ (to_z w64 (of_z w64 r) *ℤ to_z w64 (of_z w64 r)))) sum_kept ∙ ap (λ z. s +ℤ (z *ℤ (to_z w64 (of_z w64 r) *ℤ to_z w64 (of_z w64 r)))) weight_kept
+          ∙ ap (λ z. s +ℤ (w *ℤ (z *ℤ z))) radius_kept;
+      from = subst (λ (z : ℤ). pos 0 ≤ℤ z) (sym value_kept) x0;
+      to = subst (λ (z : ℤ). z ≤ℤ (s +ℤ pos (2 ^ 75))) (sym value_kept) not_beyond_sum;
     }
   where
     widen : (s : ℤ) → s ≤ℤ pos (2 ^ 110) → s ≤ℤ pos (2 ^ 111)

@@ -20,8 +20,8 @@ next_sum s s' c r a h e = ap (λ z. z +ℤ r) e ∙ same_by (s ∷ c ∷ r ∷ [
 
 pub product_size : (t t' w u v : ℤ) → t' ≡ t +ℤ ((w *ℤ u) *ℤ v) → unsigned_abs w ≤ 2 ^ 32 → unsigned_abs u ≤ 2 ^ 34 → unsigned_abs v ≤ 2 ^ 34 → unsigned_abs t' ≤ unsigned_abs t + 2 ^ 100
 product_size t t' w u v e hw hu hv =
-    let p : unsigned_abs (w *ℤ u) ≤ 2 ^ 66 = abs_mul_le w u (2 ^ 32) (2 ^ 34) hw hu in
-    let q : unsigned_abs ((w *ℤ u) *ℤ v) ≤ 2 ^ 100 = abs_mul_le (w *ℤ u) v (2 ^ 66) (2 ^ 34) p hv in
+    let first_product_small : unsigned_abs (w *ℤ u) ≤ 2 ^ 66 = abs_mul_le w u (2 ^ 32) (2 ^ 34) hw hu in
+    let product_small : unsigned_abs ((w *ℤ u) *ℤ v) ≤ 2 ^ 100 = abs_mul_le (w *ℤ u) v (2 ^ 66) (2 ^ 34) first_product_small hv in
     subst (λ (z : ℤ). unsigned_abs z ≤ unsigned_abs t + 2 ^ 100) (sym e) (omega (arith, size_add t ((w *ℤ u) *ℤ v)))
 
 pub sum_size : (s s' v : ℤ) → s' ≡ s +ℤ v → unsigned_abs v ≤ 2 ^ 34 → unsigned_abs s' ≤ unsigned_abs s + 2 ^ 34
@@ -41,22 +41,22 @@ pub group_size : (t1 t2 t0 w s t : ℤ) (n : ℕ) → n ≤ 15 → t2 ≡ t1 +�
     ≤ n * 2 ^ 34 → unsigned_abs t ≤ n * 2 ^ 34 →
     unsigned_abs t2 ≤ unsigned_abs t0 + 2 ^ 105
 group_size t1 t2 t0 w s t n g e h1 hw hs ht =
-    let p : unsigned_abs (w *ℤ s) ≤ unsigned_abs w * (n * 2 ^ 34) = abs_mul_le w s (unsigned_abs w) (n * 2 ^ 34) (omega arith) hs in
-    let q : unsigned_abs ((w *ℤ s) *ℤ t) ≤ (unsigned_abs w * (n * 2 ^ 34)) * (n * 2 ^ 34) = abs_mul_le (w *ℤ s) t (unsigned_abs w * (n * 2 ^ 34)) (n * 2 ^ 34) p ht in
-    let o : (unsigned_abs w * (n * 2 ^ 34)) * (n * 2 ^ 34) ≤ 15 * 2 ^ 100 = product_of (unsigned_abs w) n hw g in
-    let a : unsigned_abs (t1 +ℤ ((w *ℤ s) *ℤ t)) ≤ unsigned_abs t1 + unsigned_abs ((w *ℤ s) *ℤ t) = size_add t1 ((w *ℤ s) *ℤ t) in
-    let b : unsigned_abs ((w *ℤ s) *ℤ t) ≤ 15 * 2 ^ 100 = le_trans q o in
+    let weighted_small : unsigned_abs (w *ℤ s) ≤ unsigned_abs w * (n * 2 ^ 34) = abs_mul_le w s (unsigned_abs w) (n * 2 ^ 34) (omega arith) hs in
+    let product_at_most : unsigned_abs ((w *ℤ s) *ℤ t) ≤ (unsigned_abs w * (n * 2 ^ 34)) * (n * 2 ^ 34) = abs_mul_le (w *ℤ s) t (unsigned_abs w * (n * 2 ^ 34)) (n * 2 ^ 34) weighted_small ht in
+    let bound_small : (unsigned_abs w * (n * 2 ^ 34)) * (n * 2 ^ 34) ≤ 15 * 2 ^ 100 = product_of (unsigned_abs w) n hw g in
+    let sum_at_most : unsigned_abs (t1 +ℤ ((w *ℤ s) *ℤ t)) ≤ unsigned_abs t1 + unsigned_abs ((w *ℤ s) *ℤ t) = size_add t1 ((w *ℤ s) *ℤ t) in
+    let product_small : unsigned_abs ((w *ℤ s) *ℤ t) ≤ 15 * 2 ^ 100 = le_trans product_at_most bound_small in
     subst (λ (z : ℤ). unsigned_abs z ≤ unsigned_abs t0 + 2 ^ 105) (sym e) (last (unsigned_abs (t1 +ℤ ((w *ℤ s) *ℤ t))) (unsigned_abs t1) (unsigned_abs ((w *ℤ s) *ℤ t))
-    (unsigned_abs t0) n a b h1 g)
+    (unsigned_abs t0) n sum_at_most product_small h1 g)
   where
     last : (a b c d n : ℕ) → a ≤ b + c → c ≤ 15 * 2 ^ 100 → b ≤ d + (n * 2 ^ 100) → n ≤ 15 → a ≤ d + 2 ^ 105
     last a b c d n h i j k = omega arith
 
 pub turned_size : (q w r : ℕ) (x f : ℤ) → f ≡ pos q *ℤ pos w → pos 0 ≡ x +ℤ f → q * r ≤ 360360 → w ≤ 10000 → unsigned_abs x * r ≤ 2 ^ 32
 turned_size q w r x f e h g k =
-    let s : unsigned_abs x ≡ unsigned_abs f = opposite x f h in
-    let t : unsigned_abs f ≡ q * w = ap (λ z. unsigned_abs z) e in
-    subst (λ (m : ℕ). m * r ≤ 2 ^ 32) (sym (s ∙ t)) (product q w r g k)
+    let opposite_same_size : unsigned_abs x ≡ unsigned_abs f = opposite x f h in
+    let size_is : unsigned_abs f ≡ q * w = ap (λ z. unsigned_abs z) e in
+    subst (λ (m : ℕ). m * r ≤ 2 ^ 32) (sym (opposite_same_size ∙ size_is)) (product q w r g k)
   where
     opposite : (x f : ℤ) → pos 0 ≡ x +ℤ f → unsigned_abs x ≡ unsigned_abs f
     opposite x f h = omega (arith, ints)

@@ -66,10 +66,10 @@ share_below q w n h g k l = le_by (q ∷ w ∷ n ∷ []) (λ q w n. ((q ⊗ w) �
 
 pub share_to : (n s : ℕ) → (share n s *ℤ pos n) ≤ℤ pos (2 ^ 32)
 share_to n s =
-    let k : Weight (weight s) = weight_of s in
+    let is_weight : Weight (weight s) = weight_of s in
     let below : ((pos (360360 / n) *ℤ weight s) *ℤ pos n) ≤ℤ pos (360360 * 10000) =
     share_below (pos (360360 / n)) (weight s) (pos n) (pos_nn (360360 / n)) (pos_nn n) (whole (360360 / n) n (div-mul-le_self 360360 n))
-    (subst (λ (w : ℤ). w ≤ℤ pos 10000) (sym k.is) (few k.w k.small)) in
+    (subst (λ (w : ℤ). w ≤ℤ pos 10000) (sym is_weight.is) (few is_weight.w is_weight.small)) in
     wider (share n s *ℤ pos n) below
   where
     whole : (a b : ℕ) → a * b ≤ 360360 → (pos a *ℤ pos b) ≤ℤ pos 360360

@@ -29,12 +29,12 @@ first_rest bs some = drop_more bs 0 0 some ∙ ap (λ l. get_or bs 0 0 ∷ l) (s
 -- one more blank
 pub behind_more : (text rest : List ℕ) → StandsBehindBlanks text rest → 1 ≤ length rest → get_or rest 0 0 ≡ 32 → StandsBehindBlanks text (take (length rest - 1) (drop 1 rest))
 behind_more text rest stands some is =
-    let b = get_or rest 0 0 in
+    let byte = get_or rest 0 0 in
     let after = take (length rest - 1) (drop 1 rest) in
     record {
-      before = stands.before ++ b ∷ [];
-      text_is = stands.text_is ∙ ap (λ l. stands.before ++ l) (first_rest rest some) ∙ sym (append_assoc stands.before (b ∷ []) after);
-      blank = blank_more stands.before b stands.blank is;
+      before = stands.before ++ byte ∷ [];
+      text_is = stands.text_is ∙ ap (λ l. stands.before ++ l) (first_rest rest some) ∙ sym (append_assoc stands.before (byte ∷ []) after);
+      blank = blank_more stands.before byte stands.blank is;
     }
 
 is_number : (whole part : List ℕ) → are_digits whole ≡ true → are_digits part ≡ true → 1 ≤ length part → IsNumber (whole ++ 46 ∷ part) whole part

@@ -60,22 +60,22 @@ halves_are v a b c d e f g h half are is =
     let x3 = x4 * 256 + d in
     let x2 = x3 * 256 + c in
     let x1 = x2 * 256 + b in
-    let s1 = split_byte x1 0xf0f0f0f0f0f0f0 v1 a 240 v are.of_0 mask half is in
-    let s2 = split_byte x2 0xf0f0f0f0f0f0 v2 b 240 v are.of_1 mask half s1.0 in
-    let s3 = split_byte x3 0xf0f0f0f0f0 v3 c 240 v are.of_2 mask half s2.0 in
-    let s4 = split_byte x4 0xf0f0f0f0 v4 d 240 v are.of_3 mask half s3.0 in
-    let s5 = split_byte x5 0xf0f0f0 v5 e 240 v are.of_4 mask half s4.0 in
-    let s6 = split_byte x6 0xf0f0 v6 f 240 v are.of_5 mask half s5.0 in
-    let s7 = split_byte h 240 v g 240 v are.of_6 mask half s6.0 in
+    let first_splits = split_byte x1 0xf0f0f0f0f0f0f0 v1 a 240 v are.of_0 mask half is in
+    let second_splits = split_byte x2 0xf0f0f0f0f0f0 v2 b 240 v are.of_1 mask half first_splits.0 in
+    let third_splits = split_byte x3 0xf0f0f0f0f0 v3 c 240 v are.of_2 mask half second_splits.0 in
+    let fourth_splits = split_byte x4 0xf0f0f0f0 v4 d 240 v are.of_3 mask half third_splits.0 in
+    let fifth_splits = split_byte x5 0xf0f0f0 v5 e 240 v are.of_4 mask half fourth_splits.0 in
+    let sixth_splits = split_byte x6 0xf0f0 v6 f 240 v are.of_5 mask half fifth_splits.0 in
+    let seventh_splits = split_byte h 240 v g 240 v are.of_6 mask half sixth_splits.0 in
     record {
-      of_0 = half_is a v are.of_0 s1.1;
-      of_1 = half_is b v are.of_1 s2.1;
-      of_2 = half_is c v are.of_2 s3.1;
-      of_3 = half_is d v are.of_3 s4.1;
-      of_4 = half_is e v are.of_4 s5.1;
-      of_5 = half_is f v are.of_5 s6.1;
-      of_6 = half_is g v are.of_6 s7.1;
-      of_7 = half_is h v are.of_7 s7.0;
+      of_0 = half_is a v are.of_0 first_splits.1;
+      of_1 = half_is b v are.of_1 second_splits.1;
+      of_2 = half_is c v are.of_2 third_splits.1;
+      of_3 = half_is d v are.of_3 fourth_splits.1;
+      of_4 = half_is e v are.of_4 fifth_splits.1;
+      of_5 = half_is f v are.of_5 sixth_splits.1;
+      of_6 = half_is g v are.of_6 seventh_splits.1;
+      of_7 = half_is h v are.of_7 seventh_splits.0;
     }
 
 -- ---- the word of eight digits
@@ -168,13 +168,13 @@ number_in pairs = 10_000 * (100 * (pairs % 256) + pairs / 65_536 % 256) + (100 *
 
 number_of : (n p q r s t u v w : ℕ) → n ≡ word_of p q r s t u v w → Each (λ x. x ≤ 99) p q r s t u v w → number_in n ≡ 1_000_000 * p + 10_000 * r + 100 * t + v
 number_of n p q r s t u v w is are =
-    let b0 : n % 256 ≡ p = ap (λ m. m % 256) is ∙ mod_low ((((((w * 256 + v) * 256 + u) * 256 + t) * 256 + s) * 256 + r) * 256 + q) 8 p (omega (arith, are.of_0)) in
-    let b2 : n / 65_536 % 256 ≡ r = byte_at n 16 ((((w * 256 + v) * 256 + u) * 256 + t) * 256 + s) r (q * 256 + p) (omega (arith, is)) (omega (arith, are.of_0, are.of_1)) (omega (arith, are.of_2)) in
-    let b4 : n / 4_294_967_296 % 256 ≡ t =
+    let first_byte_is : n % 256 ≡ p = ap (λ m. m % 256) is ∙ mod_low ((((((w * 256 + v) * 256 + u) * 256 + t) * 256 + s) * 256 + r) * 256 + q) 8 p (omega (arith, are.of_0)) in
+    let third_byte_is : n / 65_536 % 256 ≡ r = byte_at n 16 ((((w * 256 + v) * 256 + u) * 256 + t) * 256 + s) r (q * 256 + p) (omega (arith, is)) (omega (arith, are.of_0, are.of_1)) (omega (arith, are.of_2)) in
+    let fifth_byte_is : n / 4_294_967_296 % 256 ≡ t =
     byte_at n 32 ((w * 256 + v) * 256 + u) t (((s * 256 + r) * 256 + q) * 256 + p) (omega (arith, is)) (omega (arith, are.of_0, are.of_1, are.of_2, are.of_3)) (omega (arith, are.of_4)) in
-    let b6 : n / 281_474_976_710_656 % 256 ≡ v =
+    let seventh_byte_is : n / 281_474_976_710_656 % 256 ≡ v =
     byte_at n 48 w v (((((u * 256 + t) * 256 + s) * 256 + r) * 256 + q) * 256 + p) (omega (arith, is)) (omega (arith, are.of_0, are.of_1, are.of_2, are.of_3, are.of_4, are.of_5)) (omega (arith, are.of_6)) in
-    omega (arith, b0, b2, b4, b6)
+    omega (arith, first_byte_is, third_byte_is, fifth_byte_is, seventh_byte_is)
 
 two : (x y : ℕ) → x ≤ 9 → y ≤ 9 → 10 * x + y ≤ 99
 two x y few few₂ = omega (arith, few, few₂)
@@ -312,11 +312,11 @@ high_cases : (b n : ℕ) → digit_of b ≡ Some n → ((b ≡ 32) × (n ≡ 0))
 high_cases b n says = by_blank (b == 32) refl
   where
     by_digit : (b == 32) ≡ false → (t : Bool) → is_digit b ≡ t → ((b ≡ 32) × (n ≡ 0)) ⊎ ((is_digit b ≡ true) × (n ≡ b - 48))
-    by_digit other true is = let same : Some (b - 48) ≡ Some n = rw (other, is) at says in inr (is, (let e : b - 48 ≡ n = cc (same) in sym e))
+    by_digit other true is = let same : Some (b - 48) ≡ Some n = rw (other, is) at says in inr (is, (let digit_is : b - 48 ≡ n = cc (same) in sym digit_is))
     by_digit other false is = let none : None ≡ Some n = rw (other, is) at says in absurd cc
 
     by_blank : (t : Bool) → (b == 32) ≡ t → ((b ≡ 32) × (n ≡ 0)) ⊎ ((is_digit b ≡ true) × (n ≡ b - 48))
-    by_blank true is = let same : Some 0 ≡ Some n = rw is at says in let e : 0 ≡ n = cc (same) in inl (grind (arith, nat_tests), sym e)
+    by_blank true is = let same : Some 0 ≡ Some n = rw is at says in let is_zero : 0 ≡ n = cc (same) in inl (grind (arith, nat_tests), sym is_zero)
     by_blank false is = by_digit is (is_digit b) refl
 
 -- a digit before others
@@ -346,6 +346,6 @@ long_is text part high low p some is blank says eight digits few digits₂ three
     by_high (inr second) =
         let value : 100_000_000 * high + low ≡ 100_000_000 * (b - 48) + low = omega (arith, second.1) in
         let whole : AreDigitsOf (b ∷ rest) (100_000_000 * high + low) = rw value (digit_before b low rest eight second.0 digits) in
-        let up_to : b ≤ 57 = let is : is_digit b ≡ true = second.0 in grind (arith, nat_tests) in
+        let up_to : b ≤ 57 = let b_is_digit : is_digit b ≡ true = second.0 in grind (arith, nat_tests) in
         usual_is text (take 10 text) (b ∷ rest) (b ∷ rest) part false (100_000_000 * high + low) p is
         (record { before = get_or text 0 0 ∷ []; text_is = front_is text some; blank = rw blank refl }) refl whole digits₂ three (omega (arith, value, few, up_to)) (omega (arith, few₂))

@@ -270,7 +270,7 @@ module _ {S F : Type 0} (r : HeadRules S F) where
 
   no_file : (n : ℕ) (s : S) (whole : F) → r.rules.finish s ≡ flawed 1 NoEnd → walk r.rules [] n s ≡ Ok whole → ⊥
   no_file n s whole none gives =
-      let e : at_line (n + 1) (flawed {A = F} 1 NoEnd) ≡ Ok whole = ap (λ (f : Result F Flaw). at_line (n + 1) f) (sym none) ∙ sym (walk-end r.rules s n) ∙ gives in
+      let flaw_is_whole : at_line (n + 1) (flawed {A = F} 1 NoEnd) ≡ Ok whole = ap (λ (f : Result F Flaw). at_line (n + 1) f) (sym none) ∙ sym (walk-end r.rules s n) ∙ gives in
       cc
 
   took_head : (lines : List (List ℕ)) → TookHead lines

@@ -27,7 +27,7 @@ no_moment layout y m d h n p none = by_test (is_moment y m d h n p) refl
 
 pub a_moment : (layout : Layout) (y m d h n p : ℕ) → IsMoment y m d h n p → moment_of layout y m d h n (pos p) ≡ Ok (record { 0 = ticks_since y m d h n p })
 unfolding moment_of
-a_moment layout y m d h n p are = let is : is_moment y m d h n p ≡ true = is_moment-true y m d h n p are in rw is refl
+a_moment layout y m d h n p are = let is_a_moment : is_moment y m d h n p ≡ true = is_moment-true y m d h n p are in rw is_a_moment refl
 
 pub below_zero : (layout : Layout) (y m d h n : ℕ) (z : ℤ) → z <ℤ pos 0 → moment_of layout y m d h n z ≡ flawed (date_column_of layout) BadDate
 unfolding moment_of

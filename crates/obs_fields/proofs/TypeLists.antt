@@ -74,10 +74,10 @@ pub listed_is : (system : System) (names : List (List ℕ)) (listed : List Bool)
     → ((i : ℕ) → i < slot_count → get_or listed i false ≡ is_kept_name system names (get_or kept_types i C1C)) → listed ≡ listed_of system names
 unfolding listed_of
 listed_is system names listed same each =
-    let f : ObsType → Bool = λ kind. is_kept_name system names kind in
-    ext_get_or (f C1C) listed (map f kept_types) same (λ i less.
+    let is_kept : ObsType → Bool = λ kind. is_kept_name system names kind in
+    ext_get_or (is_kept C1C) listed (map is_kept kept_types) same (λ i less.
     let below : i < slot_count = omega arith in
-    inside listed i false (f C1C) less ∙ each i below ∙ sym (get_or-map f kept_types i C1C))
+    inside listed i false (is_kept C1C) less ∙ each i below ∙ sym (get_or-map is_kept kept_types i C1C))
   where
     inside : (l : List Bool) (i : ℕ) (d e : Bool) → i < length l → get_or l i e ≡ get_or l i d
     inside [] i d e less = absurd (omega arith)

@@ -70,11 +70,11 @@ row k l1 h = record {
 }
 
 rows_rise : (r s : Row) → r.arc < s.arc → AllPairs (λ p q. p.arc < q.arc) (r ∷ s ∷ [])
-rows_rise r s h = all_pairs_push (λ p q. p.arc < q.arc) (r ∷ []) s (λ i j d a b. let f : ⊥ = omega arith in absurd f) before
+rows_rise r s h = all_pairs_push (λ p q. p.arc < q.arc) (r ∷ []) s (λ i j d a b. let impossible : ⊥ = omega arith in absurd impossible) before
   where
     before : (k : ℕ) (d : Row) → k < length (r ∷ []) → (get_or (r ∷ []) k d).arc < s.arc
     before zero d a = h
-    before (suc k) d a = let f : ⊥ = omega arith in absurd f
+    before (suc k) d a = let impossible : ⊥ = omega arith in absurd impossible
 
 -- of the first two of the three arcs
 abbrev two_rows : (first second : ℕ) → first ≤ 2 ^ 34 → second ≤ 2 ^ 34 → PairRows

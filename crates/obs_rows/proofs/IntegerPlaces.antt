@@ -49,13 +49,13 @@ some_free None e = absurd (false≢true e)
 -- each place is one of the vector's
 pub place_below : (arcs : List Arc) (ss : List ℕ) (k s i : ℕ) → integer_place arcs ss k s ≡ Some i → i < integer_count arcs ss
 place_below arcs ss k s i e =
-    let q = from_cond (is_some_free (slice_get arcs k)) (option_map (λ (j : ℕ). (length (phases ss) * free_before arcs k) + j) (position (λ (t : ℕ). t == s) (phases ss))) i e in
-    let a = some_free (slice_get arcs k) q.0 in
-    let j = from_map (λ (j : ℕ). (length (phases ss) * free_before arcs k) + j) (position (λ (t : ℕ). t == s) (phases ss)) i q.1 in
-    let inside : j.0 < length (phases ss) = (position-Some (λ (t : ℕ). t == s) (phases ss) j.0 0 j.1).0 in
-    let free : free_before arcs k + 1 ≤ free_count arcs = free_before_below arcs k a.0 a.1 a.2 in
+    let is_placed = from_cond (is_some_free (slice_get arcs k)) (option_map (λ (j : ℕ). (length (phases ss) * free_before arcs k) + j) (position (λ (t : ℕ). t == s) (phases ss))) i e in
+    let free_arc = some_free (slice_get arcs k) is_placed.0 in
+    let phase_place = from_map (λ (j : ℕ). (length (phases ss) * free_before arcs k) + j) (position (λ (t : ℕ). t == s) (phases ss)) i is_placed.1 in
+    let inside : phase_place.0 < length (phases ss) = (position-Some (λ (t : ℕ). t == s) (phases ss) phase_place.0 0 phase_place.1).0 in
+    let free : free_before arcs k + 1 ≤ free_count arcs = free_before_below arcs k free_arc.0 free_arc.1 free_arc.2 in
     let all : (length (phases ss) * (free_before arcs k + 1)) ≤ (length (phases ss) * free_count arcs) = mul-le-mul_left (length (phases ss)) free in
-    below (length (phases ss)) (free_before arcs k) (free_count arcs) j.0 i inside all j.2
+    below (length (phases ss)) (free_before arcs k) (free_count arcs) phase_place.0 i inside all phase_place.2
   where
     below : (m f n j i : ℕ) → j < m → (m * (f + 1)) ≤ (m * n) → (m * f) + j ≡ i → i < m * n
     below m f n j i h g e = omega arith
@@ -64,12 +64,12 @@ pub place_within : (arcs : List Arc) (ss : List ℕ) (k s j m f : ℕ) (d : Arc)
     m ≡ length (phases ss) → f ≡ free_before arcs k → (m * f) + j < integer_count arcs ss
 place_within arcs ss k s j m f d inside free at em ef =
     let there : slice_get arcs k ≡ Some (get_or arcs k d) = slice_get-get_or arcs k d inside in
-    let e : integer_place arcs ss k s ≡ Some ((m * f) + j) =
+    let integer_place_is : integer_place arcs ss k s ≡ Some ((m * f) + j) =
     ap (λ (o : Option Arc). cond (is_some_free o) (option_map (λ i. (length (phases ss) * free_before arcs k) + i) (position (λ t. t == s) (phases ss))) None) there
     ∙ ap (λ (b : Bool). cond (not b) (option_map (λ i. (length (phases ss) * free_before arcs k) + i) (position (λ t. t == s) (phases ss))) None) free
     ∙ ap (λ (o : Option ℕ). option_map (λ i. (length (phases ss) * free_before arcs k) + i) o) at
     ∙ ap₂ (λ (x y : ℕ). Some ((x * y) + j)) (sym em) (sym ef) in
-    place_below arcs ss k s ((m * f) + j) e
+    place_below arcs ss k s ((m * f) + j) integer_place_is
 
 -- ---- coefficients that are 0 but at one place
 
@@ -81,7 +81,7 @@ times_zero : (c : ℤ) → pos 0 ≡ c *ℤ pos 0
 times_zero c = same_by (c ∷ []) (λ c. (nat 0, c ⊗ nat 0)) refl
 
 dot_set : (n i : ℕ) (c : ℤ) (z : List ℤ) → i < n → dot (set (zeros n) i c) z ≡ c *ℤ get_or z i (pos 0)
-dot_set zero i c z h = let f : ⊥ = omega arith in absurd f
+dot_set zero i c z h = let impossible : ⊥ = omega arith in absurd impossible
 dot_set (suc n) zero c [] h = times_zero c
 dot_set (suc n) zero c (x ∷ z) h = ap (λ (w : ℤ). (c *ℤ x) +ℤ w) (dot_zeros n z) ∙ same_by (c ∷ x ∷ []) (λ c x. (c ⊗ x ⊕ nat 0, c ⊗ x)) refl
 dot_set (suc n) (suc i) c [] h = times_zero c

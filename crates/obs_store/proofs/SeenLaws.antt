@@ -278,10 +278,10 @@ insert_new counts n v (x ∷ xs) none =
 pub one_entry : (counts order : List ℕ) (k : ℕ) (held new : List (ℕ × ℕ)) → IsDistinct nat_eq order → k < length order → held ≡ numbered counts (take k order)
     → new ≡ insert_entry nat_eq held (get_or order k 0) (get_or counts (get_or order k 0) 0) → new ≡ numbered counts (take (k + 1) order)
 one_entry counts order k held new distinct inside same is =
-    let n = get_or order k 0 in
-    is ∙ ap (λ l. insert_entry nat_eq l n (get_or counts n 0)) same
-    ∙ insert_new counts n (get_or counts n 0) (take k order) (fresh_number order k distinct inside)
-    ∙ sym (map-append (λ (m : ℕ). (m, get_or counts m 0)) (take k order) (n ∷ []))
+    let number = get_or order k 0 in
+    is ∙ ap (λ l. insert_entry nat_eq l number (get_or counts number 0)) same
+    ∙ insert_new counts number (get_or counts number 0) (take k order) (fresh_number order k distinct inside)
+    ∙ sym (map-append (λ (m : ℕ). (m, get_or counts m 0)) (take k order) (number ∷ []))
     ∙ ap (λ l. numbered counts l) (sym (rw add-one (take-suc order k 0 inside)))
 
 same_entries : (f g : ℕ → ℕ) (ns : List ℕ) → All (λ n. n ≤ 36) ns → ((n : ℕ) → n ≤ 36 → f n ≡ g n) → map {B = ℕ × ℕ} (λ n. (n, f n)) ns ≡ map (λ n. (n, g n)) ns

@@ -78,20 +78,20 @@ satellites_push sats s are from to fresh = record {
 pub stored_push : (sats sats' : List StoredSat) (values values' : List StoredValue) (s : SatObs) (count : ℕ) → count_of sats ≡ length values
     → sats' ≡ sats ++ record { number = s.number; count = count } ∷ [] → AreStoredBehind values values' count s.values → satellites_in sats' values' ≡ satellites_in sats values ++ s ∷ []
 stored_push sats sats' values values' s count all is stored =
-    let t : StoredSat = record { number = s.number; count = count } in
+    let stored_sat : StoredSat = record { number = s.number; count = count } in
     let whole : take count stored.added ≡ stored.added = ap (λ n. take n stored.added) (sym stored.as_many) ∙ take-length stored.added in
-    let same : first_satellite t stored.added ≡ s =
-    ap (λ (l : List (Option Value)). let o : SatObs = record { number = s.number; values = l } in o)
+    let same : first_satellite stored_sat stored.added ≡ s =
+    ap (λ (l : List (Option Value)). let sat : SatObs = record { number = s.number; values = l } in sat)
     (ap (values_with missing_values) whole ∙ stored.values_are) in
-    rw (is, stored.new_are) (satellites_in-push sats values stored.added t all stored.as_many ∙ ap (λ (o : SatObs). satellites_in sats values ++ o ∷ []) same)
+    rw (is, stored.new_are) (satellites_in-push sats values stored.added stored_sat all stored.as_many ∙ ap (λ (o : SatObs). satellites_in sats values ++ o ∷ []) same)
 
 pub are_stored_push : (sats sats' : List StoredSat) (values values' : List StoredValue) (s : SatObs) (count : ℕ) → AreStored sats values
     → sats' ≡ sats ++ record { number = s.number; count = count } ∷ [] → AreStoredBehind values values' count s.values
     → 1 ≤ s.number → s.number ≤ 36 → has_satellite s.number (satellites_in sats values) ≡ false → AreStored sats' values'
 are_stored_push sats sats' values values' s count are is stored from to fresh =
-    let t : StoredSat = record { number = s.number; count = count } in
-    let one : count_of (t ∷ []) ≡ count + 0 = count_of-cons t [] in
-    let more : count_of (sats ++ t ∷ []) ≡ count_of sats + count_of (t ∷ []) = sum_by-append (λ (u : StoredSat). u.count) sats (t ∷ []) in
+    let stored_sat : StoredSat = record { number = s.number; count = count } in
+    let one : count_of (stored_sat ∷ []) ≡ count + 0 = count_of-cons stored_sat [] in
+    let more : count_of (sats ++ stored_sat ∷ []) ≡ count_of sats + count_of (stored_sat ∷ []) = sum_by-append (λ (u : StoredSat). u.count) sats (stored_sat ∷ []) in
     record {
       all = rw (is, stored.new_are) (omega (arith, are.all, one, more, length-append values stored.added, stored.as_many));
       satellites = rw (stored_push sats sats' values values' s count are.all is stored) (satellites_push (satellites_in sats values) s are.satellites from to fresh);
@@ -193,7 +193,7 @@ slot_from n (kind ∷ kinds) (suc k) d are inside = omega (arith, slot_from (n +
 
 pub slot_at : (k : ℕ) (d : ObsType) → k < slot_count → slot_of (get_or kept_types k d) ≡ k
 slot_at k d inside =
-    let is : slot_of (get_or kept_types k d) ≡ 0 + k =
+    let slot_is : slot_of (get_or kept_types k d) ≡ 0 + k =
     slot_from 0 kept_types k d (
       refl,
       (
@@ -231,7 +231,7 @@ slot_at k d inside =
         ),
       ),
     ) inside in
-    omega (arith, is)
+    omega (arith, slot_is)
 
 -- the first k values, and none in the others' places
 pub first_values : ℕ → ℕ → List (Option Value) → List (Option Value)

@@ -103,38 +103,38 @@ pub effect_size : (eph : Eph) (world : World) (x c s : Rational) → IsAnglePair
     IsAtMostInSize (mul_r (mul_r (mul_r (decimal (pos 4442807633) 19) (decimal (pos 3125) 5)) (of_whole (pos 6000))) (add_r (of_whole (pos 1)) (two_to_minus 16)))
     (mul_r (mul_r (mul_r (constants_of world).relativity (elements_of eph).ecc) (elements_of eph).root_a) s)
 effect_size eph world x c s p =
-    let w : AreBounded world.mu world.rel = bounded world.mu world.rel world.known in
-    let f = relativity_size world.rel w.rel_low w.rel_high in
-    let e = size_of_decimal 3125 5 eph.ecc (from_to_within 0 3125 5 eph.ecc eph.ecc_in) in
-    let a = size_of_decimal 6000 0 eph.root_a (from_to_within 4500 6000 0 eph.root_a eph.root_a_in) in
+    let constants_bounded : AreBounded world.mu world.rel = bounded world.mu world.rel world.known in
+    let relativity_small = relativity_size world.rel constants_bounded.rel_low constants_bounded.rel_high in
+    let ecc_small = size_of_decimal 3125 5 eph.ecc (from_to_within 0 3125 5 eph.ecc eph.ecc_in) in
+    let root_small = size_of_decimal 6000 0 eph.root_a (from_to_within 4500 6000 0 eph.root_a eph.root_a_in) in
     let six : decimal (pos 6000) 0 ≤ʳ of_whole (pos 6000) = omega (arith, ints) in
     size_mul (mul_r (mul_r (decimal (pos 4442807633) 19) (decimal (pos 3125) 5)) (of_whole (pos 6000))) (add_r (of_whole (pos 1)) (two_to_minus 16))
     (mul_r (mul_r (constants_of world).relativity (elements_of eph).ecc) (elements_of eph).root_a) s
     (size_mul (mul_r (decimal (pos 4442807633) 19) (decimal (pos 3125) 5)) (of_whole (pos 6000)) (mul_r (constants_of world).relativity (elements_of eph).ecc) (elements_of eph).root_a
-    (size_mul (decimal (pos 4442807633) 19) (decimal (pos 3125) 5) (constants_of world).relativity (elements_of eph).ecc f e)
-    (size_looser (decimal (pos 6000) 0) (of_whole (pos 6000)) (elements_of eph).root_a six a))
+    (size_mul (decimal (pos 4442807633) 19) (decimal (pos 3125) 5) (constants_of world).relativity (elements_of eph).ecc relativity_small ecc_small)
+    (size_looser (decimal (pos 6000) 0) (of_whole (pos 6000)) (elements_of eph).root_a six root_small))
     (size_law_5 x c s p).1
 
 clock_size : (eph : Eph) (world : World) (sent b : Rational) (q : Quantities) → IsNearSolution (constants_of world) (elements_of eph) sent q
     → IsAtMostInSize b (sub_r q.t (elements_of eph).toc) → IsAtMostInSize (clock_limit b) q.clock
 clock_size eph world sent b q near h =
-    let d : Elements = with_share (elements_of eph) near.share in
-    let s = near.solves in
-    let x : Rational = sub_r q.t d.toc in
+    let elements : Elements = with_share (elements_of eph) near.share in
+    let solves = near.solves in
+    let x : Rational = sub_r q.t elements.toc in
     let bias = size_add (decimal (pos 1) 2) (mul_r (decimal (pos 1) 12) (two_to_minus 44)) (elements_of eph).af0 (mul_r (elements_of eph).af2 near.share) (size_of_decimal 1 2 eph.af0 eph.af0_in)
     (size_mul (decimal (pos 1) 12) (two_to_minus 44) (elements_of eph).af2 near.share (size_of_decimal 1 12 eph.af2 eph.af2_in) near.small) in
-    let drift = size_mul (decimal (pos 1) 7) b d.af1 x (size_of_decimal 1 7 eph.af1 eph.af1_in) h in
-    let aging = size_mul (decimal (pos 1) 12) (mul_r b b) d.af2 (mul_r x x) (size_of_decimal 1 12 eph.af2 eph.af2_in) (size_mul b b x x h h) in
-    let effect = effect_size eph world q.eccentric q.eccentric_pair.cos q.eccentric_pair.sin s.kepler.is_pair in
-    let two = size_add bias_limit (mul_r (decimal (pos 1) 7) b) d.af0 (mul_r d.af1 x) bias drift in
-    let three = size_add (add_r bias_limit (mul_r (decimal (pos 1) 7) b)) (mul_r (decimal (pos 1) 12) (mul_r b b)) (add_r d.af0 (mul_r d.af1 x)) (mul_r d.af2 (mul_r x x)) two aging in
-    let value : Rational = add_r (add_r (add_r d.af0 (mul_r d.af1 x)) (mul_r d.af2 (mul_r x x))) (mul_r (mul_r (mul_r (constants_of world).relativity d.ecc) d.root_a) q.eccentric_pair.sin) in
+    let drift = size_mul (decimal (pos 1) 7) b elements.af1 x (size_of_decimal 1 7 eph.af1 eph.af1_in) h in
+    let aging = size_mul (decimal (pos 1) 12) (mul_r b b) elements.af2 (mul_r x x) (size_of_decimal 1 12 eph.af2 eph.af2_in) (size_mul b b x x h h) in
+    let effect = effect_size eph world q.eccentric q.eccentric_pair.cos q.eccentric_pair.sin solves.kepler.is_pair in
+    let two = size_add bias_limit (mul_r (decimal (pos 1) 7) b) elements.af0 (mul_r elements.af1 x) bias drift in
+    let three = size_add (add_r bias_limit (mul_r (decimal (pos 1) 7) b)) (mul_r (decimal (pos 1) 12) (mul_r b b)) (add_r elements.af0 (mul_r elements.af1 x)) (mul_r elements.af2 (mul_r x x)) two aging in
+    let value : Rational = add_r (add_r (add_r elements.af0 (mul_r elements.af1 x)) (mul_r elements.af2 (mul_r x x))) (mul_r (mul_r (mul_r (constants_of world).relativity elements.ecc) elements.root_a) q.eccentric_pair.sin) in
     let four : IsAtMostInSize (clock_limit b) value =
     size_add (add_r (add_r bias_limit (mul_r (decimal (pos 1) 7) b)) (mul_r (decimal (pos 1) 12) (mul_r b b)))
     (mul_r (mul_r (mul_r (decimal (pos 4442807633) 19) (decimal (pos 3125) 5)) (of_whole (pos 6000))) (add_r (of_whole (pos 1)) (two_to_minus 16)))
-    (add_r (add_r d.af0 (mul_r d.af1 x)) (mul_r d.af2 (mul_r x x)))
-    (mul_r (mul_r (mul_r (constants_of world).relativity d.ecc) d.root_a) q.eccentric_pair.sin) three effect in
-    size_along (clock_limit b) value q.clock (≈_sym q.clock value s.clock_correction) four
+    (add_r (add_r elements.af0 (mul_r elements.af1 x)) (mul_r elements.af2 (mul_r x x)))
+    (mul_r (mul_r (mul_r (constants_of world).relativity elements.ecc) elements.root_a) q.eccentric_pair.sin) three effect in
+    size_along (clock_limit b) value q.clock (≈_sym q.clock value solves.clock_correction) four
 
 -- ---- toe and toc are at most two hours apart
 pub epochs_size : (a b : ℕ) → a ≤ b + 72000000000 → b ≤ a + 72000000000 → IsAtMostInSize (of_whole (pos 7200)) (sub_r (seconds a) (seconds b))
@@ -145,7 +145,7 @@ sent_limit = record { num = pos 720134; den = 100; positive = lit< tt }
 
 -- the sending by the satellite's own clock is at most 7201.34 s from toe
 pub sent_size : (tag toe : ℕ) (code : ℤ) → abs_diff tag toe ≤ 72010000000 → pos 0 ≤ℤ code → code ≤ℤ pos (10 ^ 11) → IsAtMostInSize sent_limit (sub_r (sent_at tag code) (seconds toe))
-sent_size tag toe code n l h = let a = apart tag toe n in (high tag toe code a.0 l, low tag toe code a.1 h)
+sent_size tag toe code n l h = let times_apart = apart tag toe n in (high tag toe code times_apart.0 l, low tag toe code times_apart.1 h)
   where
     apart : (a b : ℕ) → abs_diff a b ≤ 72010000000 → (a ≤ b + 72010000000) × (b ≤ a + 72010000000)
     apart a b h = (omega arith, omega arith)
@@ -164,33 +164,33 @@ sent_size tag toe code n l h = let a = apart tag toe n in (high tag toe code a.0
 pub clock_small : (eph : Eph) (world : World) (sent : Rational) (q : Quantities) → IsNearSolution (constants_of world) (elements_of eph) sent q
     → IsAtMostInSize sent_limit (sub_r sent (elements_of eph).toe) → IsAtMostInSize (of_scale 60 (pos (2 ^ 54))) q.clock
 clock_small eph world sent q is near =
-    let d : Elements = elements_of eph in
-    let s = is.solves in
-    let w : AreBounded world.mu world.rel = bounded world.mu world.rel world.known in
-    let sine = size_law_5 q.eccentric q.eccentric_pair.cos q.eccentric_pair.sin s.kepler.is_pair in
+    let elements : Elements = elements_of eph in
+    let solves = is.solves in
+    let constants_bounded : AreBounded world.mu world.rel = bounded world.mu world.rel world.known in
+    let sine = size_law_5 q.eccentric q.eccentric_pair.cos q.eccentric_pair.sin solves.kepler.is_pair in
     let one_and : Rational = add_r (of_whole (pos 1)) (two_to_minus 16) in
-    let e = size_of_decimal 3125 5 eph.ecc (from_to_within 0 3125 5 eph.ecc eph.ecc_in) in
-    let pull = size_mul (decimal (pos 3125) 5) one_and d.ecc q.eccentric_pair.sin e sine.1 in
-    let angle = size_of_angle q.eccentric s.kepler.is_pair.in_range in
-    let mean = size_along (add_r (of_whole (pos 16)) (mul_r (decimal (pos 3125) 5) one_and)) (sub_r q.eccentric (mul_r d.ecc q.eccentric_pair.sin))
-    q.mean (≈_sym q.mean (sub_r q.eccentric (mul_r d.ecc q.eccentric_pair.sin)) s.kepler.equation)
-    (size_sub (of_whole (pos 16)) (mul_r (decimal (pos 3125) 5) one_and) q.eccentric (mul_r d.ecc q.eccentric_pair.sin) angle pull) in
+    let ecc_small = size_of_decimal 3125 5 eph.ecc (from_to_within 0 3125 5 eph.ecc eph.ecc_in) in
+    let pull = size_mul (decimal (pos 3125) 5) one_and elements.ecc q.eccentric_pair.sin ecc_small sine.1 in
+    let angle = size_of_angle q.eccentric solves.kepler.is_pair.in_range in
+    let mean = size_along (add_r (of_whole (pos 16)) (mul_r (decimal (pos 3125) 5) one_and)) (sub_r q.eccentric (mul_r elements.ecc q.eccentric_pair.sin))
+    q.mean (≈_sym q.mean (sub_r q.eccentric (mul_r elements.ecc q.eccentric_pair.sin)) solves.kepler.equation)
+    (size_sub (of_whole (pos 16)) (mul_r (decimal (pos 3125) 5) one_and) q.eccentric (mul_r elements.ecc q.eccentric_pair.sin) angle pull) in
     let turn_limit : Rational = add_r (add_r (of_whole (pos 16)) (mul_r (decimal (pos 3125) 5) one_and)) (decimal (pos 65) 1) in
-    let turn = size_along turn_limit (sub_r q.mean d.m0) (mul_r q.tk q.motion) (turned q.mean d.m0 q.motion q.tk s.mean_anomaly)
-    (size_sub (add_r (of_whole (pos 16)) (mul_r (decimal (pos 3125) 5) one_and)) (decimal (pos 65) 1) q.mean d.m0 mean (size_of_decimal 65 1 eph.m0 eph.m0_in)) in
-    let root : of_whole (pos 19964900) ≤ʳ q.root_mu = root_least q.root_mu world.mu w.mu_low s.root_of_mu in
-    let slow : decimal (pos 923) 7 ≤ʳ q.motion = motion_least q.motion q.computed_motion d.dn s.corrected_mean_motion
-    (computed_least q.computed_motion q.axis d.root_a q.root_mu s.computed_mean_motion s.semi_major_axis root eph.root_a_in.low eph.root_a_in.high) (size_of_decimal 1 7 eph.dn eph.dn_in) in
+    let turn = size_along turn_limit (sub_r q.mean elements.m0) (mul_r q.tk q.motion) (turned q.mean elements.m0 q.motion q.tk solves.mean_anomaly)
+    (size_sub (add_r (of_whole (pos 16)) (mul_r (decimal (pos 3125) 5) one_and)) (decimal (pos 65) 1) q.mean elements.m0 mean (size_of_decimal 65 1 eph.m0 eph.m0_in)) in
+    let root : of_whole (pos 19964900) ≤ʳ q.root_mu = root_least q.root_mu world.mu constants_bounded.mu_low solves.root_of_mu in
+    let slow : decimal (pos 923) 7 ≤ʳ q.motion = motion_least q.motion q.computed_motion elements.dn solves.corrected_mean_motion
+    (computed_least q.computed_motion q.axis elements.root_a q.root_mu solves.computed_mean_motion solves.semi_major_axis root eph.root_a_in.low eph.root_a_in.high) (size_of_decimal 1 7 eph.dn eph.dn_in) in
     let time = size_over turn_limit (decimal (pos 923) 7) (of_whole (pos 245000)) q.tk q.motion (omega (arith, ints)) (omega (arith, ints)) slow (le_pos _ _ (lit≤ tt)) turn in
     let gap = epochs_size eph.toe.0 eph.toc.0 eph.toc_late_enough eph.toc_early_enough in
-    let far = size_along (of_whole (pos 252200)) (add_r q.tk (sub_r d.toe d.toc)) (sub_r q.t d.toc) (since q.t q.tk d.toe d.toc s.time_from_epoch)
-    (size_looser (add_r (of_whole (pos 245000)) (of_whole (pos 7200))) (of_whole (pos 252200)) (add_r q.tk (sub_r d.toe d.toc)) (le_pos _ _ (lit≤ tt))
-    (size_add (of_whole (pos 245000)) (of_whole (pos 7200)) q.tk (sub_r d.toe d.toc) time gap)) in
+    let far = size_along (of_whole (pos 252200)) (add_r q.tk (sub_r elements.toe elements.toc)) (sub_r q.t elements.toc) (since q.t q.tk elements.toe elements.toc solves.time_from_epoch)
+    (size_looser (add_r (of_whole (pos 245000)) (of_whole (pos 7200))) (of_whole (pos 252200)) (add_r q.tk (sub_r elements.toe elements.toc)) (le_pos _ _ (lit≤ tt))
+    (size_add (of_whole (pos 245000)) (of_whole (pos 7200)) q.tk (sub_r elements.toe elements.toc) time gap)) in
     let first = size_looser (clock_limit (of_whole (pos 252200))) (of_scale 3 (pos 1)) q.clock (le_pos _ _ (lit≤ tt)) (clock_size eph world sent (of_whole (pos 252200)) q is far) in
     let close_limit : Rational = add_r (add_r sent_limit (of_scale 3 (pos 1))) (of_whole (pos 7200)) in
-    let close = size_along close_limit (add_r (sub_r (sub_r sent d.toe) q.clock) (sub_r d.toe d.toc)) (sub_r q.t d.toc) (sent_since sent q.t q.clock d.toe d.toc s.time_of_sending)
-    (size_add (add_r sent_limit (of_scale 3 (pos 1))) (of_whole (pos 7200)) (sub_r (sub_r sent d.toe) q.clock) (sub_r d.toe d.toc)
-    (size_sub sent_limit (of_scale 3 (pos 1)) (sub_r sent d.toe) q.clock near first) gap) in
+    let close = size_along close_limit (add_r (sub_r (sub_r sent elements.toe) q.clock) (sub_r elements.toe elements.toc)) (sub_r q.t elements.toc) (sent_since sent q.t q.clock elements.toe elements.toc solves.time_of_sending)
+    (size_add (add_r sent_limit (of_scale 3 (pos 1))) (of_whole (pos 7200)) (sub_r (sub_r sent elements.toe) q.clock) (sub_r elements.toe elements.toc)
+    (size_sub sent_limit (of_scale 3 (pos 1)) (sub_r sent elements.toe) q.clock near first) gap) in
     size_looser (clock_limit close_limit) (of_scale 60 (pos (2 ^ 54))) q.clock (le_pos _ _ (lit≤ tt)) (clock_size eph world sent close_limit q is close)
   where
     turned : (m m0 n t : Rational) → m ≈ add_r m0 (mul_r n t) → sub_r m m0 ≈ mul_r t n

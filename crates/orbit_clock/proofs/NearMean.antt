@@ -62,9 +62,9 @@ half_gap p l w h = cert (p ∷ l ∷ w ∷ []) (((va 0 ⊖ va 1) ⊕ (va 0 ⊖ v
 
 middle_near : (lo hi p w : ℤ) (k : Rational) → InBox 60 lo hi k → ((hi -ℤ p) +ℤ (hi -ℤ p)) ≤ℤ w → ((p -ℤ lo) +ℤ (p -ℤ lo)) ≤ℤ w → IsAtMostInSize (of_scale 61 w) (sub_r (of_scale 60 p) k)
 middle_near lo hi p w k i a b =
-    let r : List Rational = of_scale 60 lo ∷ of_scale 60 hi ∷ of_scale 60 p ∷ k ∷ of_scale 61 w ∷ [] in (
-      order_r r ((va 0 ≼ va 3) ∷ (va 2 ⊖ va 0 ≼ va 4) ∷ []) [] (va 2 ⊖ va 3) (va 4) (hy 0 ⊞ hy 1) [] refl (i.0, (half_gap p lo w b, tt)) tt,
-      order_r r ((va 3 ≼ va 1) ∷ (va 1 ⊖ va 2 ≼ va 4) ∷ []) [] (ng (va 2 ⊖ va 3)) (va 4) (hy 0 ⊞ hy 1) [] refl (i.1, (half_gap hi p w a, tt)) tt,
+    let values : List Rational = of_scale 60 lo ∷ of_scale 60 hi ∷ of_scale 60 p ∷ k ∷ of_scale 61 w ∷ [] in (
+      order_r values ((va 0 ≼ va 3) ∷ (va 2 ⊖ va 0 ≼ va 4) ∷ []) [] (va 2 ⊖ va 3) (va 4) (hy 0 ⊞ hy 1) [] refl (i.0, (half_gap p lo w b, tt)) tt,
+      order_r values ((va 3 ≼ va 1) ∷ (va 1 ⊖ va 2 ≼ va 4) ∷ []) [] (ng (va 2 ⊖ va 3)) (va 4) (hy 0 ⊞ hy 1) [] refl (i.1, (half_gap hi p w a, tt)) tt,
     )
 
 -- within 2^-35 of the mean anomaly, where the clock is within 224698263229 / 2^61 of d

@@ -25,12 +25,12 @@ quotient_ends z d size h w = (
 
 pub quotient_room : (n d : ℤ) (k size : ℕ) → k ≤ 60 → size ≤ 2 ^ 62 → pos 0 <ℤ d → d <ℤ pos (2 ^ 64) → Within (pos size *ℤ d) (n *ℤ pos (2 ^ k)) → unsigned_abs n < 2 ^ (126 - k)
 quotient_room n d k size h l d0 d1 w =
-    let e : 2 ^ (126 - k) * 2 ^ k ≡ 2 ^ 126 = sym (pow-add 2 (126 - k) k) ∙ ap (λ (i : ℕ). 2 ^ i) (whole k h) in
-    let p : (pos size *ℤ d) <ℤ pos (2 ^ 126) = product size l in
-    let s : unsigned_abs (n *ℤ pos (2 ^ k)) < 2 ^ 126 = small (n *ℤ pos (2 ^ k)) (pos size *ℤ d) w.0 w.1 p in
-    let m : unsigned_abs (n *ℤ pos (2 ^ k)) ≡ unsigned_abs n * 2 ^ k = unsigned_abs-mul n (pos (2 ^ k)) in
+    let powers_join : 2 ^ (126 - k) * 2 ^ k ≡ 2 ^ 126 = sym (pow-add 2 (126 - k) k) ∙ ap (λ (i : ℕ). 2 ^ i) (whole k h) in
+    let product_below : (pos size *ℤ d) <ℤ pos (2 ^ 126) = product size l in
+    let scaled_below : unsigned_abs (n *ℤ pos (2 ^ k)) < 2 ^ 126 = small (n *ℤ pos (2 ^ k)) (pos size *ℤ d) w.0 w.1 product_below in
+    let scaled_size : unsigned_abs (n *ℤ pos (2 ^ k)) ≡ unsigned_abs n * 2 ^ k = unsigned_abs-mul n (pos (2 ^ k)) in
     below (unsigned_abs n) (2 ^ (126 - k)) (mul_lt_cancel (pos (unsigned_abs n)) (pos (2 ^ (126 - k))) (2 ^ k) (pow_pos k)
-    (scaled (unsigned_abs n * 2 ^ k) (2 ^ (126 - k) * 2 ^ k) (unsigned_abs (n *ℤ pos (2 ^ k))) m e s))
+    (scaled (unsigned_abs n * 2 ^ k) (2 ^ (126 - k) * 2 ^ k) (unsigned_abs (n *ℤ pos (2 ^ k))) scaled_size powers_join scaled_below))
   where
     whole : (k : ℕ) → k ≤ 60 → (126 - k) + k ≡ 126
     whole k h = omega arith

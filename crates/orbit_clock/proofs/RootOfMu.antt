@@ -40,7 +40,7 @@ root_high n l h b m = by_lt_z (pos 0) h
     up g = omega (arith, ints)
 
 pub root_low : (n l h : ℤ) → IsRootBox n l h → neg_ℤ (pos (19965300 * 2 ^ 36)) ≤ℤ l
-root_low n l h b = let g = b.low in omega (arith, ints, g)
+root_low n l h b = let low_enough = b.low in omega (arith, ints, low_enough)
 
 pub root_narrow : (n l h : ℤ) → IsRootBox n l h → h ≤ℤ pos (19965300 * 2 ^ 36) → (h -ℤ l) ≤ℤ pos 3
 root_narrow n l h b m = by_lt_z (pos 3) (h -ℤ l)
@@ -72,12 +72,12 @@ pub root_box : (s a b l h : ℤ) → a ≡ s → b ≡ s → s ≤ℤ pos (39860
     (pos 0 <ℤ h → (((h -ℤ pos 1) *ℤ (h -ℤ pos 1)) *ℤ pos (2 ^ 60)) <ℤ (b *ℤ pos (2 ^ 60) *ℤ (pos (2 ^ 60) +ℤ pos 1))) →
     (neg_ℤ (pos (19965300 * 2 ^ 36)) ≤ℤ l) × (h ≤ℤ pos (19965300 * 2 ^ 36)) × ((h -ℤ l) ≤ℤ pos 3)
 root_box s a b l h e f m lo o near_low near_high =
-    let r : IsRootBox (s *ℤ pos (2 ^ 60)) l h =
+    let is_root : IsRootBox (s *ℤ pos (2 ^ 60)) l h =
     scaled_root s l h lo o
     (subst (λ (z : ℤ). (z *ℤ pos (2 ^ 60) *ℤ (pos (2 ^ 60) -ℤ pos 1)) <ℤ (((l +ℤ pos 1) *ℤ (l +ℤ pos 1)) *ℤ pos (2 ^ 60))) e near_low)
     (λ g. subst (λ (z : ℤ). (((h -ℤ pos 1) *ℤ (h -ℤ pos 1)) *ℤ pos (2 ^ 60)) <ℤ (z *ℤ pos (2 ^ 60) *ℤ (pos (2 ^ 60) +ℤ pos 1))) f (near_high g)) in
-    let high : h ≤ℤ pos (19965300 * 2 ^ 36) = root_high (s *ℤ pos (2 ^ 60)) l h r (mul_le_right (pos (2 ^ 60)) s (pos (398600500000000 * 2 ^ 12)) (omega (arith, ints)) m) in
-    (root_low (s *ℤ pos (2 ^ 60)) l h r, high, root_narrow (s *ℤ pos (2 ^ 60)) l h r high)
+    let high : h ≤ℤ pos (19965300 * 2 ^ 36) = root_high (s *ℤ pos (2 ^ 60)) l h is_root (mul_le_right (pos (2 ^ 60)) s (pos (398600500000000 * 2 ^ 12)) (omega (arith, ints)) m) in
+    (root_low (s *ℤ pos (2 ^ 60)) l h is_root, high, root_narrow (s *ℤ pos (2 ^ 60)) l h is_root high)
 
 -- μ lies in the box of the point
 pub point_of_mu : (mu s a b : ℤ) → s ≡ mu *ℤ pos 4096 → a ≡ s → b ≡ s → InBox 12 a b (of_whole mu)

@@ -48,11 +48,11 @@ from_to_within least most places d f = record {
 -- a number from 0 on has a box from 0 on
 pub low_of_nn : (k places : ℕ) (b : Iv k) (q : Rational) → decimal (pos 0) places ≤ʳ q → IsLeastBox b (times (10 ^ 0) q) → pos 0 ≤ℤ b.lo
 low_of_nn k places b q h l =
-    let v : Rational = times (10 ^ 0) q in
-    let own = l.holds v refl in
-    let from : of_scale k (pos 0) ≤ʳ v =
-    ≤ʳ_trans (of_scale k (pos 0)) (decimal (pos 0) places) v
-    (zeros (2 ^ k) (10 ^ places)) (≤ʳ_trans (decimal (pos 0) places) q v h (≤ʳ_from_same q v (own_value q))) in
+    let shifted : Rational = times (10 ^ 0) q in
+    let own = l.holds shifted refl in
+    let from : of_scale k (pos 0) ≤ʳ shifted =
+    ≤ʳ_trans (of_scale k (pos 0)) (decimal (pos 0) places) shifted
+    (zeros (2 ^ k) (10 ^ places)) (≤ʳ_trans (decimal (pos 0) places) q shifted h (≤ʳ_from_same q shifted (own_value q))) in
     (l.least (pos 0) b.hi (from, own.1)).0
   where
     zeros : (m n : ℕ) → (pos 0 *ℤ pos n) ≤ℤ (pos 0 *ℤ pos m)
@@ -115,11 +115,11 @@ stepped bias drift aging time effect = add_r (add_r bias (mul_r time (add_r drif
 pub correction_is : (eph : Elements) (sent x y : Rational) →
     stepped eph.af0 (times (10 ^ 4) eph.af1) (times (10 ^ 8) eph.af2) (sub_r (part (sub_r sent eph.toc)) (part x)) y ≈ correction eph sent x y
 correction_is eph sent x y =
-    let r : List Rational = eph.af0 ∷ eph.af1 ∷ eph.af2 ∷ sent ∷ eph.toc ∷ x ∷ y ∷ part (sub_r sent eph.toc) ∷ part x ∷ times (10 ^ 4) eph.af1 ∷ times (10 ^ 8) eph.af2 ∷ [] in
+    let values : List Rational = eph.af0 ∷ eph.af1 ∷ eph.af2 ∷ sent ∷ eph.toc ∷ x ∷ y ∷ part (sub_r sent eph.toc) ∷ part x ∷ times (10 ^ 4) eph.af1 ∷ times (10 ^ 8) eph.af2 ∷ [] in
     let time : Ex = va 7 ⊖ va 8 in
     let since : Ex = (va 3 ⊖ va 5) ⊖ va 4 in
     let slope : Ex = va 1 ⊕ va 2 ⊗ (ko (pos 10000) ⊗ time ⊕ since) in
-    equal_r r ((va 7 ⊗ ko (pos 10000) ≐ va 3 ⊖ va 4) ∷ (va 8 ⊗ ko (pos 10000) ≐ va 5) ∷ (va 9 ≐ ko (pos 10000) ⊗ va 1) ∷ (va 10 ≐ ko (pos 100000000) ⊗ va 2) ∷ [])
+    equal_r values ((va 7 ⊗ ko (pos 10000) ≐ va 3 ⊖ va 4) ∷ (va 8 ⊗ ko (pos 10000) ≐ va 5) ∷ (va 9 ≐ ko (pos 10000) ⊗ va 1) ∷ (va 10 ≐ ko (pos 100000000) ⊗ va 2) ∷ [])
     (slope ∷ ng slope ∷ time ∷ (time ⊗ time) ∷ [])
     ((va 0 ⊕ time ⊗ (va 9 ⊕ va 10 ⊗ time)) ⊕ va 6) (((va 0 ⊕ va 1 ⊗ since) ⊕ va 2 ⊗ (since ⊗ since)) ⊕ va 6) refl
     (part_is (sub_r sent eph.toc), (part_is x, (times_is (10 ^ 4) eph.af1, (times_is (10 ^ 8) eph.af2, tt))))

@@ -25,10 +25,10 @@ small = le_pos 65536 65536 (lit≤ tt)
 -- a place that the Earth has turned
 pub turned_square : (sent : Place) (x : Rational) (turn : Pair) → IsSentPlace sent → IsAnglePair 5 x turn.cos turn.sin → IsBetween 360990000000000 1444030000000000 (square (turned_back turn sent))
 turned_square sent x turn h p =
-    let n = norm_law_5 x turn.cos turn.sin p in
+    let near_norm = norm_law_5 x turn.cos turn.sin p in
     record {
-      low = turned_far sent.x sent.y sent.z turn.cos turn.sin (two_to_minus 16) h.0 h.1 n.0 n.1 small;
-      high = turned_near sent.x sent.y sent.z turn.cos turn.sin (two_to_minus 16) h.0 h.1 n.0 n.1 small;
+      low = turned_far sent.x sent.y sent.z turn.cos turn.sin (two_to_minus 16) h.0 h.1 near_norm.0 near_norm.1 small;
+      high = turned_near sent.x sent.y sent.z turn.cos turn.sin (two_to_minus 16) h.0 h.1 near_norm.0 near_norm.1 small;
     }
 
 pub loosely : (q : Rational) → IsBetween 360990000000000 1444030000000000 q → IsBetween 357210000000000 1451610000000000 q

@@ -11,20 +11,20 @@ pub range_change : (d move : Place) (u v : Rational) → of_whole (pos 100000000
     IsNearRoot u (square d) → IsNearRoot v (square (difference d move)) →
     (mul_r (of_whole (pos 2)) v ≤ʳ add_r (mul_r (of_whole (pos 2)) u) (of_whole (pos 33))) × (sub_r (mul_r (of_whole (pos 2)) u) (of_whole (pos 33)) ≤ʳ mul_r (of_whole (pos 2)) v)
 range_change d move u v far near m hu hv =
-    let uh = near_high u (square d) hu in
-    let ul = near_low u (square d) hu in
-    let vh = near_high v (square (difference d move)) hv in
-    let vl = near_low v (square (difference d move)) hv in
-    let u0 = root_nn u (square d) hu in
-    let v0 = root_nn v (square (difference d move)) hv in
+    let left_high = near_high u (square d) hu in
+    let left_low = near_low u (square d) hu in
+    let right_high = near_high v (square (difference d move)) hv in
+    let right_low = near_low v (square (difference d move)) hv in
+    let left_not_negative = root_nn u (square d) hu in
+    let right_not_negative = root_nn v (square (difference d move)) hv in
     let p : Rational = mul_r (of_whole (pos 1000)) (dot d move) in
-    let w : Rational = mul_r (of_whole (pos 16001)) u in
-    let w0 = times_nn u u0 in
-    let s = product_square d.x d.y d.z move.x move.y move.z u m ul in
-    let up = root_r p w w0 s in
-    let down = root_r (neg_r p) w w0 (neg_square p w s) in
-    let least = root_r (of_whole (pos 1000000)) u u0 (range_square d.x d.y d.z u far ul) in (
-      root_r (mul_r (of_whole (pos 2)) v) (add_r (mul_r (of_whole (pos 2)) u) (of_whole (pos 33))) (sum_nn u u0) (after_square d.x d.y d.z move.x move.y move.z u v near m uh ul vh vl up down least),
-      root_r (sub_r (mul_r (of_whole (pos 2)) u) (of_whole (pos 33))) (mul_r (of_whole (pos 2)) v) (twice_nn v v0)
-          (before_square d.x d.y d.z move.x move.y move.z u v near m uh ul vh vl up down least),
+    let bound : Rational = mul_r (of_whole (pos 16001)) u in
+    let bound_not_negative = times_nn u left_not_negative in
+    let square_at_most = product_square d.x d.y d.z move.x move.y move.z u m left_low in
+    let product_at_most = root_r p bound bound_not_negative square_at_most in
+    let down = root_r (neg_r p) bound bound_not_negative (neg_square p bound square_at_most) in
+    let least = root_r (of_whole (pos 1000000)) u left_not_negative (range_square d.x d.y d.z u far left_low) in (
+      root_r (mul_r (of_whole (pos 2)) v) (add_r (mul_r (of_whole (pos 2)) u) (of_whole (pos 33))) (sum_nn u left_not_negative) (after_square d.x d.y d.z move.x move.y move.z u v near m left_high left_low right_high right_low product_at_most down least),
+      root_r (sub_r (mul_r (of_whole (pos 2)) u) (of_whole (pos 33))) (mul_r (of_whole (pos 2)) v) (twice_nn v right_not_negative)
+          (before_square d.x d.y d.z move.x move.y move.z u v near m left_high left_low right_high right_low product_at_most down least),
     )

@@ -62,9 +62,9 @@ pub record AreApart (sent point : Place) : Type 0 where
 pub coordinates : (x y z : Rational) (b : ℕ) → add_r (add_r (mul_r x x) (mul_r y y)) (mul_r z z) ≤ʳ mul_r (of_whole (pos b)) (of_whole (pos b))
     → (x ≤ʳ of_whole (pos b)) × (neg_r x ≤ʳ of_whole (pos b))
 coordinates x y z b h =
-    let s = coordinate_square x y z (of_whole (pos b)) h in
-    let n = go b in
-    (root_r x (of_whole (pos b)) n s, root_r (neg_r x) (of_whole (pos b)) n (neg_square x (of_whole (pos b)) s))
+    let square_at_most = coordinate_square x y z (of_whole (pos b)) h in
+    let bound_not_negative = go b in
+    (root_r x (of_whole (pos b)) bound_not_negative square_at_most, root_r (neg_r x) (of_whole (pos b)) bound_not_negative (neg_square x (of_whole (pos b)) square_at_most))
   where
     go : (b : ℕ) → (pos 0 *ℤ pos 1) ≤ℤ (pos b *ℤ pos 1)
     go b = omega (arith, ints)
@@ -99,9 +99,9 @@ turns a b ha hb o =
     let near : AreWithin (sub_r b a) (mul_r earth_rate b) (mul_r earth_rate a) = (slower a b earth_rate o rate_low rate_high, slower_back a b earth_rate o rate_low) in
     let law = canonical_law 5 (sub_r b a) (mul_r earth_rate b) (mul_r earth_rate a) (pair_at b).cos (pair_at b).sin (pair_at a).cos (pair_at a).sin
     (lit≤ tt) (canonical_at b hb) (canonical_at a ha) near in
-    let c = both_within (sub_r b a) (pair_at b).cos (pair_at a).cos law.0 in
-    let s = both_within (sub_r b a) (pair_at b).sin (pair_at a).sin law.1 in
-    record { cos_up = c.0; cos_down = c.1; sin_up = s.0; sin_down = s.1 }
+    let cosines_near = both_within (sub_r b a) (pair_at b).cos (pair_at a).cos law.0 in
+    let sines_near = both_within (sub_r b a) (pair_at b).sin (pair_at a).sin law.1 in
+    record { cos_up = cosines_near.0; cos_down = cosines_near.1; sin_up = sines_near.0; sin_down = sines_near.1 }
 
 -- each coordinate of the places, and each part of the pairs, at its most
 record AreSized (sent point : Place) : Type 0 where
@@ -128,32 +128,32 @@ sized sent point h = record {
 pub moves_slowly : (sent point : Place) (d x y : Rational) (p q : Pair) → AreApart sent point → IsAnglePair 5 x p.cos p.sin → IsAnglePair 5 y q.cos q.sin → AreTurns d p q
     → sub_r (square (difference (turned_back q sent) point)) (square (difference (turned_back p sent) point)) ≤ʳ mul_r (of_whole (pos 96672000000000000)) d
 moves_slowly sent point d x y p q h hp hq t =
-    let z = sized sent point h in
+    let point_sized = sized sent point h in
     let c : Rational = p.cos in
     let s : Rational = p.sin in
     let e : Rational = q.cos in
     let f : Rational = q.sin in
-    let np = size_law_5 x c s hp in
-    let nq = size_law_5 y e f hq in
-    let cp = at_most_two c np.0 in
-    let sp = at_most_two s np.1 in
-    let cq = at_most_two e nq.0 in
-    let sq = at_most_two f nq.1 in
+    let left_sizes = size_law_5 x c s hp in
+    let right_sizes = size_law_5 y e f hq in
+    let left_cos_small = at_most_two c left_sizes.0 in
+    let left_sin_small = at_most_two s left_sizes.1 in
+    let right_cos_small = at_most_two e right_sizes.0 in
+    let right_sin_small = at_most_two f right_sizes.1 in
     let u : Rational = add_r (mul_r c sent.x) (mul_r s sent.y) in
     let v : Rational = add_r (mul_r e sent.x) (mul_r f sent.y) in
     let w : Rational = sub_r (mul_r c sent.y) (mul_r s sent.x) in
     let v2 : Rational = sub_r (mul_r e sent.y) (mul_r f sent.x) in
     sum_move u v w v2 sent.z point.x point.y point.z d
     (square_move u v point.x d
-    (first_move c s e f sent.x sent.y d t.cos_up t.cos_down t.sin_up t.sin_down z.x.0 z.x.1 z.y.0 z.y.1)
-    (first_move e f c s sent.x sent.y d t.cos_down t.cos_up t.sin_down t.sin_up z.x.0 z.x.1 z.y.0 z.y.1)
-    (first_size e f sent.x sent.y cq.0 cq.1 sq.0 sq.1 z.x.0 z.x.1 z.y.0 z.y.1) (first_neg e f sent.x sent.y cq.0 cq.1 sq.0 sq.1 z.x.0 z.x.1 z.y.0 z.y.1)
-    (first_size c s sent.x sent.y cp.0 cp.1 sp.0 sp.1 z.x.0 z.x.1 z.y.0 z.y.1) (first_neg c s sent.x sent.y cp.0 cp.1 sp.0 sp.1 z.x.0 z.x.1 z.y.0 z.y.1) z.p.0 z.p.1)
+    (first_move c s e f sent.x sent.y d t.cos_up t.cos_down t.sin_up t.sin_down point_sized.x.0 point_sized.x.1 point_sized.y.0 point_sized.y.1)
+    (first_move e f c s sent.x sent.y d t.cos_down t.cos_up t.sin_down t.sin_up point_sized.x.0 point_sized.x.1 point_sized.y.0 point_sized.y.1)
+    (first_size e f sent.x sent.y right_cos_small.0 right_cos_small.1 right_sin_small.0 right_sin_small.1 point_sized.x.0 point_sized.x.1 point_sized.y.0 point_sized.y.1) (first_neg e f sent.x sent.y right_cos_small.0 right_cos_small.1 right_sin_small.0 right_sin_small.1 point_sized.x.0 point_sized.x.1 point_sized.y.0 point_sized.y.1)
+    (first_size c s sent.x sent.y left_cos_small.0 left_cos_small.1 left_sin_small.0 left_sin_small.1 point_sized.x.0 point_sized.x.1 point_sized.y.0 point_sized.y.1) (first_neg c s sent.x sent.y left_cos_small.0 left_cos_small.1 left_sin_small.0 left_sin_small.1 point_sized.x.0 point_sized.x.1 point_sized.y.0 point_sized.y.1) point_sized.p.0 point_sized.p.1)
     (square_move w v2 point.y d
-    (second_move c s e f sent.x sent.y d t.cos_up t.cos_down t.sin_up t.sin_down z.x.0 z.x.1 z.y.0 z.y.1)
-    (second_move e f c s sent.x sent.y d t.cos_down t.cos_up t.sin_down t.sin_up z.x.0 z.x.1 z.y.0 z.y.1)
-    (second_size e f sent.x sent.y cq.0 cq.1 sq.0 sq.1 z.x.0 z.x.1 z.y.0 z.y.1) (second_neg e f sent.x sent.y cq.0 cq.1 sq.0 sq.1 z.x.0 z.x.1 z.y.0 z.y.1)
-    (second_size c s sent.x sent.y cp.0 cp.1 sp.0 sp.1 z.x.0 z.x.1 z.y.0 z.y.1) (second_neg c s sent.x sent.y cp.0 cp.1 sp.0 sp.1 z.x.0 z.x.1 z.y.0 z.y.1) z.q.0 z.q.1)
+    (second_move c s e f sent.x sent.y d t.cos_up t.cos_down t.sin_up t.sin_down point_sized.x.0 point_sized.x.1 point_sized.y.0 point_sized.y.1)
+    (second_move e f c s sent.x sent.y d t.cos_down t.cos_up t.sin_down t.sin_up point_sized.x.0 point_sized.x.1 point_sized.y.0 point_sized.y.1)
+    (second_size e f sent.x sent.y right_cos_small.0 right_cos_small.1 right_sin_small.0 right_sin_small.1 point_sized.x.0 point_sized.x.1 point_sized.y.0 point_sized.y.1) (second_neg e f sent.x sent.y right_cos_small.0 right_cos_small.1 right_sin_small.0 right_sin_small.1 point_sized.x.0 point_sized.x.1 point_sized.y.0 point_sized.y.1)
+    (second_size c s sent.x sent.y left_cos_small.0 left_cos_small.1 left_sin_small.0 left_sin_small.1 point_sized.x.0 point_sized.x.1 point_sized.y.0 point_sized.y.1) (second_neg c s sent.x sent.y left_cos_small.0 left_cos_small.1 left_sin_small.0 left_sin_small.1 point_sized.x.0 point_sized.x.1 point_sized.y.0 point_sized.y.1) point_sized.q.0 point_sized.q.1)
 
 slow : (sent point : Place) (a b : Rational) → AreApart sent point → IsTime a → IsTime b → a ≤ʳ b
     → sub_r (gap_at sent point a) (gap_at sent point b) ≤ʳ mul_r (of_whole (pos 96672000000000000)) (sub_r b a)
@@ -176,9 +176,9 @@ record Bracket (sent point : Place) (n : ℕ) : Type 0 where
 
 gap_bounds : (sent point : Place) (t : Rational) → AreApart sent point → IsTime t → IsBetween 141000000000000 2040000000000000 (gap_at sent point t)
 gap_bounds sent point t h i =
-    let x : Rational = mul_r earth_rate t in
-    let q = canonical_is_pair 5 x (pair_at t).cos (pair_at t).sin (canonical_at t i) in
-    vector_square (turned_back (pair_at t) sent) point (loosely (square (turned_back (pair_at t) sent)) (turned_square sent x (pair_at t) h.is_sent q)) h.is_receiver
+    let angle : Rational = mul_r earth_rate t in
+    let is_pair = canonical_is_pair 5 angle (pair_at t).cos (pair_at t).sin (canonical_at t i) in
+    vector_square (turned_back (pair_at t) sent) point (loosely (square (turned_back (pair_at t) sent)) (turned_square sent angle (pair_at t) h.is_sent is_pair)) h.is_receiver
 
 sixth : Rational
 sixth = record { num = pos 1; den = 6; positive = lit< tt }
@@ -199,8 +199,8 @@ start sent point h = record {
   late_time = last_time;
   ordered = le_pos 0 1 (lit≤ tt);
   is_early =
-      let d : Place = difference (turned_back (pair_at (of_whole (pos 0))) sent) point in
-      zero_early (gap_at sent point (of_whole (pos 0))) (square_nn d.x d.y d.z);
+      let gap : Place = difference (turned_back (pair_at (of_whole (pos 0))) sent) point in
+      zero_early (gap_at sent point (of_whole (pos 0))) (square_nn gap.x gap.y gap.z);
   is_late = at_last (gap_at sent point sixth) sixth (gap_bounds sent point sixth h last_time).high (le_pos 6 6 (lit≤ tt)) last_time.not_negative;
   narrow = le_pos 6 6 (lit≤ tt);
 }
@@ -227,18 +227,18 @@ power_nn n = go (6 * 2 ^ n)
 
 step : (sent point : Place) (n : ℕ) → Bracket sent point n → Bracket sent point (suc n)
 step sent point n k =
-    let a : Rational = k.early in
-    let b : Rational = k.late in
-    let m : Rational = halved (add_r a b) in
-    let up : mul_r (of_whole (pos 2)) m ≤ʳ add_r a b = ≤ʳ_from_same (mul_r (of_whole (pos 2)) m) (add_r a b) (twice_half (add_r a b)) in
-    let down : add_r a b ≤ʳ mul_r (of_whole (pos 2)) m = ≤ʳ_from_same (add_r a b) (mul_r (of_whole (pos 2)) m) (≈_sym (mul_r (of_whole (pos 2)) m) (add_r a b) (twice_half (add_r a b))) in
-    let am = middle_low a b m k.ordered down in
-    let mb = middle_high a b m k.ordered up in
-    let time : IsTime m = record { not_negative = ≤ʳ_trans (of_whole (pos 0)) a m k.early_time.not_negative am; most = most_below m b mb k.late_time.most } in
-    go a b m k.early_time k.late_time time am mb k.is_early k.is_late
-    (upper_half a b m (of_whole (pos (6 * 2 ^ n))) (of_whole (pos (6 * 2 ^ suc n))) k.narrow (twice_power n) down mb (power_nn n))
-    (lower_half a b m (of_whole (pos (6 * 2 ^ n))) (of_whole (pos (6 * 2 ^ suc n))) k.narrow (twice_power n) up am (power_nn n))
-    (≤ʳ_total (gap_at sent point m) (mul_r (of_whole (pos 89875517873681764)) (mul_r m m)))
+    let early : Rational = k.early in
+    let late : Rational = k.late in
+    let middle : Rational = halved (add_r early late) in
+    let twice_middle : mul_r (of_whole (pos 2)) middle ≤ʳ add_r early late = ≤ʳ_from_same (mul_r (of_whole (pos 2)) middle) (add_r early late) (twice_half (add_r early late)) in
+    let down : add_r early late ≤ʳ mul_r (of_whole (pos 2)) middle = ≤ʳ_from_same (add_r early late) (mul_r (of_whole (pos 2)) middle) (≈_sym (mul_r (of_whole (pos 2)) middle) (add_r early late) (twice_half (add_r early late))) in
+    let early_below = middle_low early late middle k.ordered down in
+    let late_above = middle_high early late middle k.ordered twice_middle in
+    let time : IsTime middle = record { not_negative = ≤ʳ_trans (of_whole (pos 0)) early middle k.early_time.not_negative early_below; most = most_below middle late late_above k.late_time.most } in
+    go early late middle k.early_time k.late_time time early_below late_above k.is_early k.is_late
+    (upper_half early late middle (of_whole (pos (6 * 2 ^ n))) (of_whole (pos (6 * 2 ^ suc n))) k.narrow (twice_power n) down late_above (power_nn n))
+    (lower_half early late middle (of_whole (pos (6 * 2 ^ n))) (of_whole (pos (6 * 2 ^ suc n))) k.narrow (twice_power n) twice_middle early_below (power_nn n))
+    (≤ʳ_total (gap_at sent point middle) (mul_r (of_whole (pos 89875517873681764)) (mul_r middle middle)))
   where
     light : Rational → Rational
     light t = mul_r (of_whole (pos 89875517873681764)) (mul_r t t)
@@ -257,25 +257,25 @@ bracket sent point h (suc n) = step sent point n (bracket sent point h n)
 -- ---- the law
 found : (sent point : Place) → AreApart sent point → Bracket sent point 80 → HasSeenPlace sent point
 found sent point h k =
-    let a : Rational = k.early in
-    let b : Rational = k.late in
-    let ga : Rational = gap_at sent point a in
-    let gb : Rational = gap_at sent point b in
-    let bounds = gap_bounds sent point b h k.late_time in
-    let high = ends_high a b ga gb k.is_early (slow sent point a b h k.early_time k.late_time k.ordered) k.ordered k.late_time.most k.narrow bounds.low in
-    let gb0 = ≤ʳ_trans (of_whole (pos 0)) (of_whole (pos 141000000000000)) gb (le_pos 0 141000000000000 (lit≤ tt)) bounds.low in
-    let low = ends_low gb (range_of b) gb0 (light_square b gb k.is_late) in
-    let turn : Pair = pair_at b in
+    let early : Rational = k.early in
+    let late : Rational = k.late in
+    let early_gap : Rational = gap_at sent point early in
+    let late_gap : Rational = gap_at sent point late in
+    let bounds = gap_bounds sent point late h k.late_time in
+    let high = ends_high early late early_gap late_gap k.is_early (slow sent point early late h k.early_time k.late_time k.ordered) k.ordered k.late_time.most k.narrow bounds.low in
+    let gb0 = ≤ʳ_trans (of_whole (pos 0)) (of_whole (pos 141000000000000)) late_gap (le_pos 0 141000000000000 (lit≤ tt)) bounds.low in
+    let low = ends_low late_gap (range_of late) gb0 (light_square late late_gap k.is_late) in
+    let turn : Pair = pair_at late in
     record {
-      travel = b;
+      travel = late;
       seen = turned_back turn sent;
       is_seen = record {
         turn = turn;
-        turn_is = canonical_is_pair 5 (mul_r earth_rate b) turn.cos turn.sin (canonical_at b k.late_time);
+        turn_is = canonical_is_pair 5 (mul_r earth_rate late) turn.cos turn.sin (canonical_at late k.late_time);
         seen_is = (refl, refl, refl);
-        travel_is = travel_root b gb (near_root (range_of b) gb (range_nn b k.late_time.not_negative) high low);
+        travel_is = travel_root late late_gap (near_root (range_of late) late_gap (range_nn late k.late_time.not_negative) high low);
       };
     }
 
 pub seen_place_exists : (sent point : Place) → IsSentPlace sent → IsReceiverPlace point → HasSeenPlace sent point
-seen_place_exists sent point s r = let h : AreApart sent point = record { is_sent = s; is_receiver = r } in found sent point h (bracket sent point h 80)
+seen_place_exists sent point s r = let are_apart : AreApart sent point = record { is_sent = s; is_receiver = r } in found sent point are_apart (bracket sent point are_apart 80)

@@ -31,10 +31,10 @@ difference_same p q r e = (less_same p.x q.x r.x e.0, less_same p.y q.y r.y e.1,
 -- ---- distances
 pub seen_vector : (sent point seen : Place) (t : Rational) → IsSentPlace sent → IsReceiverPlace point → IsSeenPlace sent point t seen → HasLengthBetween 11800000 45200000 (difference seen point)
 seen_vector sent point seen t s r h =
-    let x : Place = turned_back h.turn sent in
-    let b = vector_square x point (loosely (square x) (turned_square sent _ h.turn s h.turn_is)) r in
-    let e = ≈_sym (square (difference seen point)) (square (difference x point)) (square_same (difference seen point) (difference x point) (difference_same seen x point h.seen_is)) in
-    along (square (difference x point)) (square (difference seen point)) e b
+    let turned : Place = turned_back h.turn sent in
+    let square_between = vector_square turned point (loosely (square turned) (turned_square sent _ h.turn s h.turn_is)) r in
+    let same_square = ≈_sym (square (difference seen point)) (square (difference turned point)) (square_same (difference seen point) (difference turned point) (difference_same seen turned point h.seen_is)) in
+    along (square (difference turned point)) (square (difference seen point)) same_square square_between
   where
     along : (p q : Rational) → p ≈ q → IsBetween 141000000000000 2040000000000000 p → (of_whole (pos 139240000000000) ≤ʳ q) × (q ≤ʳ of_whole (pos 2043040000000000))
     along p q e b = (
@@ -46,11 +46,11 @@ seen_vector sent point seen t s r h =
 
 pub seen_distance : (sent point seen : Place) (t : Rational) → IsSentPlace sent → IsSeenPlace sent point t seen → HasLengthBetween 18900000 38100000 seen
 seen_distance sent point seen t s h =
-    let x : Place = turned_back h.turn sent in
-    let b = loosely (square x) (turned_square sent _ h.turn s h.turn_is) in
-    let e = ≈_sym (square seen) (square x) (square_same seen x h.seen_is) in (
-      ≤ʳ_along (of_whole (pos 357210000000000)) (of_whole (pos 357210000000000)) (square x) (square seen) refl e b.low,
-      ≤ʳ_along (square x) (square seen) (of_whole (pos 1451610000000000)) (of_whole (pos 1451610000000000)) e refl b.high,
+    let turned : Place = turned_back h.turn sent in
+    let square_between = loosely (square turned) (turned_square sent _ h.turn s h.turn_is) in
+    let same_square = ≈_sym (square seen) (square turned) (square_same seen turned h.seen_is) in (
+      ≤ʳ_along (of_whole (pos 357210000000000)) (of_whole (pos 357210000000000)) (square turned) (square seen) refl same_square square_between.low,
+      ≤ʳ_along (square turned) (square seen) (of_whole (pos 1451610000000000)) (of_whole (pos 1451610000000000)) same_square refl square_between.high,
     )
 
 -- ---- the travel time
@@ -59,6 +59,6 @@ travel_nn sent point seen t h = root_nn t (over_light_speed_squared (square (dif
 
 pub travel_most : (sent point seen : Place) (t : Rational) → IsSentPlace sent → IsReceiverPlace point → IsSeenPlace sent point t seen → mul_r (of_whole (pos 6)) t ≤ʳ of_whole (pos 1)
 travel_most sent point seen t s r h =
-    let q : Rational = square (difference seen point) in
-    let b = seen_vector sent point seen t s r h in
-    root_r (mul_r (of_whole (pos 6)) t) (of_whole (pos 1)) (whole_le 0 1 (lit≤ tt)) (time_square t q (near_high (range_of t) q (range_root t q h.travel_is)) b.1)
+    let squared : Rational = square (difference seen point) in
+    let length_between = seen_vector sent point seen t s r h in
+    root_r (mul_r (of_whole (pos 6)) t) (of_whole (pos 1)) (whole_le 0 1 (lit≤ tt)) (time_square t squared (near_high (range_of t) squared (range_root t squared h.travel_is)) length_between.1)

@@ -18,9 +18,9 @@ in_range_7 a h k = omega (arith, ints)
 pub near_circle_5 : (b : Iv 56) (cos sin : Iv 60) → IsWithin (2 ^ 60) b → ((x c s : Rational) → Holds b x → IsAnglePair 5 x c s → Holds cos c × Holds sin s) → HasPairNearCircle 1 cos sin
 near_circle_5 b cos sin r h =
     let x : Rational = of_scale 56 b.lo in
-    let e = canonical_exists 5 x (in_range b.lo r.0 (below b.lo b.hi b.ordered r.1)) in
-    let p = canonical_is_pair 5 x e.0 e.1 e.2 in
-    record { pair = record { cos = e.0; sin = e.1 }; held = h x e.0 e.1 (low_held b) p; near = norm_law_5 x e.0 e.1 p }
+    let canonical = canonical_exists 5 x (in_range b.lo r.0 (below b.lo b.hi b.ordered r.1)) in
+    let is_pair = canonical_is_pair 5 x canonical.0 canonical.1 canonical.2 in
+    record { pair = record { cos = canonical.0; sin = canonical.1 }; held = h x canonical.0 canonical.1 (low_held b) is_pair; near = norm_law_5 x canonical.0 canonical.1 is_pair }
   where
     below : (a b : ℤ) → a ≤ℤ b → b ≤ℤ pos (2 ^ 60) → a ≤ℤ pos (2 ^ 60)
     below a b h k = omega (arith, ints)
@@ -31,10 +31,10 @@ fourth = le_pos _ _ (lit≤ tt)
 pub near_circle_7 : (b : Iv 56) (cos sin : Iv 60) → ((x c s : Rational) → Holds b x → IsAnglePair 7 x c s → Holds cos c × Holds sin s) → HasPairNearCircle 4 cos sin
 near_circle_7 b cos sin h =
     let x : Rational = of_scale 56 b.lo in
-    let e = canonical_exists 7 x (in_range_7 b.lo b.low (below b.lo b.hi b.ordered b.high)) in
-    let p = canonical_is_pair 7 x e.0 e.1 e.2 in
-    let n = norm_law_7 x e.0 e.1 p in
-    record { pair = record { cos = e.0; sin = e.1 }; held = h x e.0 e.1 (low_held b) p; near = near_looser (two_to_minus 14) (of_scale 16 (pos 4)) (add_r (mul_r e.0 e.0) (mul_r e.1 e.1)) fourth n }
+    let canonical = canonical_exists 7 x (in_range_7 b.lo b.low (below b.lo b.hi b.ordered b.high)) in
+    let is_pair = canonical_is_pair 7 x canonical.0 canonical.1 canonical.2 in
+    let near_norm = norm_law_7 x canonical.0 canonical.1 is_pair in
+    record { pair = record { cos = canonical.0; sin = canonical.1 }; held = h x canonical.0 canonical.1 (low_held b) is_pair; near = near_looser (two_to_minus 14) (of_scale 16 (pos 4)) (add_r (mul_r canonical.0 canonical.0) (mul_r canonical.1 canonical.1)) fourth near_norm }
   where
     below : (a b : ℤ) → a ≤ℤ b → b ≤ℤ pos (2 ^ 62) → a ≤ℤ pos (2 ^ 62)
     below a b h k = omega (arith, ints)

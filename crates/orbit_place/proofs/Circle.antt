@@ -29,13 +29,13 @@ norm-double p = same_by (p.cos.num ∷ pos p.cos.den ∷ p.sin.num ∷ pos p.sin
 -- ---- products of what is near 1: with x = N - 1 and y = M - 1, NM - 1 = xy + x + y, and 2 (uv - xy) = (u - x)(v + y) + (u + x)(v - y)
 pub near_product : (u v w n m : Rational) → add_r (add_r u v) (mul_r u v) ≤ʳ w → AreWithin u n one → AreWithin v m one → AreWithin w (mul_r n m) one
 near_product u v w n m l h k =
-    let r : List Rational = u ∷ v ∷ w ∷ n ∷ m ∷ [] in
-    let hs : List Hy = (va 3 ⊖ ko (pos 1) ≼ va 0) ∷ (ko (pos 1) ⊖ va 3 ≼ va 0) ∷ (va 4 ⊖ ko (pos 1) ≼ va 1) ∷ (ko (pos 1) ⊖ va 4 ≼ va 1) ∷ (va 0 ⊕ va 1 ⊕ va 0 ⊗ va 1 ≼ va 2) ∷ [] in (
+    let values : List Rational = u ∷ v ∷ w ∷ n ∷ m ∷ [] in
+    let hypotheses : List Hy = (va 3 ⊖ ko (pos 1) ≼ va 0) ∷ (ko (pos 1) ⊖ va 3 ≼ va 0) ∷ (va 4 ⊖ ko (pos 1) ≼ va 1) ∷ (ko (pos 1) ⊖ va 4 ≼ va 1) ∷ (va 0 ⊕ va 1 ⊕ va 0 ⊗ va 1 ≼ va 2) ∷ [] in (
       cancel_r (of_whole (pos 2)) (sub_r (mul_r n m) one) w (omega (arith, ints))
-          (order_r r hs [] (ko (pos 2) ⊗ (va 3 ⊗ va 4 ⊖ ko (pos 1))) (ko (pos 2) ⊗ va 2)
+          (order_r values hypotheses [] (ko (pos 2) ⊗ (va 3 ⊗ va 4 ⊖ ko (pos 1))) (ko (pos 2) ⊗ va 2)
           (nm 2 ⊠ hy 4 ⊞ nm 2 ⊠ hy 0 ⊞ nm 2 ⊠ hy 2 ⊞ hy 0 ⊠ hy 3 ⊞ hy 1 ⊠ hy 2) [] refl (h.0, (h.1, (k.0, (k.1, (l, tt))))) tt),
       cancel_r (of_whole (pos 2)) (sub_r one (mul_r n m)) w (omega (arith, ints))
-          (order_r r hs [] (ko (pos 2) ⊗ (ko (pos 1) ⊖ va 3 ⊗ va 4)) (ko (pos 2) ⊗ va 2)
+          (order_r values hypotheses [] (ko (pos 2) ⊗ (ko (pos 1) ⊖ va 3 ⊗ va 4)) (ko (pos 2) ⊗ va 2)
           (nm 2 ⊠ hy 4 ⊞ nm 2 ⊠ hy 1 ⊞ nm 2 ⊠ hy 3 ⊞ hy 1 ⊠ hy 3 ⊞ hy 0 ⊠ hy 2) [] refl (h.0, (h.1, (k.0, (k.1, (l, tt))))) tt),
     )
 

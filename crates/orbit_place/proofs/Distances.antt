@@ -94,14 +94,14 @@ pub away : (radius : Iv 36) (dx dy dz : Iv 60) (a b c : Iv 36) → pos (19590000
     ((r : Rational) (d : Point) → Holds radius r → HoldsPoint dx dy dz d → Holds a (mul_r r d.x) × Holds b (mul_r r d.y) × Holds c (mul_r r d.z)) → IsBetweenDistances 19000000 38000000 a b c
 away radius dx dy dz a b c least most has an bn cn holds = λ x y z hx hy hz. ∥∥₁_elim has (hlevel props) (λ p.
     let r : Rational = of_scale 36 radius.lo in
-    let q = holds r p.point (low_held radius) p.held in
+    let products_held = holds r p.point (low_held radius) p.held in
     between r x y z p.point (record {
       near_sphere = p.near;
       low = up radius.lo least;
       high = down radius.lo radius.hi radius.ordered most.1;
-      x_near = both_ways a x (mul_r r p.point.x) an hx q.0;
-      y_near = both_ways b y (mul_r r p.point.y) bn hy q.1;
-      z_near = both_ways c z (mul_r r p.point.z) cn hz q.2;
+      x_near = both_ways a x (mul_r r p.point.x) an hx products_held.0;
+      y_near = both_ways b y (mul_r r p.point.y) bn hy products_held.1;
+      z_near = both_ways c z (mul_r r p.point.z) cn hz products_held.2;
     }))
   where
     up : (l : ℤ) → pos (19590000 * 2 ^ 36) ≤ℤ l → of_whole (pos 19590000) ≤ʳ of_scale 36 l

@@ -82,8 +82,8 @@ true_near e w p v h = (
     factor = mul_r (mul_r (of_whole (pos 256)) (radius_at e p)) (radius_at e p)
 
     above : pos 0 <ℤ factor.num
-    above = let r = positive_above least_radius (radius_at e p) (omega (arith, ints)) h.far in
-        mul_positive (pos 256 *ℤ (radius_at e p).num) (radius_at e p).num (mul_positive (pos 256) (radius_at e p).num (omega (arith, ints)) r) r
+    above = let radius_positive = positive_above least_radius (radius_at e p) (omega (arith, ints)) h.far in
+        mul_positive (pos 256 *ℤ (radius_at e p).num) (radius_at e p).num (mul_positive (pos 256) (radius_at e p).num (omega (arith, ints)) radius_positive) radius_positive
 
     orders : List Hy
     orders =
@@ -152,20 +152,20 @@ has_true_pair ecc c s root radius cos sin b has = ∥∥₁_map has go
         let p : Pair = x.pair in
         let far : least_radius ≤ʳ radius_at e p = ≤ʳ_trans least_radius (of_scale 60 radius.lo) (radius_at e p) (far_out radius.lo b.radius_least) (b.radius_holds e p (low_held ecc) x.held).0 in
         let above : pos 0 <ℤ (radius_at e p).num = positive_above least_radius (radius_at e p) (omega (arith, ints)) far in
-        let k : HasQuotient (sub_r p.cos e) (radius_at e p) = quotient_exists (sub_r p.cos e) (radius_at e p) above in
-        let l : HasQuotient (mul_r w p.sin) (radius_at e p) = quotient_exists (mul_r w p.sin) (radius_at e p) above in
-        let v : Pair = record { cos = k.quotient; sin = l.quotient } in
-        let n = size_of_box 60 (2 ^ 55) ecc.lo ecc.hi e b.small.0 b.small.1 (low_held ecc) in
+        let cosine_quotient : HasQuotient (sub_r p.cos e) (radius_at e p) = quotient_exists (sub_r p.cos e) (radius_at e p) above in
+        let sine_quotient : HasQuotient (mul_r w p.sin) (radius_at e p) = quotient_exists (mul_r w p.sin) (radius_at e p) above in
+        let true_pair : Pair = record { cos = cosine_quotient.quotient; sin = sine_quotient.quotient } in
+        let ecc_small = size_of_box 60 (2 ^ 55) ecc.lo ecc.hi e b.small.0 b.small.1 (low_held ecc) in
         record {
-          pair = v;
-          held = b.quotients e w p v (low_held ecc) x.held (low_held root) (k.is_quotient, l.is_quotient);
-          near = true_near e w p v (record {
+          pair = true_pair;
+          held = b.quotients e w p true_pair (low_held ecc) x.held (low_held root) (cosine_quotient.is_quotient, sine_quotient.is_quotient);
+          near = true_near e w p true_pair (record {
             near_circle = x.near;
             near_root = b.root_near e (low_held ecc);
-            high = ≤ʳ_trans e limit one n.0 under_one;
-            low = ≤ʳ_trans (neg_r e) limit one n.1 under_one;
+            high = ≤ʳ_trans e limit one ecc_small.0 under_one;
+            low = ≤ʳ_trans (neg_r e) limit one ecc_small.1 under_one;
             far = far;
-            anomaly = (k.is_quotient, l.is_quotient);
+            anomaly = (cosine_quotient.is_quotient, sine_quotient.is_quotient);
           });
         }
       where
@@ -182,9 +182,9 @@ pub quotients_held : (ecc c s c' s' root radius shifted shortened cos sin : Iv 6
     ((x y z : Rational) → Holds shifted x → Holds radius y → mul_r z y ≈ x → Holds cos z) → ((x y z : Rational) → Holds shortened x → Holds radius y → mul_r z y ≈ x → Holds sin z) →
     (e w : Rational) (p v : Pair) → Holds ecc e → HoldsBoth c s p → Holds root w → IsTrueAnomaly e w p v → HoldsBoth cos sin v
 quotients_held ecc c s c' s' root radius shifted shortened cos sin ec es f g h i j e w p v ee pp ww a =
-    let q = both_along c' s' c s p ec es pp in
-    let r = f e p ee pp in
-    (i (sub_r p.cos e) (radius_at e p) v.cos (g p.cos e q.0 ee) r a.0, j (mul_r w p.sin) (radius_at e p) v.sin (h w p.sin ww q.1) r a.1)
+    let pair_held = both_along c' s' c s p ec es pp in
+    let radius_held = f e p ee pp in
+    (i (sub_r p.cos e) (radius_at e p) v.cos (g p.cos e pair_held.0 ee) radius_held a.0, j (mul_r w p.sin) (radius_at e p) v.sin (h w p.sin ww pair_held.1) radius_held a.1)
 
 -- ---- the number 1 as a box
 pub one_held : (b : Iv 60) → b.lo ≡ pos (2 ^ 60) → b.hi ≡ pos (2 ^ 60) → Holds b one

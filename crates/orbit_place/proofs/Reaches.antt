@@ -54,8 +54,8 @@ both_within off w cos sin has close cn sn f = ∥∥₁_elim has (hlevel props) 
     go h =
         let c : Rational = h.pair.cos in
         let s : Rational = h.pair.sin in
-        let e : sub_r (add_r (mul_r s s) (mul_r c c)) one ≤ʳ of_scale 16 (pos off) =
+        let rest_at_most : sub_r (add_r (mul_r s s) (mul_r c c)) one ≤ʳ of_scale 16 (pos off) =
         order_r (c ∷ s ∷ of_scale 16 (pos off) ∷ []) ((va 0 ⊗ va 0 ⊕ va 1 ⊗ va 1 ⊖ ko (pos 1) ≼ va 2) ∷ []) [] (va 1 ⊗ va 1 ⊕ va 0 ⊗ va 0 ⊖ ko (pos 1)) (va 2) (hy 0) [] refl (h.near.0, tt) tt in (
           part_within w cos c (part_size off (mul_r s s) c close h.near.0 (square_r-nonneg s)) h.held.0 cn f,
-          part_within w sin s (part_size off (mul_r c c) s close e (square_r-nonneg c)) h.held.1 sn f,
+          part_within w sin s (part_size off (mul_r c c) s close rest_at_most (square_r-nonneg c)) h.held.1 sn f,
         )

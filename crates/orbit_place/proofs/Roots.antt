@@ -57,11 +57,11 @@ root_narrow n m l h b = by_lt_z (l +ℤ pos 8) h
 
 pub root_near : (n m l h : ℤ) (x : Rational) → IsRootBox n m l h → InBox 60 n m x → AreWithin (two_to_minus 50) (mul_r (of_scale 60 l) (of_scale 60 l)) x
 root_near n m l h x b i =
-    let mn : m ≤ℤ (n +ℤ pos 2) = close n m b.narrow in
-    let nm : n ≤ℤ pos (1025 * 2 ^ 50) = below n m b.rest_ordered b.most in
-    let lh : l ≤ℤ pos (1025 * 2 ^ 50) = below l h b.ordered (root_high n m l h b) in (
-      above_near l n x.num (pos x.den) (above_root n m l h (high_fact n m l h b) mn b.not_negative b.ordered (root_high n m l h b) nm) i.0 (pos_nn x.den),
-      below_near l m x.num (pos x.den) (below_root n m l (low_fact n m l h b) mn lh nm) i.1 (pos_nn x.den),
+    let rest_close : m ≤ℤ (n +ℤ pos 2) = close n m b.narrow in
+    let rest_at_most : n ≤ℤ pos (1025 * 2 ^ 50) = below n m b.rest_ordered b.most in
+    let root_at_most : l ≤ℤ pos (1025 * 2 ^ 50) = below l h b.ordered (root_high n m l h b) in (
+      above_near l n x.num (pos x.den) (above_root n m l h (high_fact n m l h b) rest_close b.not_negative b.ordered (root_high n m l h b) rest_at_most) i.0 (pos_nn x.den),
+      below_near l m x.num (pos x.den) (below_root n m l (low_fact n m l h b) rest_close root_at_most rest_at_most) i.1 (pos_nn x.den),
     )
   where
     close : (n m : ℤ) → (m -ℤ n) ≤ℤ pos 2 → m ≤ℤ (n +ℤ pos 2)

@@ -23,14 +23,14 @@ rests : (a b c bound : Rational) → sub_r (add_r (add_r (mul_r a a) (mul_r b b)
     (sub_r (add_r (mul_r a a) (add_r (mul_r b b) (mul_r c c))) one ≤ʳ bound) × (sub_r (add_r (mul_r b b) (add_r (mul_r a a) (mul_r c c))) one ≤ʳ bound)
     × (sub_r (add_r (mul_r c c) (add_r (mul_r a a) (mul_r b b))) one ≤ʳ bound)
 rests a b c bound h =
-    let r : List Rational = a ∷ b ∷ c ∷ bound ∷ [] in
+    let values : List Rational = a ∷ b ∷ c ∷ bound ∷ [] in
     let x : Ex = va 0 ⊗ va 0 in
     let y : Ex = va 1 ⊗ va 1 in
     let z : Ex = va 2 ⊗ va 2 in
-    let hs : List Hy = (x ⊕ y ⊕ z ⊖ nat 1 ≼ va 3) ∷ [] in (
-      order_r r hs [] (x ⊕ (y ⊕ z) ⊖ nat 1) (va 3) (hy 0) [] refl (h, tt) tt,
-      order_r r hs [] (y ⊕ (x ⊕ z) ⊖ nat 1) (va 3) (hy 0) [] refl (h, tt) tt,
-      order_r r hs [] (z ⊕ (x ⊕ y) ⊖ nat 1) (va 3) (hy 0) [] refl (h, tt) tt,
+    let hypotheses : List Hy = (x ⊕ y ⊕ z ⊖ nat 1 ≼ va 3) ∷ [] in (
+      order_r values hypotheses [] (x ⊕ (y ⊕ z) ⊖ nat 1) (va 3) (hy 0) [] refl (h, tt) tt,
+      order_r values hypotheses [] (y ⊕ (x ⊕ z) ⊖ nat 1) (va 3) (hy 0) [] refl (h, tt) tt,
+      order_r values hypotheses [] (z ⊕ (x ⊕ y) ⊖ nat 1) (va 3) (hy 0) [] refl (h, tt) tt,
     )
 
 nonneg : (a b : Rational) → of_whole (pos 0) ≤ʳ add_r (mul_r a a) (mul_r b b)
@@ -45,10 +45,10 @@ all_within off w a b c has close an bn cn f = ∥∥₁_elim has (hlevel props) 
         let x : Rational = h.point.x in
         let y : Rational = h.point.y in
         let z : Rational = h.point.z in
-        let r = rests x y z (of_scale 16 (pos off)) h.near.0 in (
-          part_within w a x (part_size off (add_r (mul_r y y) (mul_r z z)) x close r.0 (nonneg y z)) h.held.0 an f,
-          part_within w b y (part_size off (add_r (mul_r x x) (mul_r z z)) y close r.1 (nonneg x z)) h.held.1 bn f,
-          part_within w c z (part_size off (add_r (mul_r x x) (mul_r y y)) z close r.2 (nonneg x y)) h.held.2 cn f,
+        let both_rests = rests x y z (of_scale 16 (pos off)) h.near.0 in (
+          part_within w a x (part_size off (add_r (mul_r y y) (mul_r z z)) x close both_rests.0 (nonneg y z)) h.held.0 an f,
+          part_within w b y (part_size off (add_r (mul_r x x) (mul_r z z)) y close both_rests.1 (nonneg x z)) h.held.1 bn f,
+          part_within w c z (part_size off (add_r (mul_r x x) (mul_r y y)) z close both_rests.2 (nonneg x y)) h.held.2 cn f,
         )
 
 -- ---- with P = cos²u + sin²u cos²i the squared length is P (cos²Ω + sin²Ω) + sin²u sin²i

@@ -12,9 +12,9 @@ pub direction_held : (uc us ic is nc ns across first second third fourth x y z :
     HoldsAll sub_r first second x → HoldsAll add_r third fourth y → HoldsAll mul_r us is z →
     (u i n : Pair) → HoldsBoth uc us u → HoldsBoth ic is i → HoldsBoth nc ns n → HoldsPoint x y z (direction u i n)
 direction_held uc us ic is nc ns across first second third fourth x y z f g h j k l m o u i n hu hi hn =
-    let a = f u.sin i.cos hu.1 hi.0 in (
-      l (mul_r u.cos n.cos) (mul_r (mul_r u.sin i.cos) n.sin) (g u.cos n.cos hu.0 hn.0) (h (mul_r u.sin i.cos) n.sin a hn.1),
-      m (mul_r u.cos n.sin) (mul_r (mul_r u.sin i.cos) n.cos) (j u.cos n.sin hu.0 hn.1) (k (mul_r u.sin i.cos) n.cos a hn.0),
+    let product_held = f u.sin i.cos hu.1 hi.0 in (
+      l (mul_r u.cos n.cos) (mul_r (mul_r u.sin i.cos) n.sin) (g u.cos n.cos hu.0 hn.0) (h (mul_r u.sin i.cos) n.sin product_held hn.1),
+      m (mul_r u.cos n.sin) (mul_r (mul_r u.sin i.cos) n.cos) (j u.cos n.sin hu.0 hn.1) (k (mul_r u.sin i.cos) n.cos product_held hn.0),
       o u.sin i.sin hu.1 hi.1,
     )
 

@@ -36,8 +36,8 @@ pub double_held : (c s both neither half cos sin : Iv 60) → ((x : Rational) �
     HoldsAll sub_r both neither cos → HoldsAll add_r half half sin → (p : Pair) → HoldsBoth c s p → HoldsBoth cos sin (double p)
 double_held c s both neither half cos sin f g h i j p m = (
   i (mul_r p.cos p.cos) (mul_r p.sin p.sin) (f p.cos m.0) (g p.sin m.1),
-  let k = h p.sin p.cos m.1 m.0 in
-      InBox-along 60 sin.lo sin.hi (add_r (mul_r p.sin p.cos) (mul_r p.sin p.cos)) (times 2 (mul_r p.sin p.cos)) (twice (mul_r p.sin p.cos)) (j (mul_r p.sin p.cos) (mul_r p.sin p.cos) k k),
+  let product_held = h p.sin p.cos m.1 m.0 in
+      InBox-along 60 sin.lo sin.hi (add_r (mul_r p.sin p.cos) (mul_r p.sin p.cos)) (times 2 (mul_r p.sin p.cos)) (twice (mul_r p.sin p.cos)) (j (mul_r p.sin p.cos) (mul_r p.sin p.cos) product_held product_held),
 )
   where
     twice : (q : Rational) → add_r q q ≈ times 2 q

@@ -167,16 +167,16 @@ pub step_below : (a : ℕ) (r : List ℤ) (m : List Column) (x : ℤ) (v : List 
     (kept a *ℤ ((pos (2 ^ 30) *ℤ x +ℤ dot (factors a r) v) *ℤ (pos (2 ^ 30) *ℤ x +ℤ dot (factors a r) v)) +ℤ pos (2 ^ 60) *ℤ quad (next a (len r) r m) v)
     ≤ℤ (pos (2 ^ 60) *ℤ (pos a *ℤ (x *ℤ x) +ℤ pos 2 *ℤ (x *ℤ dot r v) +ℤ quad m v))
 step_below a r m x v h e k f =
-    let g : ℤ = ceil_div (len r *ℤ pos a) (2 ^ 42) in
-    let c : ℤ = ceil_div (pos a) (2 ^ 20) in
-    let i : len v ≡ len r = sym f ∙ sym e in
-    step a x (dot r v) (dot (factors a r) v) (quad m v) (quad (next a (len r) r m) v) g (squared_norm v) (len r) c h
+    let others_loss : ℤ = ceil_div (len r *ℤ pos a) (2 ^ 42) in
+    let own_loss : ℤ = ceil_div (pos a) (2 ^ 20) in
+    let same_length : len v ≡ len r = sym f ∙ sym e in
+    step a x (dot r v) (dot (factors a r) v) (quad m v) (quad (next a (len r) r m) v) others_loss (squared_norm v) (len r) own_loss h
     (squared_norm_nonneg v)
-    (next_below a (len r) r m v h e k f (le_eq i))
+    (next_below a (len r) r m v h e k f (le_eq same_length))
     (subst (λ (z : ℤ). (pos 4 *ℤ ((pos a *ℤ dot (factors a r) v -ℤ pos (2 ^ 30) *ℤ dot r v) *ℤ (pos a *ℤ dot (factors a r) v -ℤ pos (2 ^ 30) *ℤ dot r v)))
-    ≤ℤ (z *ℤ (pos a *ℤ pos a *ℤ squared_norm v))) i (factors_close a r v h))
+    ≤ℤ (z *ℤ (pos a *ℤ pos a *ℤ squared_norm v))) same_length (factors_close a r v h))
     (ceil_close (len r *ℤ pos a) (2 ^ 42) (omega arith))
-    (square_share a c (pos (2 ^ 20)) (pos (2 ^ 30) *ℤ (pos a *ℤ x +ℤ dot r v)) (pos a *ℤ dot (factors a r) v -ℤ pos (2 ^ 30) *ℤ dot r v)
+    (square_share a own_loss (pos (2 ^ 20)) (pos (2 ^ 30) *ℤ (pos a *ℤ x +ℤ dot r v)) (pos a *ℤ dot (factors a r) v -ℤ pos (2 ^ 30) *ℤ dot r v)
     (share_pos a h) (share_le a) (ceil_close (pos a) (2 ^ 20) (omega arith)))
   where
     share_pos : (a : ℕ) → 0 < a → pos 0 <ℤ ceil_div (pos a) (2 ^ 20)
@@ -230,8 +230,8 @@ pub next_shaped : (a : ℕ) (n : ℤ) (r : List ℤ) (m : List Column) → len r
 next_shaped a n [] m e s = tt
 next_shaped a n (p ∷ r) [] e s = tt
 next_shaped a n (p ∷ r) (c ∷ m) e s =
-    let f : len r ≡ len m = len_tail (len r) (len m) e in
-    (others_len a p r c.others (s.0 ∙ sym f) ∙ s.0 ∙ sym (next_len a n r m f), next_shaped a n r m f s.1)
+    let same_length : len r ≡ len m = len_tail (len r) (len m) e in
+    (others_len a p r c.others (s.0 ∙ sym same_length) ∙ s.0 ∙ sym (next_len a n r m same_length), next_shaped a n r m same_length s.1)
 
 nearest_each_len : (m : ℕ) (r : List ℤ) → len (nearest_each m r) ≡ len r
 nearest_each_len m [] = refl

@@ -123,8 +123,8 @@ shear_keeps n ks map back i h = record {
   map_columns = rows_sheared n ks map i.map_columns;
   back_rows = len_add_rows ks (row (length ks) back) back ∙ i.back_rows;
   onto = λ (z : List ℤ) (e : len z ≡ n).
-      let l : len (apply (shear_back ks back) z) ≡ n = len_apply (shear_back ks back) z ∙ len_add_rows ks (row (length ks) back) back ∙ i.back_rows in
-      apply_sheared ks map (apply (shear_back ks back) z) (subst (λ (m : ℤ). AllRows m map) (sym l) i.map_columns) (subst (λ (m : ℤ). len ks <ℤ m) (sym l) h)
+      let length_is : len (apply (shear_back ks back) z) ≡ n = len_apply (shear_back ks back) z ∙ len_add_rows ks (row (length ks) back) back ∙ i.back_rows in
+      apply_sheared ks map (apply (shear_back ks back) z) (subst (λ (m : ℤ). AllRows m map) (sym length_is) i.map_columns) (subst (λ (m : ℤ). len ks <ℤ m) (sym length_is) h)
       ∙ ap (λ v. apply map (down ks v)) (apply_back ks back z) ∙ ap (apply map) (down_up ks (apply back z)) ∙ i.onto z e;
   one_to_one = λ (w : List ℤ) (e : len w ≡ n).
       apply_back ks back (apply (shear_map ks map) w)

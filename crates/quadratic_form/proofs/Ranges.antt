@@ -17,14 +17,14 @@ small_is (negsuc a) e = (omega (arith, ints, ltb-true), omega (arith, ints, ltb-
 
 list_is : (s : List ℤ) → all_small s ≡ true → SmallList s
 list_is [] e = tt
-list_is (x ∷ s) e = let p : (nat_lt (unsigned_abs x) (2 ^ 52) ≡ true) × (all_small s ≡ true) = and_parts _ _ e in (small_is x p.0, list_is s p.1)
+list_is (x ∷ s) e = let both_small : (nat_lt (unsigned_abs x) (2 ^ 52) ≡ true) × (all_small s ≡ true) = and_parts _ _ e in (small_is x both_small.0, list_is s both_small.1)
 
 pub form_is : (a : List Column) → form_small a ≡ true → SmallForm a
 form_is [] e = tt
 form_is (c ∷ a) e =
-    let p : (nat_lt (unsigned_abs c.own) (2 ^ 52) ≡ true) × ((all_small c.others && form_small a) ≡ true) = and_parts _ _ e in
-    let q : (all_small c.others ≡ true) × (form_small a ≡ true) = and_parts _ _ p.1 in
-    (small_is c.own p.0, list_is c.others q.0, form_is a q.1)
+    let own_and_rest_small : (nat_lt (unsigned_abs c.own) (2 ^ 52) ≡ true) × ((all_small c.others && form_small a) ≡ true) = and_parts _ _ e in
+    let others_and_form_small : (all_small c.others ≡ true) × (form_small a ≡ true) = and_parts _ _ own_and_rest_small.1 in
+    (small_is c.own own_and_rest_small.0, list_is c.others others_and_form_small.0, form_is a others_and_form_small.1)
 
 -- ---- the ranges of an answer
 pub record InRange (f : Factor) : Type 0 where
@@ -50,28 +50,28 @@ taken_range c m u t s = record { low = subst (λ (z : ℤ). pos (2 ^ 20 - 1) ≤
 
 pub steps_range : (j k : ℕ) (a : List Column) (p : List Factor × List Column) → steps j k a ≡ Ok p → SmallForm a → AllInRange p.0 × SmallForm p.1
 steps_range j zero a p e s =
-    let q : (List Factor × List Column) = ([], a) in
-    let i : q ≡ p = cc in
-    subst (λ (z : List Factor × List Column). AllInRange z.0 × SmallForm z.1) i (tt, s)
+    let outcome : (List Factor × List Column) = ([], a) in
+    let same_outcome : outcome ≡ p = cc in
+    subst (λ (z : List Factor × List Column). AllInRange z.0 × SmallForm z.1) same_outcome (tt, s)
 steps_range j (suc k) [] p e s =
-    let q : (List Factor × List Column) = ([], []) in
-    let i : q ≡ p = cc in
-    subst (λ (z : List Factor × List Column). AllInRange z.0 × SmallForm z.1) i (tt, tt)
+    let outcome : (List Factor × List Column) = ([], []) in
+    let same_outcome : outcome ≡ p = cc in
+    subst (λ (z : List Factor × List Column). AllInRange z.0 × SmallForm z.1) same_outcome (tt, tt)
 steps_range j (suc k) (c ∷ m) p e s = first (step j c m) refl (λ b q. steps_range (suc j) k b q) e
   where
     second : (u : Factor × List Column) → Taken c m u → (r : StepsAnswer) →
         ((q : List Factor × List Column) → r ≡ Ok q → AllInRange q.0 × SmallForm q.1) → with_factor u.0 r ≡ Ok p → AllInRange p.0 × SmallForm p.1
     second u t (Err i) ih e = absurd cc
     second u t (Ok q) ih e =
-        let w : (List Factor × List Column) = (u.0 ∷ q.0, q.1) in
-        let i : w ≡ p = cc in
-        let h : AllInRange q.0 × SmallForm q.1 = ih q refl in
-        subst (λ (z : List Factor × List Column). AllInRange z.0 × SmallForm z.1) i ((taken_range c m u t s.0, h.0), h.1)
+        let longer_outcome : (List Factor × List Column) = (u.0 ∷ q.0, q.1) in
+        let same_outcome : longer_outcome ≡ p = cc in
+        let rest_in_range : AllInRange q.0 × SmallForm q.1 = ih q refl in
+        subst (λ (z : List Factor × List Column). AllInRange z.0 × SmallForm z.1) same_outcome ((taken_range c m u t s.0, rest_in_range.0), rest_in_range.1)
 
     first : (r : StepAnswer) → step j c m ≡ r →
         ((b : List Column) (q : List Factor × List Column) → steps (suc j) k b ≡ Ok q → SmallForm b → AllInRange q.0 × SmallForm q.1) →
         elim r as (λ t. StepsAnswer) [ Ok u ↦ with_factor u.0 (steps (suc j) k u.1) | Err i ↦ Err i ] ≡ Ok p → AllInRange p.0 × SmallForm p.1
     first (Err i) o ih e = absurd cc
     first (Ok u) o ih e =
-        let t : Taken c m u = step_taken j c m u o in
-        second u t (steps (suc j) k u.1) (λ q i. ih u.1 q i (form_is u.1 t.small_left)) e
+        let is_taken : Taken c m u = step_taken j c m u o in
+        second u is_taken (steps (suc j) k u.1) (λ q i. ih u.1 q i (form_is u.1 is_taken.small_left)) e

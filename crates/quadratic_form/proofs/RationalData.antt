@@ -185,25 +185,25 @@ common_datum q = record {
 common_rows : (qs : List RowData) → CommonRows qs
 common_rows [] = record { d = 1; positive = omega arith; over = []; is = tt }
 common_rows (q ∷ qs) =
-    let h : CommonDatum q = common_datum q in
-    let k : CommonRows qs = common_rows qs in
+    let datum_common : CommonDatum q = common_datum q in
+    let rows_common : CommonRows qs = common_rows qs in
     record {
-      d = h.d * k.d;
-      positive = mul-pos h.positive k.positive;
-      over = wide (pos k.d) h.over ∷ wide_rows (pos h.d) k.over;
-      is = (wide_is (pos h.d) (pos k.d) h.over q h.is, subst (λ (n : ℤ). OverRows n (wide_rows (pos h.d) k.over) qs) (swap k.d h.d) (wide_rows_is (pos k.d) (pos h.d) k.over qs k.is));
+      d = datum_common.d * rows_common.d;
+      positive = mul-pos datum_common.positive rows_common.positive;
+      over = wide (pos rows_common.d) datum_common.over ∷ wide_rows (pos datum_common.d) rows_common.over;
+      is = (wide_is (pos datum_common.d) (pos rows_common.d) datum_common.over q datum_common.is, subst (λ (n : ℤ). OverRows n (wide_rows (pos datum_common.d) rows_common.over) qs) (swap rows_common.d datum_common.d) (wide_rows_is (pos rows_common.d) (pos datum_common.d) rows_common.over qs rows_common.is));
     }
 
 common : (qs : List (List RowData)) → CommonAll qs
 common [] = record { d = 1; positive = omega arith; over = []; is = tt }
 common (q ∷ qs) =
-    let h : CommonRows q = common_rows q in
-    let k : CommonAll qs = common qs in
+    let rows_common : CommonRows q = common_rows q in
+    let all_common : CommonAll qs = common qs in
     record {
-      d = h.d * k.d;
-      positive = mul-pos h.positive k.positive;
-      over = wide_rows (pos k.d) h.over ∷ wide_all (pos h.d) k.over;
-      is = (wide_rows_is (pos h.d) (pos k.d) h.over q h.is, subst (λ (n : ℤ). OverAll n (wide_all (pos h.d) k.over) qs) (swap k.d h.d) (wide_all_is (pos k.d) (pos h.d) k.over qs k.is));
+      d = rows_common.d * all_common.d;
+      positive = mul-pos rows_common.positive all_common.positive;
+      over = wide_rows (pos all_common.d) rows_common.over ∷ wide_all (pos rows_common.d) all_common.over;
+      is = (wide_rows_is (pos rows_common.d) (pos all_common.d) rows_common.over q rows_common.is, subst (λ (n : ℤ). OverAll n (wide_all (pos rows_common.d) all_common.over) qs) (swap all_common.d rows_common.d) (wide_all_is (pos all_common.d) (pos rows_common.d) all_common.over qs all_common.is));
     }
 
 common_base : (b : Baseline) → CommonBase b

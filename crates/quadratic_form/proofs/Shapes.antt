@@ -21,9 +21,9 @@ sized_plus [] [] e s t = (refl, tt)
 sized_plus [] (d ∷ b) e s t = absurd (len_apart (len b) (len_nonneg b) e)
 sized_plus (c ∷ a) [] e s t = (refl, s)
 sized_plus (c ∷ a) (d ∷ b) e s t =
-    let f : len a ≡ len b = len_tail (len a) (len b) e in
-    let ih : Sized (len a) (plus a b) = sized_plus a b f s.1 t.1 in
-    (ap (λ n. pos 1 +ℤ n) ih.0, (len_added c.others d.others (s.0 ∙ f ∙ sym t.0) ∙ s.0 ∙ sym ih.0, ih.1))
+    let same_length : len a ≡ len b = len_tail (len a) (len b) e in
+    let sum_is_sized : Sized (len a) (plus a b) = sized_plus a b same_length s.1 t.1 in
+    (ap (λ n. pos 1 +ℤ n) sum_is_sized.0, (len_added c.others d.others (s.0 ∙ same_length ∙ sym t.0) ∙ s.0 ∙ sym sum_is_sized.0, sum_is_sized.1))
 
 sized_diagonal : (s : List ℤ) → Sized (len s) (diagonal s)
 sized_diagonal [] = (refl, tt)

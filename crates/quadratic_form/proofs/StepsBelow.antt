@@ -40,10 +40,10 @@ step_taken j c m p e = first (int_lt c.own (pos (2 ^ 20))) refl e
         elim t as (λ b. StepAnswer) [ false ↦ Err wide_entry | true ↦ Ok (record { d = kept a; l = l }, rest) ] ≡ Ok p → Taken c m p
     last o s false n e = absurd cc
     last o s true n e =
-        let q : (Factor × List Column) = (record { d = kept a; l = l }, rest) in
-        let i : q ≡ p = cc in
-        let g : (pos (2 ^ 20) ≤ℤ c.own) × (0 < unsigned_abs c.own) × (c.own ≡ pos (unsigned_abs c.own)) = large c.own o in
-        subst (λ (z : Factor × List Column). Taken c m z) i (record { pivot = g.0; positive = g.1; own = g.2; d = refl; l = refl; left = refl; small_factors = s; small_left = n })
+        let outcome : (Factor × List Column) = (record { d = kept a; l = l }, rest) in
+        let same_outcome : outcome ≡ p = cc in
+        let pivot_is_large : (pos (2 ^ 20) ≤ℤ c.own) × (0 < unsigned_abs c.own) × (c.own ≡ pos (unsigned_abs c.own)) = large c.own o in
+        subst (λ (z : Factor × List Column). Taken c m z) same_outcome (record { pivot = pivot_is_large.0; positive = pivot_is_large.1; own = pivot_is_large.2; d = refl; l = refl; left = refl; small_factors = s; small_left = n })
 
     second : int_lt c.own (pos (2 ^ 20)) ≡ false → (t : Bool) → all_small l ≡ t →
         elim t as (λ b. StepAnswer) [
@@ -78,16 +78,16 @@ Covered a k x p = (pos 0 ≤ℤ squares p.0 x) × ((squares p.0 x +ℤ pos (2 ^ 
 
 pub steps_below : (j k : ℕ) (a : List Column) (x : List ℤ) (p : List Factor × List Column) → steps j k a ≡ Ok p → Shaped a → len a ≡ len x → Covered a k x p
 steps_below j zero a x p e s f =
-    let q : (List Factor × List Column) = ([], a) in
-    let i : q ≡ p = cc in
-    subst (λ (z : List Factor × List Column). Covered a 0 x z) i (omega (arith, lins), none (quad a x))
+    let outcome : (List Factor × List Column) = ([], a) in
+    let same_outcome : outcome ≡ p = cc in
+    subst (λ (z : List Factor × List Column). Covered a 0 x z) same_outcome (omega (arith, lins), none (quad a x))
   where
     none : (q : ℤ) → (pos 0 +ℤ pos (2 ^ 60) *ℤ q) ≤ℤ (pos (2 ^ 60) *ℤ q)
     none q = le_by (q ∷ []) (λ q. (nat 0 ⊕ nat (2 ^ 60) ⊗ q, nat (2 ^ 60) ⊗ q, nat 0 ⊗ nat 0)) refl (square_nn (pos 0))
 steps_below j (suc k) [] [] p e s f =
-    let q : (List Factor × List Column) = ([], []) in
-    let i : q ≡ p = cc in
-    subst (λ (z : List Factor × List Column). Covered [] (suc k) [] z) i (omega (arith, lins), omega (arith, lins))
+    let outcome : (List Factor × List Column) = ([], []) in
+    let same_outcome : outcome ≡ p = cc in
+    subst (λ (z : List Factor × List Column). Covered [] (suc k) [] z) same_outcome (omega (arith, lins), omega (arith, lins))
 steps_below j (suc k) [] (x ∷ v) p e s f = absurd (len_apart (len v) (len_nonneg v) f)
 steps_below j (suc k) (c ∷ m) [] p e s f = absurd (len_apart (len m) (len_nonneg m) (sym f))
 steps_below j (suc k) (c ∷ m) (x ∷ v) p e s f =
@@ -113,17 +113,17 @@ steps_below j (suc k) (c ∷ m) (x ∷ v) p e s f =
         ((q : List Factor × List Column) → r ≡ Ok q → Covered u.1 k v q) → with_factor u.0 r ≡ Ok p → Covered (c ∷ m) (suc k) (x ∷ v) p
     second u t (Err i) ih e = absurd cc
     second u t (Ok q) ih e =
-        let w : (List Factor × List Column) = (u.0 ∷ q.0, q.1) in
-        let i : w ≡ p = cc in
-        subst (λ (z : List Factor × List Column). Covered (c ∷ m) (suc k) (x ∷ v) z) i (done u q t (ih q refl))
+        let longer_outcome : (List Factor × List Column) = (u.0 ∷ q.0, q.1) in
+        let same_outcome : longer_outcome ≡ p = cc in
+        subst (λ (z : List Factor × List Column). Covered (c ∷ m) (suc k) (x ∷ v) z) same_outcome (done u q t (ih q refl))
 
     first : (r : StepAnswer) → step j c m ≡ r →
         ((b : List Column) (q : List Factor × List Column) → steps (suc j) k b ≡ Ok q → Shaped b → len b ≡ len v → Covered b k v q) →
         elim r as (λ t. StepsAnswer) [ Ok u ↦ with_factor u.0 (steps (suc j) k u.1) | Err i ↦ Err i ] ≡ Ok p → Covered (c ∷ m) (suc k) (x ∷ v) p
     first (Err i) o ih e = absurd cc
     first (Ok u) o ih e =
-        let t : Taken c m u = step_taken j c m u o in
-        second u t (steps (suc j) k u.1) (λ q i. ih u.1 q i (taken_shaped c m u t s) (taken_len c m u t s ∙ g)) e
+        let is_taken : Taken c m u = step_taken j c m u o in
+        second u is_taken (steps (suc j) k u.1) (λ q i. ih u.1 q i (taken_shaped c m u is_taken s) (taken_len c m u is_taken s ∙ g)) e
 
 -- the form that is left after k steps bounds the form from below
 pub front_below : (j k : ℕ) (a : List Column) (x : List ℤ) (p : List Factor × List Column) → steps j k a ≡ Ok p → Shaped a → len a ≡ len x → quad p.1 (drop k x) ≤ℤ quad a x

@@ -26,18 +26,18 @@ ordered_ends k lo hi q h = mul_le_cancel lo hi q.den q.positive (omega (arith, l
 
 pub wider : (k : ℕ) (a b lo hi : ℤ) (q : Rational) → lo ≤ℤ a → b ≤ℤ hi → InBox k a b q → InBox k lo hi q
 wider k a b lo hi q h g i =
-    let r : (lo *ℤ pos q.den) ≤ℤ (a *ℤ pos q.den) = mul_le_right (pos q.den) lo a (pos_nn q.den) h in
-    let s : (b *ℤ pos q.den) ≤ℤ (hi *ℤ pos q.den) = mul_le_right (pos q.den) b hi (pos_nn q.den) g in
-    (omega (arith, lins, r, i.0), omega (arith, lins, s, i.1))
+    let low_at_most : (lo *ℤ pos q.den) ≤ℤ (a *ℤ pos q.den) = mul_le_right (pos q.den) lo a (pos_nn q.den) h in
+    let high_at_least : (b *ℤ pos q.den) ≤ℤ (hi *ℤ pos q.den) = mul_le_right (pos q.den) b hi (pos_nn q.den) g in
+    (omega (arith, lins, low_at_most, i.0), omega (arith, lins, high_at_least, i.1))
 
 -- a box that holds all of another reaches as far on both sides
 pub ends_inside : (k : ℕ) (a b lo hi : ℤ) → a ≤ℤ b → ((q : Rational) → InBox k a b q → InBox k lo hi q) → (lo ≤ℤ a) × (b ≤ℤ hi)
 ends_inside k a b lo hi o all =
-    let aa : a ≤ℤ a = omega (arith, lins) in
-    let bb : b ≤ℤ b = omega (arith, lins) in
-    let i : InBox k lo hi (of_scale k a) = all (of_scale k a) (end_in k a b a aa o) in
-    let j : InBox k lo hi (of_scale k b) = all (of_scale k b) (end_in k a b b o bb) in
-    (mul_le_cancel lo a (2 ^ k) (pow_pos k) i.0, mul_le_cancel b hi (2 ^ k) (pow_pos k) j.1)
+    let left_at_self : a ≤ℤ a = omega (arith, lins) in
+    let right_at_self : b ≤ℤ b = omega (arith, lins) in
+    let left_end_inside : InBox k lo hi (of_scale k a) = all (of_scale k a) (end_in k a b a left_at_self o) in
+    let right_end_inside : InBox k lo hi (of_scale k b) = all (of_scale k b) (end_in k a b b o right_at_self) in
+    (mul_le_cancel lo a (2 ^ k) (pow_pos k) left_end_inside.0, mul_le_cancel b hi (2 ^ k) (pow_pos k) right_end_inside.1)
 
 -- ---- the negative
 pub neg_box : (k : ℕ) (lo hi : ℤ) (q : Rational) → InBox k lo hi q → InBox k (neg_ℤ hi) (neg_ℤ lo) (neg_r q)

@@ -13,8 +13,8 @@ use Rattle.rational.proofs.Orders.{order_r}
 -- ---- bounds in size
 pub size_of_box : (k m : ℕ) (lo hi : ℤ) (q : Rational) → neg_ℤ (pos m) ≤ℤ lo → hi ≤ℤ pos m → InBox k lo hi q → IsAtMostInSize (of_scale k (pos m)) q
 size_of_box k m lo hi q l h i =
-    let w = wider k lo hi (neg_ℤ (pos m)) (pos m) q l h i in
-    (w.1, turned (q.num *ℤ pos (2 ^ k)) (neg_ℤ q.num *ℤ pos (2 ^ k)) (pos m *ℤ pos q.den) (neg_ℤ (pos m) *ℤ pos q.den) (neg_mul_ℤ q.num (pos (2 ^ k))) (neg_mul_ℤ (pos m) (pos q.den)) w.0)
+    let in_wider_box = wider k lo hi (neg_ℤ (pos m)) (pos m) q l h i in
+    (in_wider_box.1, turned (q.num *ℤ pos (2 ^ k)) (neg_ℤ q.num *ℤ pos (2 ^ k)) (pos m *ℤ pos q.den) (neg_ℤ (pos m) *ℤ pos q.den) (neg_mul_ℤ q.num (pos (2 ^ k))) (neg_mul_ℤ (pos m) (pos q.den)) in_wider_box.0)
   where
     turned : (a b c d : ℤ) → b ≡ neg_ℤ a → d ≡ neg_ℤ c → d ≤ℤ a → b ≤ℤ c
     turned a b c d e f h = omega (arith, lins)
@@ -32,12 +32,12 @@ box_of_size k m q h = (
 -- ---- what is near a box lies in a wider one
 pub box_of_near : (k : ℕ) (lo hi p : ℤ) (d q : Rational) → d ≤ʳ of_scale k p → IsNearBox k lo hi d q → InBox k (lo -ℤ p) (hi +ℤ p) q
 box_of_near k lo hi p d q l n =
-    let x : Rational = n.inside in
-    let r : List Rational = q ∷ x ∷ d ∷ of_scale k p ∷ of_scale k lo ∷ of_scale k hi ∷ [] in
+    let inside : Rational = n.inside in
+    let values : List Rational = q ∷ inside ∷ d ∷ of_scale k p ∷ of_scale k lo ∷ of_scale k hi ∷ [] in
     let low : sub_r (of_scale k lo) (of_scale k p) ≤ʳ q =
-    order_r r ((va 4 ≼ va 1) ∷ (va 1 ⊖ va 0 ≼ va 2) ∷ (va 2 ≼ va 3) ∷ []) [] (va 4 ⊖ va 3) (va 0) (hy 0 ⊞ hy 1 ⊞ hy 2) [] refl (n.held.0, (n.near.1, (l, tt))) tt in
+    order_r values ((va 4 ≼ va 1) ∷ (va 1 ⊖ va 0 ≼ va 2) ∷ (va 2 ≼ va 3) ∷ []) [] (va 4 ⊖ va 3) (va 0) (hy 0 ⊞ hy 1 ⊞ hy 2) [] refl (n.held.0, (n.near.1, (l, tt))) tt in
     let high : q ≤ʳ add_r (of_scale k hi) (of_scale k p) =
-    order_r r ((va 1 ≼ va 5) ∷ (va 0 ⊖ va 1 ≼ va 2) ∷ (va 2 ≼ va 3) ∷ []) [] (va 0) (va 5 ⊕ va 3) (hy 0 ⊞ hy 1 ⊞ hy 2) [] refl (n.held.1, (n.near.0, (l, tt))) tt in (
+    order_r values ((va 1 ≼ va 5) ∷ (va 0 ⊖ va 1 ≼ va 2) ∷ (va 2 ≼ va 3) ∷ []) [] (va 0) (va 5 ⊕ va 3) (hy 0 ⊞ hy 1 ⊞ hy 2) [] refl (n.held.1, (n.near.0, (l, tt))) tt in (
       ≤ʳ_trans (of_scale k (lo -ℤ p)) (sub_r (of_scale k lo) (of_scale k p)) q (≤ʳ_from_same (of_scale k (lo -ℤ p)) (sub_r (of_scale k lo) (of_scale k p))
           (same_by (lo ∷ p ∷ pos (2 ^ k) ∷ []) (λ l p s. ((l ⊖ p) ⊗ (s ⊗ s), (l ⊗ s ⊖ p ⊗ s) ⊗ s)) refl)) low,
       ≤ʳ_trans q (add_r (of_scale k hi) (of_scale k p)) (of_scale k (hi +ℤ p)) high (≤ʳ_from_same (add_r (of_scale k hi) (of_scale k p))

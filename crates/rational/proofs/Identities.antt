@@ -73,12 +73,12 @@ variable_is k ms [] [] j i f h = same_by (pos k ∷ []) (λ k. (ko (pos 1) ⊗ k
 variable_is k ms (n ∷ ns) [] j i f h = absurd h
 variable_is k ms [] (q ∷ qs) j i f h = absurd h
 variable_is k ms (n ∷ ns) (q ∷ qs) j zero f h =
-    let e : j + 0 ≡ j = omega arith in
-    let g : look (pos k ∷ ms) j ≡ n = subst (λ (i : ℕ). look (pos k ∷ ms) i ≡ n) e (f 0) in
-    subst (λ (z : ℤ). Over (pos k) z q) (sym g) h.0
+    let plus_zero_is : j + 0 ≡ j = omega arith in
+    let looked_up_is : look (pos k ∷ ms) j ≡ n = subst (λ (i : ℕ). look (pos k ∷ ms) i ≡ n) plus_zero_is (f 0) in
+    subst (λ (z : ℤ). Over (pos k) z q) (sym looked_up_is) h.0
 variable_is k ms (n ∷ ns) (q ∷ qs) j (suc i) f h =
     variable_is k ms ns qs (suc j) i
-    (λ m. let e : j + suc m ≡ suc j + m = omega arith in subst (λ (i : ℕ). look (pos k ∷ ms) i ≡ look ns m) e (f (suc m))) h.1
+    (λ m. let same_index : j + suc m ≡ suc j + m = omega arith in subst (λ (i : ℕ). look (pos k ∷ ms) i ≡ look ns m) same_index (f (suc m))) h.1
 
 over_neg : (k n : ℤ) (q : Rational) → Over k n q → Over k (neg_ℤ n) (neg_r q)
 over_neg k n q h = neg_mul_ℤ q.num k ∙ ap neg_ℤ h ∙ last n (pos q.den)
@@ -90,13 +90,13 @@ meets : (d e : ℕ) → e + (d - e) ≡ d + (e - d)
 meets d e = omega arith
 
 to_one : (k : ℕ) → k ^ 1 ≡ k
-to_one k = let e : k ^ 1 ≡ k * k ^ 0 = pow-succ' k 0 in let f : k * k ^ 0 ≡ k * 1 = ap (λ (n : ℕ). k * n) (pow-zero k) in omega (arith, e, f)
+to_one k = let power_one_is : k ^ 1 ≡ k * k ^ 0 = pow-succ' k 0 in let times_one_is : k * k ^ 0 ≡ k * 1 = ap (λ (n : ℕ). k * n) (pow-zero k) in omega (arith, power_one_is, times_one_is)
 
 pub numerator_is : (k : ℕ) (ns : List ℤ) (qs : List Rational) → AreOver (pos k) ns qs → (e : Ex) →
     Over (pos (k ^ degree e)) (ev (pos k ∷ ns) (numerator (variables 1 qs) e)) (ev_r qs e)
 numerator_is k ns qs h (va i) =
-    let f : (m : ℕ) → look (pos k ∷ ns) (1 + m) ≡ look ns m = λ m. let e : suc m ≡ 1 + m = omega arith in subst (λ (i : ℕ). look (pos k ∷ ns) i ≡ look ns m) e refl in
-    subst (λ (d : ℕ). Over (pos d) (ev (pos k ∷ ns) (look_e (variables 1 qs) i)) (look_r qs i)) (sym (to_one k)) (variable_is k ns ns qs 1 i f h)
+    let looked_up_is : (m : ℕ) → look (pos k ∷ ns) (1 + m) ≡ look ns m = λ m. let next_is : suc m ≡ 1 + m = omega arith in subst (λ (i : ℕ). look (pos k ∷ ns) i ≡ look ns m) next_is refl in
+    subst (λ (d : ℕ). Over (pos d) (ev (pos k ∷ ns) (look_e (variables 1 qs) i)) (look_r qs i)) (sym (to_one k)) (variable_is k ns ns qs 1 i looked_up_is h)
 numerator_is k ns qs h (ko c) = ap (λ (d : ℕ). c *ℤ pos d) (pow-zero k)
 numerator_is k ns qs h (a ⊕ b) =
     let m : ℕ = degree b - degree a in
@@ -141,19 +141,19 @@ balanced r a b = numerator (variables 1 r) a ⊗ raise (degree b - degree a)
 
 pub ring_r : (r : List Rational) (a b : Ex) → norm (balanced r a b) ≡ norm (balanced r b a) → ev_r r a ≈ ev_r r b
 ring_r r a b e =
-    let c : HasCommonDenominator r = common r in
-    let k : ℕ = c.denominator in
-    let ns : List ℤ = c.numerators in
+    let has_common : HasCommonDenominator r = common r in
+    let k : ℕ = has_common.denominator in
+    let ns : List ℤ = has_common.numerators in
     let m : ℕ = degree b - degree a in
     let n : ℕ = degree a - degree b in
     let x : ℤ = ev (pos k ∷ ns) (numerator (variables 1 r) a) in
     let y : ℤ = ev (pos k ∷ ns) (numerator (variables 1 r) b) in
     let u : ℤ = ev (pos k ∷ ns) (raise m) in
     let v : ℤ = ev (pos k ∷ ns) (raise n) in
-    let p : Over (pos (k ^ (degree a + m))) (x *ℤ u) (ev_r r a) = lifted k (degree a) m (degree a + m) x u (ev_r r a) refl (raise_is k ns m) (numerator_is k ns r c.are a) in
-    let q : Over (pos (k ^ (degree a + m))) (y *ℤ v) (ev_r r b) = lifted k (degree b) n (degree a + m) y v (ev_r r b) (meets (degree a) (degree b)) (raise_is k ns n) (numerator_is k ns r c.are b) in
-    over_same (k ^ (degree a + m)) (x *ℤ u) (ev_r r a) (ev_r r b) (one-le-pow (degree a + m) k c.positive) p
-    (subst (λ (z : ℤ). Over (pos (k ^ (degree a + m))) z (ev_r r b)) (sym (ring (pos k ∷ ns) (balanced r a b) (balanced r b a) e)) q)
+    let left_over : Over (pos (k ^ (degree a + m))) (x *ℤ u) (ev_r r a) = lifted k (degree a) m (degree a + m) x u (ev_r r a) refl (raise_is k ns m) (numerator_is k ns r has_common.are a) in
+    let right_over : Over (pos (k ^ (degree a + m))) (y *ℤ v) (ev_r r b) = lifted k (degree b) n (degree a + m) y v (ev_r r b) (meets (degree a) (degree b)) (raise_is k ns n) (numerator_is k ns r has_common.are b) in
+    over_same (k ^ (degree a + m)) (x *ℤ u) (ev_r r a) (ev_r r b) (one-le-pow (degree a + m) k has_common.positive) left_over
+    (subst (λ (z : ℤ). Over (pos (k ^ (degree a + m))) z (ev_r r b)) (sym (ring (pos k ∷ ns) (balanced r a b) (balanced r b a) e)) right_over)
 
 -- ---- as a function of the names of the rationals: a pair (left, right)
 abbrev pub Pair_r : List Rational → Type 0

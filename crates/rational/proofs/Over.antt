@@ -112,12 +112,12 @@ all_wide j k (n ∷ ns) (q ∷ qs) h = (subst (λ (m : ℤ). Over (j *ℤ k) m q
 pub common : (qs : List Rational) → HasCommonDenominator qs
 common [] = record { denominator = 1; positive = lit< tt; numerators = []; are = tt }
 common (q ∷ qs) =
-    let r : HasCommonDenominator qs = common qs in
+    let rest_common : HasCommonDenominator qs = common qs in
     record {
-      denominator = r.denominator * q.den;
-      positive = mul-pos r.positive q.positive;
-      numerators = (pos r.denominator *ℤ q.num) ∷ scaled (pos q.den) r.numerators;
-      are = (first q.num (pos r.denominator) (pos q.den), all_wide (pos r.denominator) (pos q.den) r.numerators qs r.are);
+      denominator = rest_common.denominator * q.den;
+      positive = mul-pos rest_common.positive q.positive;
+      numerators = (pos rest_common.denominator *ℤ q.num) ∷ scaled (pos q.den) rest_common.numerators;
+      are = (first q.num (pos rest_common.denominator) (pos q.den), all_wide (pos rest_common.denominator) (pos q.den) rest_common.numerators qs rest_common.are);
     }
   where
     first : (a d e : ℤ) → a *ℤ (d *ℤ e) ≡ d *ℤ a *ℤ e

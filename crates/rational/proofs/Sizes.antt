@@ -41,12 +41,12 @@ size_sub a b p q h k = (
 -- 2 (a b - p q) = (a - p)(b + q) + (a + p)(b - q)
 pub size_mul : (a b p q : Rational) → IsAtMostInSize a p → IsAtMostInSize b q → IsAtMostInSize (mul_r a b) (mul_r p q)
 size_mul a b p q h k =
-    let r : List Rational = a ∷ b ∷ p ∷ q ∷ [] in
-    let hs : List Hy = (va 2 ≼ va 0) ∷ (ng (va 2) ≼ va 0) ∷ (va 3 ≼ va 1) ∷ (ng (va 3) ≼ va 1) ∷ [] in (
+    let values : List Rational = a ∷ b ∷ p ∷ q ∷ [] in
+    let hypotheses : List Hy = (va 2 ≼ va 0) ∷ (ng (va 2) ≼ va 0) ∷ (va 3 ≼ va 1) ∷ (ng (va 3) ≼ va 1) ∷ [] in (
       cancel_r (of_whole (pos 2)) (mul_r p q) (mul_r a b) (omega (arith, ints))
-          (order_r r hs [] (ko (pos 2) ⊗ (va 2 ⊗ va 3)) (ko (pos 2) ⊗ (va 0 ⊗ va 1)) (hy 0 ⊠ hy 3 ⊞ hy 1 ⊠ hy 2) [] refl (h.0, (h.1, (k.0, (k.1, tt)))) tt),
+          (order_r values hypotheses [] (ko (pos 2) ⊗ (va 2 ⊗ va 3)) (ko (pos 2) ⊗ (va 0 ⊗ va 1)) (hy 0 ⊠ hy 3 ⊞ hy 1 ⊠ hy 2) [] refl (h.0, (h.1, (k.0, (k.1, tt)))) tt),
       cancel_r (of_whole (pos 2)) (neg_r (mul_r p q)) (mul_r a b) (omega (arith, ints))
-          (order_r r hs [] (ko (pos 2) ⊗ ng (va 2 ⊗ va 3)) (ko (pos 2) ⊗ (va 0 ⊗ va 1)) (hy 0 ⊠ hy 2 ⊞ hy 1 ⊠ hy 3) [] refl (h.0, (h.1, (k.0, (k.1, tt)))) tt),
+          (order_r values hypotheses [] (ko (pos 2) ⊗ ng (va 2 ⊗ va 3)) (ko (pos 2) ⊗ (va 0 ⊗ va 1)) (hy 0 ⊠ hy 2 ⊞ hy 1 ⊠ hy 3) [] refl (h.0, (h.1, (k.0, (k.1, tt)))) tt),
     )
 
 pub size_along : (b p q : Rational) → p ≈ q → IsAtMostInSize b p → IsAtMostInSize b q
@@ -61,10 +61,10 @@ size_looser a b p l h = (≤ʳ_trans p a b h.0 l, ≤ʳ_trans (neg_r p) a b h.1 
 -- |p q| ≤ a and q ≥ c > 0 give |p| ≤ x, where a ≤ x c
 pub size_over : (a c x p q : Rational) → pos 0 <ℤ c.num → pos 0 ≤ℤ x.num → c ≤ʳ q → a ≤ʳ mul_r x c → IsAtMostInSize a (mul_r p q) → IsAtMostInSize x p
 size_over a c x p q c0 x0 l m h =
-    let r : List Rational = a ∷ c ∷ x ∷ p ∷ q ∷ [] in
-    let hs : List Hy = (va 1 ≼ va 4) ∷ (va 0 ≼ va 2 ⊗ va 1) ∷ (ko (pos 0) ≼ va 2) ∷ (va 3 ⊗ va 4 ≼ va 0) ∷ (ng (va 3 ⊗ va 4) ≼ va 0) ∷ [] in
+    let values : List Rational = a ∷ c ∷ x ∷ p ∷ q ∷ [] in
+    let hypotheses : List Hy = (va 1 ≼ va 4) ∷ (va 0 ≼ va 2 ⊗ va 1) ∷ (ko (pos 0) ≼ va 2) ∷ (va 3 ⊗ va 4 ≼ va 0) ∷ (ng (va 3 ⊗ va 4) ≼ va 0) ∷ [] in
     let above : pos 0 <ℤ q.num = positive_above c q c0 l in
-    let x1 : of_whole (pos 0) ≤ʳ x = from_zero x x0 in (
-      cancel_r q p x above (order_r r hs [] (va 4 ⊗ va 3) (va 4 ⊗ va 2) (hy 3 ⊞ hy 1 ⊞ hy 2 ⊠ hy 0) [] refl (l, (m, (x1, (h.0, (h.1, tt))))) tt),
-      cancel_r q (neg_r p) x above (order_r r hs [] (va 4 ⊗ ng (va 3)) (va 4 ⊗ va 2) (hy 4 ⊞ hy 1 ⊞ hy 2 ⊠ hy 0) [] refl (l, (m, (x1, (h.0, (h.1, tt))))) tt),
+    let root_nonnegative : of_whole (pos 0) ≤ʳ x = from_zero x x0 in (
+      cancel_r q p x above (order_r values hypotheses [] (va 4 ⊗ va 3) (va 4 ⊗ va 2) (hy 3 ⊞ hy 1 ⊞ hy 2 ⊠ hy 0) [] refl (l, (m, (root_nonnegative, (h.0, (h.1, tt))))) tt),
+      cancel_r q (neg_r p) x above (order_r values hypotheses [] (va 4 ⊗ ng (va 3)) (va 4 ⊗ va 2) (hy 4 ⊞ hy 1 ⊞ hy 2 ⊠ hy 0) [] refl (l, (m, (root_nonnegative, (h.0, (h.1, tt))))) tt),
     )

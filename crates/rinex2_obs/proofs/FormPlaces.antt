@@ -251,19 +251,19 @@ fields_from c x (suc j) m (suc k) is =
 fresh_name : (c j m : ℕ) → j + suc m ≡ 9 → columns (fresh_line c) (11 + 6 * j) 2 ≡ c ∷ (48 + j) ∷ []
 unfolding padded
 fresh_name c j m is =
-    let at : 11 + 6 * j - 1 ≡ suc (suc (suc (suc (suc (suc (4 + 6 * j)))))) = omega arith in
-    rw (at, fields_from c 48 j m 9 is) refl
+    let place_is : 11 + 6 * j - 1 ≡ suc (suc (suc (suc (suc (suc (4 + 6 * j)))))) = omega arith in
+    rw (place_is, fields_from c 48 j m 9 is) refl
 
 -- m names from number j on are taken
 types_taken : (c j m : ℕ) (names : List (List ℕ)) → j + m ≤ 9 → AreApart c (48 + j) names → (all : List (List ℕ)) × (names_from Rinex2 (fresh_line c) (11 + 6 * j) m names ≡ Ok all)
 unfolding names_from
 types_taken c j zero names few are = (names, refl)
 types_taken c j (suc m) names few are =
-    let k = 9 - j - 1 in
-    let name : columns (fresh_line c) (11 + 6 * j) 2 ≡ c ∷ (48 + j) ∷ [] = fresh_name c j k (omega arith) in
+    let left = 9 - j - 1 in
+    let name : columns (fresh_line c) (11 + 6 * j) 2 ≡ c ∷ (48 + j) ∷ [] = fresh_name c j left (omega arith) in
     let next : 11 + 6 * j + 6 ≡ 11 + 6 * (j + 1) = omega arith in
-    let on : 48 + j + 1 ≡ 48 + (j + 1) = omega arith in
-    let below : AreApart c (48 + (j + 1)) (names ++ fresh c (48 + j) ∷ []) = subst (λ (y : ℕ). AreApart c y (names ++ fresh c (48 + j) ∷ [])) on (below_fresh c (48 + j) names are) in
+    let place_after : 48 + j + 1 ≡ 48 + (j + 1) = omega arith in
+    let below : AreApart c (48 + (j + 1)) (names ++ fresh c (48 + j) ∷ []) = subst (λ (y : ℕ). AreApart c y (names ++ fresh c (48 + j) ∷ [])) place_after (below_fresh c (48 + j) names are) in
     let rest = types_taken c (j + 1) m (names ++ fresh c (48 + j) ∷ []) (omega arith) below in
     (rest.0, rw (name, not_listed c (48 + j) names are, next) rest.1)
 
@@ -280,16 +280,16 @@ more_step : (h : HeaderSoFar) (names : List (List ℕ)) (n : ℕ) → length nam
 unfolding padded
 more_step h names n few =
     let first = a_first_byte names (omega (arith, few)) in
-    let c = first.byte in
-    let taken = types_taken c 0 (min 9 n) names (omega arith) first.apart in
-    let counted = names_counted Rinex2 (fresh_line c) 11 (min 9 n) names taken.0 taken.1 in
+    let byte = first.byte in
+    let taken = types_taken byte 0 (min 9 n) names (omega arith) first.apart in
+    let counted = names_counted Rinex2 (fresh_line byte) 11 (min 9 n) names taken.0 taken.1 in
     record {
-      line = fresh_line c;
-      bytes = fresh_line-bytes c first.from first.below;
+      line = fresh_line byte;
+      bytes = fresh_line-bytes byte first.from first.below;
       short = lit≤ tt;
       all = taken.0;
       few = omega (arith, counted, few);
-      admits = rw (fresh_line-label c, taken.1) refl;
+      admits = rw (fresh_line-label byte, taken.1) refl;
     }
 
 more_done : (fuel : ℕ) (h : HeaderSoFar) (names : List (List ℕ)) (n : ℕ) → n ≤ fuel → length names + n ≤ 200 → Completes obs2_rules (more_types h names n)

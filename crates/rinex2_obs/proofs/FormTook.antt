@@ -358,8 +358,8 @@ no_file n what whole e = cc
 took : (lines : List (List ℕ)) → Took lines
 took [] = record {
   body = λ h epochs n whole gives.
-      let e : Ok (file_of h epochs) ≡ Ok whole = sym (walk-end obs2_rules (Body h epochs) n) ∙ gives in
-      let same : file_of h epochs ≡ whole = cc (e) in
+      let file_is_whole : Ok (file_of h epochs) ≡ Ok whole = sym (walk-end obs2_rules (Body h epochs) n) ∙ gives in
+      let same : file_of h epochs ≡ whole = cc (file_is_whole) in
       record { parts = []; lines_are = refl; each = tt; whole_is = sym same ∙ rw (append-nil epochs) refl };
   names = λ h epochs tag power names k n whole gives. absurd (no_file n Truncated whole (sym (walk-end obs2_rules (Names h epochs tag power names (suc k)) n) ∙ gives));
   row = λ h epochs tag power sats name names at values n whole less gives. absurd (no_file n Truncated whole (sym (walk-end obs2_rules (Row h epochs tag power sats name names at values) n) ∙ gives));

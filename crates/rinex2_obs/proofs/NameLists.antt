@@ -82,9 +82,9 @@ new_at_first (Some n ∷ names) = (refl, new_at_first names)
 pub next_new : (name : Option ℕ) (names : List (Option ℕ)) (before after : List SatObs) → AreNames (name ∷ names) → AreNew before (name ∷ names) → IsWith name before after → AreNew after names
 next_new None names before after are new with = rw with new
 next_new (Some n) names before after are new with =
-    let s = with.0 in
-    let none : is_named s.number names ≡ false = rw (with.1) are.2 in
-    rw (with.2) (new_behind before s names new.1 none)
+    let sat = with.0 in
+    let none : is_named sat.number names ≡ false = rw (with.1) are.2 in
+    rw (with.2) (new_behind before sat names new.1 none)
 
 pub names_behind : (name : Option ℕ) (names : List (Option ℕ)) → AreNames (name ∷ names) → AreNames names
 names_behind None names are = are

@@ -28,5 +28,5 @@ get_or-padded (b ∷ bs) (suc n) (suc i) lt = get_or-padded bs n i (omega arith)
 pub columns-are : (line : List ℕ) (first n : ℕ) (bytes : List ℕ) → 1 ≤ first → length bytes ≡ n → ((i : ℕ) → i < n → get_or bytes i 32 ≡ column line (first + i)) → bytes ≡ columns line first n
 columns-are line first n bytes from same each = ext_get_or 32 bytes (columns line first n) (same ∙ sym (length-padded (drop (first - 1) line) n)) (λ i lt.
     let less : i < n = omega arith in
-    let at : first - 1 + i ≡ first + i - 1 = omega arith in
-    each i less ∙ sym (get_or-padded (drop (first - 1) line) n i less ∙ get_or-drop (first - 1) line i 32 ∙ ap (λ (k : ℕ). get_or line k 32) at))
+    let place_is : first - 1 + i ≡ first + i - 1 = omega arith in
+    each i less ∙ sym (get_or-padded (drop (first - 1) line) n i less ∙ get_or-drop (first - 1) line i 32 ∙ ap (λ (k : ℕ). get_or line k 32) place_is))

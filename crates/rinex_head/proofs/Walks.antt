@@ -13,7 +13,7 @@ use Rattle.rinex_head.specs.Places.{and_then, flawed, place, at_line}
 use Rattle.rinex_head.specs.Walk.{Rules, admitted, walk, rest_gives, ReadsFree, Gives, HasNoLine, IsLongLine, FailsBy}
 
 pub short_admitted : {S F : Type 0} (rules : Rules S F) (s : S) (line : List ℕ) → length line ≤ 4096 → admitted rules s line ≡ rules.admit s line
-short_admitted rules s line short = let e : nat_lt 4096 (length line) ≡ false = grind (arith, nat_tests) in rw e refl
+short_admitted rules s line short = let not_too_long : nat_lt 4096 (length line) ≡ false = grind (arith, nat_tests) in rw not_too_long refl
 
 -- the line is admitted
 pub takes : {S F : Type 0} (rules : Rules S F) (s next : S) (old new : Reading) (number : ℕ) (line : List ℕ) → GivesLine old new number line
@@ -109,7 +109,7 @@ gives_same a b view (Err fault) same given = handed_on a b fault same given
 
 -- a reader that has given a line has fewer left
 pub gives_less : (old new : Reading) (number : ℕ) (line : List ℕ) → GivesLine old new number line → length new.left < length old.left
-gives_less old new number line gives = let e = ap length gives.next in omega (arith, e)
+gives_less old new number line gives = let same_length = ap length gives.next in omega (arith, same_length)
 
 -- the same of the lines themselves
 pub walk-takes : {S F : Type 0} (rules : Rules S F) (s next : S) (line : List ℕ) (lines : List (List ℕ)) (n : ℕ) → length line ≤ 4096

@@ -45,19 +45,19 @@ quad_took place bytes q e = by_column (column bytes 1 == 32) refl e
   where
     by_column : (t : Bool) → (column bytes 1 == 32) ≡ t → (if t then quad_in place bytes else flawed 1 Truncated) ≡ Ok q → TookQuad place bytes q
     by_column true is e =
-        let a = and_then_took (number_if (reads_first place) bytes 5) _ q e in
-        let b = and_then_took (number_if (reads_second place) bytes 24) _ q a.2 in
-        let c = and_then_took (number_if (reads_third place) bytes 43) _ q b.2 in
-        let d = and_then_took (number_if (reads_fourth place) bytes 62) _ q c.2 in
-        let found : Quad = record { first = a.0; second = b.0; third = c.0; fourth = d.0 } in
-        let same : found ≡ q = cc (d.2) in
+        let first_took = and_then_took (number_if (reads_first place) bytes 5) _ q e in
+        let second_took = and_then_took (number_if (reads_second place) bytes 24) _ q first_took.2 in
+        let third_took = and_then_took (number_if (reads_third place) bytes 43) _ q second_took.2 in
+        let fourth_took = and_then_took (number_if (reads_fourth place) bytes 62) _ q third_took.2 in
+        let found : Quad = record { first = first_took.0; second = second_took.0; third = third_took.0; fourth = fourth_took.0 } in
+        let same : found ≡ q = cc (fourth_took.2) in
         let dec : Dec → Result Dec Flaw = λ x. Ok x in
         record {
           blank = grind (arith, nat_tests);
-          first = a.1 ∙ ap (λ (p : Quad). dec p.first) same;
-          second = b.1 ∙ ap (λ (p : Quad). dec p.second) same;
-          third = c.1 ∙ ap (λ (p : Quad). dec p.third) same;
-          fourth = d.1 ∙ ap (λ (p : Quad). dec p.fourth) same;
+          first = first_took.1 ∙ ap (λ (p : Quad). dec p.first) same;
+          second = second_took.1 ∙ ap (λ (p : Quad). dec p.second) same;
+          third = third_took.1 ∙ ap (λ (p : Quad). dec p.third) same;
+          fourth = fourth_took.1 ∙ ap (λ (p : Quad). dec p.fourth) same;
         }
     by_column false is e = absurd cc
 

@@ -16,4 +16,4 @@ no_moment y m d h n s none = by_test (is_moment y m d h n (s * 10_000_000)) refl
 
 pub a_moment : (y m d h n s : ℕ) → IsMoment y m d h n (s * 10_000_000) → moment_of y m d h n s ≡ Ok (record { 0 = ticks_since y m d h n (s * 10_000_000) })
 unfolding moment_of
-a_moment y m d h n s are = let is : is_moment y m d h n (s * 10_000_000) ≡ true = is_moment-true y m d h n (s * 10_000_000) are in rw is refl
+a_moment y m d h n s are = let moment_is : is_moment y m d h n (s * 10_000_000) ≡ true = is_moment-true y m d h n (s * 10_000_000) are in rw moment_is refl

@@ -91,14 +91,14 @@ pub record HasNumbers (n : Normal) (x : List ℤ) : Type 0 where
 pub numbers_of_front : (n : Normal) (r : FrontForm) → IsFrontOf n r → n.columns ≡ 4 → HasNumbers n (baseline_at r.d r.l r.columns [])
 unfolding whole
 numbers_of_front n r a four =
-    let e : r.columns ≡ 4 = a.columns ∙ four in
+    let four_columns : r.columns ≡ 4 = a.columns ∙ four in
     record {
-      form = whole r e;
+      form = whole r four_columns;
       lowered = record {
         columns = a.columns;
         exponent = a.exponent;
-        front = a.taken ∙ same_front r.columns r.d r.l r.p e;
-        taken = same_steps r.h n four ∙ a.taken ∙ same_answer r.columns r.d r.l r.p e;
+        front = a.taken ∙ same_front r.columns r.d r.l r.p four_columns;
+        taken = same_steps r.h n four ∙ a.taken ∙ same_answer r.columns r.d r.l r.p four_columns;
       };
-      numbers = same_numbers r.columns r.d r.l e;
+      numbers = same_numbers r.columns r.d r.l four_columns;
     }

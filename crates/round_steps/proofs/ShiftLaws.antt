@@ -113,8 +113,8 @@ length_same arcs after same = sym (length-map after without_shifts) ∙ ap lengt
 free_map : (arcs : List Arc) → free_count (map without_shifts arcs) ≡ free_count arcs
 free_map [] = refl
 free_map (a ∷ arcs) =
-    let f : Arc → ℕ = λ x. cond (is_free x) 1 0 in
-    sum_by-cons f (without_shifts a) (map without_shifts arcs) ∙ ap (λ (n : ℕ). cond (is_free a) 1 0 + n) (free_map arcs) ∙ sym (sum_by-cons f a arcs)
+    let count_of : Arc → ℕ = λ x. cond (is_free x) 1 0 in
+    sum_by-cons count_of (without_shifts a) (map without_shifts arcs) ∙ ap (λ (n : ℕ). cond (is_free a) 1 0 + n) (free_map arcs) ∙ sym (sum_by-cons count_of a arcs)
 
 pub free_same : (arcs after : List Arc) → AreSameArcs arcs after → free_count after ≡ free_count arcs
 free_same arcs after same = sym (free_map after) ∙ ap free_count same ∙ free_map arcs

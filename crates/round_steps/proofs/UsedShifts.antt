@@ -24,12 +24,12 @@ no_place ps s off = by_place (position (λ t. t == s) ps) refl
     by_place : (o : Option ℕ) → position (λ t. t == s) ps ≡ o → o ≡ None
     by_place None e = refl
     by_place (Some j) e =
-        let q = position-Some (λ t. t == s) ps j 0 e in
-        let same : get_or ps j 0 ≡ s = eqb-true (get_or ps j 0) s q.1 in
-        let at : get_or (map band ps) j (band 0) ≡ band s = get_or-map band ps j 0 ∙ ap band same in
-        let inside : j < length (map band ps) = subst (λ (n : ℕ). j < n) (sym (length-map ps band)) q.0 in
+        let place_of_signal = position-Some (λ t. t == s) ps j 0 e in
+        let same : get_or ps j 0 ≡ s = eqb-true (get_or ps j 0) s place_of_signal.1 in
+        let same_band : get_or (map band ps) j (band 0) ≡ band s = get_or-map band ps j 0 ∙ ap band same in
+        let inside : j < length (map band ps) = subst (λ (n : ℕ). j < n) (sym (length-map ps band)) place_of_signal.0 in
         let found : list_any (λ b. b == band s) (map band ps) ≡ true =
-        list_any-from_Any (λ b. b == band s) (map band ps) (j, band s, inside, there (map band ps) j (band 0) (band s) inside at, eq-eqb (band s) (band s) refl) in
+        list_any-from_Any (λ b. b == band s) (map band ps) (j, band s, inside, there (map band ps) j (band 0) (band s) inside same_band, eq-eqb (band s) (band s) refl) in
         absurd (false≢true (sym off ∙ found))
       where
         there : (xs : List ℕ) (j d x : ℕ) → j < length xs → get_or xs j d ≡ x → get_or xs j x ≡ x
@@ -62,9 +62,9 @@ arc_used arcs ss x k a used (suc (suc (suc b))) off = refl
 pub grown_used : (arcs : List Arc) (ss : List ℕ) (x : List ℤ) (after : List Arc) → AreGrown arcs ss x after → All (HasUsedShifts ss) arcs → All (HasUsedShifts ss) after
 grown_used arcs ss x after grown used k d inside =
     let within : k < length arcs = subst (λ (n : ℕ). k < n) grown.as_many inside in
-    let a : Arc = get_or arcs k d in
-    let at : slice_get after k ≡ Some (grown_arc arcs ss x k a) = grown.each k a (slice_get-get_or arcs k d within) in
-    subst (HasUsedShifts ss) (sym (some_same (get_or after k d) (grown_arc arcs ss x k a) (sym (slice_get-get_or after k d inside) ∙ at))) (arc_used arcs ss x k a (used k d within))
+    let arc : Arc = get_or arcs k d in
+    let arc_grown : slice_get after k ≡ Some (grown_arc arcs ss x k arc) = grown.each k arc (slice_get-get_or arcs k d within) in
+    subst (HasUsedShifts ss) (sym (some_same (get_or after k d) (grown_arc arcs ss x k arc) (sym (slice_get-get_or after k d inside) ∙ arc_grown))) (arc_used arcs ss x k arc (used k d within))
   where
     some_same : (b c : Arc) → Some b ≡ Some c → b ≡ c
     some_same b c e = cc

@@ -135,7 +135,7 @@ record Rounded (e : ℕ) (l u f g : ℤ) : Type 0 where
   above : (g *ℤ pos e) <ℤ (u +ℤ pos e)
 
 rounded : (e : ℕ) (l u : ℤ) → 0 < e → Rounded e l u (floor_div l e) (ceil_div u e)
-rounded e l u h = let f = floor_is l e h in let g = ceil_is u e h in record { low = f.0; below = f.1; high = g.0; above = g.1 }
+rounded e l u h = let is_floor = floor_is l e h in let is_ceil = ceil_is u e h in record { low = is_floor.0; below = is_floor.1; high = is_ceil.0; above = is_ceil.1 }
 
 pub y_narrow : (s : ℕ) (lo hi x : ℤ) → IsScale s → (hi -ℤ lo) ≤ℤ prefit_width → (ceil_div (hi -ℤ x) (2 ^ (s + 2)) -ℤ floor_div (lo -ℤ x) (2 ^ (s + 2))) ≤ℤ y_width
 y_narrow s lo hi x t h = ⊎_elim (λ (e : s ≡ 0). subst (λ (i : ℕ). (ceil_div (hi -ℤ x) (2 ^ (i + 2)) -ℤ floor_div (lo -ℤ x) (2 ^ (i + 2))) ≤ℤ y_width) (sym e)
@@ -186,8 +186,8 @@ middle_ends s lo hi w t h k =
     let f : ℤ = floor_div (lo -ℤ (w *ℤ pos 32768)) (2 ^ (s + 2)) in
     let g : ℤ = ceil_div (hi -ℤ (w *ℤ pos 32768)) (2 ^ (s + 2)) in
     let c : ℤ = floor_div (f +ℤ g) 2 in
-    let m = floor_is (f +ℤ g) 2 (lit< tt) in
-    record { scale = t; ordered = h; narrow = k; top = sum c g; bottom = below f g c m.0; half = half f g c m.1 }
+    let middle_is_floor = floor_is (f +ℤ g) 2 (lit< tt) in
+    record { scale = t; ordered = h; narrow = k; top = sum c g; bottom = below f g c middle_is_floor.0; half = half f g c middle_is_floor.1 }
   where
     sum : (c g : ℤ) → c +ℤ (g -ℤ c) ≡ g
     sum c g = omega (arith, lins)

@@ -69,10 +69,10 @@ close : (c r n k : ℤ) (d : ℕ) → 0 < d → r ≤ℤ row_radius 0 → (pos 1
     ((c -ℤ r) *ℤ pos (1 * (d * 1))) ≤ℤ ((pos 8192 *ℤ ((n *ℤ pos 1) -ℤ (k *ℤ pos d))) *ℤ pos 1) → ((pos 8192 *ℤ ((n *ℤ pos 1) -ℤ (k *ℤ pos d))) *ℤ pos 1) ≤ℤ ((c +ℤ r) *ℤ pos (1 * (d * 1))) →
     (neg_ℤ (pos 16384) *ℤ pos d) ≤ℤ (n *ℤ pos 32768) → (n *ℤ pos 32768) ≤ℤ (half_more *ℤ pos d) → (neg_ℤ (pos 2) ≤ℤ k) × (k ≤ℤ pos 2)
 close c r n k d h small low high l u nl nu =
-    let up : ((c +ℤ r) *ℤ pos d) ≤ℤ (reach *ℤ pos d) = mul_le_right (pos d) (c +ℤ r) reach (pos_nn d) (top c r small low) in
+    let top_at_most : ((c +ℤ r) *ℤ pos d) ≤ℤ (reach *ℤ pos d) = mul_le_right (pos d) (c +ℤ r) reach (pos_nn d) (top c r small low) in
     let down : (neg_ℤ reach *ℤ pos d) ≤ℤ ((c -ℤ r) *ℤ pos d) = mul_le_right (pos d) (neg_ℤ reach) (c -ℤ r) (pos_nn d) (bottom c r small high) in (
       low_of k (mul_le_cancel (neg_ℤ both_reach) (pos 32768 *ℤ k) d h
-          (first ((c +ℤ r) *ℤ pos d) n (k *ℤ pos d) (pos d) ((pos 32768 *ℤ k) *ℤ pos d) (pos_nn d) up (rw (one d) at u) nl (product k (pos d)))),
+          (first ((c +ℤ r) *ℤ pos d) n (k *ℤ pos d) (pos d) ((pos 32768 *ℤ k) *ℤ pos d) (pos_nn d) top_at_most (rw (one d) at u) nl (product k (pos d)))),
       high_of k (mul_le_cancel (pos 32768 *ℤ k) both_reach d h (second ((c -ℤ r) *ℤ pos d) n (k *ℤ pos d) (pos d) ((pos 32768 *ℤ k) *ℤ pos d) down (rw (one d) at l) nu (product k (pos d)))),
     )
   where
@@ -105,25 +105,25 @@ pub row_close : (p : Pairing) (amount group other : ℤ) → IsRowGroup p 0 amou
     ((b r : Sighting) → AreSightings p b r → IsWithinHalf (pos 1) (y_of 2 amount group (pos 0) b r)) →
     (neg_ℤ (pos 2) ≤ℤ (other -ℤ group)) × ((other -ℤ group) ≤ℤ pos 2)
 row_close p amount group other a has near =
-    let b : Sighting = has.base.sighting in
-    let r : Sighting = has.rover.sighting in
-    let s : AreSightings p b r = record { base_is = has.base.is; rover_is = has.rover.is } in
-    let q : Rational = y_of 2 amount group (pos 0) b r in
-    let w : IsWithinHalf (pos 1) q = near b r s in
-    let n : Near a.centre a.radius (in_row_unit 0 (sub_r q (of_whole (other -ℤ group)))) = Near-along a.centre a.radius (y_in_rows 0 2 amount other (pos 0) b r)
-    (in_row_unit 0 (sub_r q (of_whole (other -ℤ group)))) (moved_in_rows 0 2 amount group other (pos 0) b r) (a.holds b r s) in
-    close a.centre a.radius q.num (other -ℤ group) q.den q.positive a.narrow a.meets.0 a.meets.1 n.0 n.1 w.0 w.1
+    let base_sighting : Sighting = has.base.sighting in
+    let rover_sighting : Sighting = has.rover.sighting in
+    let are_sightings : AreSightings p base_sighting rover_sighting = record { base_is = has.base.is; rover_is = has.rover.is } in
+    let q : Rational = y_of 2 amount group (pos 0) base_sighting rover_sighting in
+    let within_half : IsWithinHalf (pos 1) q = near base_sighting rover_sighting are_sightings in
+    let is_near : Near a.centre a.radius (in_row_unit 0 (sub_r q (of_whole (other -ℤ group)))) = Near-along a.centre a.radius (y_in_rows 0 2 amount other (pos 0) base_sighting rover_sighting)
+    (in_row_unit 0 (sub_r q (of_whole (other -ℤ group)))) (moved_in_rows 0 2 amount group other (pos 0) base_sighting rover_sighting) (a.holds base_sighting rover_sighting are_sightings) in
+    close a.centre a.radius q.num (other -ℤ group) q.den q.positive a.narrow a.meets.0 a.meets.1 is_near.0 is_near.1 within_half.0 within_half.1
 
 -- ---- a first shift under another group of a row
 within : (l n k : ℤ) (d : ℕ) → pos 1000 ≤ℤ l → neg_ℤ (pos 2) ≤ℤ k → k ≤ℤ pos 2 → (neg_ℤ (l *ℤ pos 16384) *ℤ pos d) ≤ℤ (n *ℤ pos 32768) →
     (n *ℤ pos 32768) ≤ℤ (((l *ℤ pos 16384) +ℤ prefit_width) *ℤ pos d) →
     ((neg_ℤ l *ℤ pos (d * 1)) ≤ℤ (((n *ℤ pos 1) -ℤ (k *ℤ pos d)) *ℤ pos 1)) × ((((n *ℤ pos 1) -ℤ (k *ℤ pos d)) *ℤ pos 1) ≤ℤ (l *ℤ pos (d * 1)))
 within l n k d least k0 k1 lo hi =
-    let x0 : (pos 1000 *ℤ pos d) ≤ℤ (l *ℤ pos d) = mul_le_right (pos d) (pos 1000) l (pos_nn d) least in
-    let y0 : (neg_ℤ (pos 2) *ℤ pos d) ≤ℤ (k *ℤ pos d) = mul_le_right (pos d) (neg_ℤ (pos 2)) k (pos_nn d) k0 in
-    let y1 : (k *ℤ pos d) ≤ℤ (pos 2 *ℤ pos d) = mul_le_right (pos d) k (pos 2) (pos_nn d) k1 in
-    let d0 : pos 0 ≤ℤ pos d = pos_nn d in
-    rw (one d) (low (l *ℤ pos d) n (k *ℤ pos d) (pos d) _ _ x0 y1 d0 (neg_mul_ℤ l (pos d)) (neg_half l (pos d)) lo, high (l *ℤ pos d) n (k *ℤ pos d) (pos d) _ x0 y0 d0 (half l (pos d)) hi)
+    let least_at_most : (pos 1000 *ℤ pos d) ≤ℤ (l *ℤ pos d) = mul_le_right (pos d) (pos 1000) l (pos_nn d) least in
+    let change_not_below : (neg_ℤ (pos 2) *ℤ pos d) ≤ℤ (k *ℤ pos d) = mul_le_right (pos d) (neg_ℤ (pos 2)) k (pos_nn d) k0 in
+    let change_not_above : (k *ℤ pos d) ≤ℤ (pos 2 *ℤ pos d) = mul_le_right (pos d) k (pos 2) (pos_nn d) k1 in
+    let den_nonnegative : pos 0 ≤ℤ pos d = pos_nn d in
+    rw (one d) (low (l *ℤ pos d) n (k *ℤ pos d) (pos d) _ _ least_at_most change_not_above den_nonnegative (neg_mul_ℤ l (pos d)) (neg_half l (pos d)) lo, high (l *ℤ pos d) n (k *ℤ pos d) (pos d) _ least_at_most change_not_below den_nonnegative (half l (pos d)) hi)
   where
     one : (d : ℕ) → d * 1 ≡ d
     one d = omega arith
@@ -145,8 +145,8 @@ pub shift_within : (s : ℕ) (amount group other shift : ℤ) (b r : Sighting) �
 shift_within s amount group other shift b r l c h =
     let q : Rational = y_of s amount group shift b r in
     let k : ℤ = other -ℤ group in
-    let w = within (wavelength s) q.num k q.den l c.0 c.1 h.0 h.1 in
-    let e = group_moved s amount group other shift b r in (
-      ≤ʳ_along (of_whole (neg_ℤ (wavelength s))) (of_whole (neg_ℤ (wavelength s))) (sub_r q (of_whole k)) (y_of s amount other shift b r) refl e w.0,
-      ≤ʳ_along (sub_r q (of_whole k)) (y_of s amount other shift b r) (of_whole (wavelength s)) (of_whole (wavelength s)) e refl w.1,
+    let shift_is_within = within (wavelength s) q.num k q.den l c.0 c.1 h.0 h.1 in
+    let same_row_amount = group_moved s amount group other shift b r in (
+      ≤ʳ_along (of_whole (neg_ℤ (wavelength s))) (of_whole (neg_ℤ (wavelength s))) (sub_r q (of_whole k)) (y_of s amount other shift b r) refl same_row_amount shift_is_within.0,
+      ≤ʳ_along (sub_r q (of_whole k)) (y_of s amount other shift b r) (of_whole (wavelength s)) (of_whole (wavelength s)) same_row_amount refl shift_is_within.1,
     )

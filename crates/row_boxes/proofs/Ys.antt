@@ -71,8 +71,8 @@ half_group lo hi g h k = (low k.0, high h k.1)
 pub half_cycle : (lo hi g k n : ℤ) (m : ℕ) → pos m ≡ n *ℤ pos (2 ^ 15) → (hi -ℤ lo) ≤ℤ prefit_width → IsNearest (lo -ℤ (g *ℤ pos (2 ^ 15))) m k →
     (neg_ℤ (n *ℤ pos (2 ^ 14)) ≤ℤ (lo -ℤ ((g +ℤ (n *ℤ k)) *ℤ pos 32768))) × ((hi -ℤ ((g +ℤ (n *ℤ k)) *ℤ pos 32768)) ≤ℤ ((n *ℤ pos (2 ^ 14)) +ℤ prefit_width))
 half_cycle lo hi g k n m e h i =
-    let f : k *ℤ pos m ≡ (n *ℤ k) *ℤ pos (2 ^ 15) = subst (λ (z : ℤ). k *ℤ z ≡ (n *ℤ k) *ℤ pos (2 ^ 15)) (sym e) (same_by (k ∷ n ∷ pos (2 ^ 15) ∷ []) (λ k n t. (k ⊗ (n ⊗ t), (n ⊗ k) ⊗ t)) refl) in
-    (low (n *ℤ k) (k *ℤ pos m) (pos m) f e i.0, high (n *ℤ k) (k *ℤ pos m) (pos m) f e h i.1)
+    let same_half_cycle : k *ℤ pos m ≡ (n *ℤ k) *ℤ pos (2 ^ 15) = subst (λ (z : ℤ). k *ℤ z ≡ (n *ℤ k) *ℤ pos (2 ^ 15)) (sym e) (same_by (k ∷ n ∷ pos (2 ^ 15) ∷ []) (λ k n t. (k ⊗ (n ⊗ t), (n ⊗ k) ⊗ t)) refl) in
+    (low (n *ℤ k) (k *ℤ pos m) (pos m) same_half_cycle e i.0, high (n *ℤ k) (k *ℤ pos m) (pos m) same_half_cycle e h i.1)
   where
     low : (x y t : ℤ) → y ≡ x *ℤ pos (2 ^ 15) → t ≡ n *ℤ pos (2 ^ 15) → (pos 2 *ℤ y) ≤ℤ ((pos 2 *ℤ (lo -ℤ (g *ℤ pos (2 ^ 15)))) +ℤ t) → neg_ℤ (n *ℤ pos (2 ^ 14)) ≤ℤ (lo -ℤ ((g +ℤ x) *ℤ pos 32768))
     low x y t e f h = omega (arith, ints)

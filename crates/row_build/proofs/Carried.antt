@@ -26,8 +26,8 @@ pub same_arc : (arcs others : List Arc) (pair k : ℕ) (x : Arc) → AgreeAt pai
 same_arc [] others pair k x a is h = absurd (none-some x is)
 same_arc (y ∷ arcs) [] pair k x a is h = absurd a
 same_arc (y ∷ arcs) (z ∷ others) pair zero x a is h =
-    let e : y ≡ x = same_Some y x is in
-    ap (λ (b : Arc). Some b) (sym (a.0.1 (subst (λ (b : Arc). holds_pair b pair ≡ true) (sym e) h)) ∙ e)
+    let same_arc : y ≡ x = same_Some y x is in
+    ap (λ (b : Arc). Some b) (sym (a.0.1 (subst (λ (b : Arc). holds_pair b pair ≡ true) (sym same_arc) h)) ∙ same_arc)
 same_arc (y ∷ arcs) (z ∷ others) pair (suc k) x a is h = same_arc arcs others pair k x a.1 is h
 
 -- a row's arc holds the pair

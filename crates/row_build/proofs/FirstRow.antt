@@ -55,8 +55,8 @@ first_meets used t pair group r f m rs first is row has near =
     let box : HoldsY (pairing_of t f) t.scale 2 (number_at f.observed 2) group (number_at row.arc.shift 0) (number_at r.y 2) r.ry =
     subst (λ (v : SvPair). HoldsY (pairing_of t v) t.scale 2 (number_at v.observed 2) group (number_at row.arc.shift 0) (number_at r.y 2) r.ry) entry
     (code_counts (λ i. HoldsY (pairing_of t row.entry) t.scale i (number_at row.entry.observed i) group (number_at row.arc.shift (band i)) (number_at r.y i) r.ry) t.signals t.scale row.y) in
-    let b : Sighting = has.base.sighting in
-    let q : Sighting = has.rover.sighting in
-    let are : AreSightings (pairing_of t f) b q = record { base_is = has.base.is; rover_is = has.rover.is } in
-    meets_one t.scale (number_at r.y 2) r.ry (y_of 2 (number_at f.observed 2) group (number_at row.arc.shift 0) b q)
-    (no_shift (number_at f.observed 2) group (number_at row.arc.shift 0) b q (near b q are)) (box b q are)
+    let base_sighting : Sighting = has.base.sighting in
+    let rover_sighting : Sighting = has.rover.sighting in
+    let are : AreSightings (pairing_of t f) base_sighting rover_sighting = record { base_is = has.base.is; rover_is = has.rover.is } in
+    meets_one t.scale (number_at r.y 2) r.ry (y_of 2 (number_at f.observed 2) group (number_at row.arc.shift 0) base_sighting rover_sighting)
+    (no_shift (number_at f.observed 2) group (number_at row.arc.shift 0) base_sighting rover_sighting (near base_sighting rover_sighting are)) (box base_sighting rover_sighting are)

@@ -39,10 +39,10 @@ use Rattle.row_build.specs.Stands.{IsSolved, HasSolved, StandsForRow, StandsForP
 solved : (t : Setting) (eph : Eph) (tag : ℕ) (code : ℤ) (point : List ℤ) (b : SvBox) (s : Sighting) → ((q : Quantities) → Sent t eph tag code q → HoldsSolution b q) →
     IsSolved t eph tag code point s → IsSighting b point s
 solved t eph tag code point b s holds h =
-    let k : HoldsSolution b h.solution = holds h.solution h.sent in
+    let holds_solution : HoldsSolution b h.solution = holds h.solution h.sent in
     record {
-      sent_in = subst (λ (p : Place). HoldsPlace b.place p) (sym h.place) (place_held b.place h.solution k.place);
-      clock_in = subst (λ (c : Rational). Holds b.clock c) (sym h.clock) k.clock;
+      sent_in = subst (λ (p : Place). HoldsPlace b.place p) (sym h.place) (place_held b.place h.solution holds_solution.place);
+      clock_in = subst (λ (c : Rational). Holds b.clock c) (sym h.clock) holds_solution.clock;
       seen_is = h.seen;
     }
 
@@ -50,11 +50,11 @@ solved t eph tag code point b s holds h =
 has_solved : (t : Setting) (eph : Eph) (tag : ℕ) (code : ℤ) (point : List ℤ) (b : SvBox) → ((q : Quantities) → Sent t eph tag code q → HoldsSolution b q) → WasSent t eph tag code →
     HasSighting b point → HasSolved t eph tag code point
 has_solved t eph tag code point b holds was seen =
-    let q : Quantities = was.quantities in
-    let there = seen.every (sent_place q) (place_held b.place q (holds q was.is).place) in
+    let quantities : Quantities = was.quantities in
+    let there = seen.every (sent_place quantities) (place_held b.place quantities (holds quantities was.is).place) in
     record {
-      sighting = record { sent = sent_place q; clock = q.clock; seen = there.seen; travel = there.travel };
-      is = record { solution = q; sent = was.is; place = refl; clock = refl; seen = there.is_seen };
+      sighting = record { sent = sent_place quantities; clock = quantities.clock; seen = there.seen; travel = there.travel };
+      is = record { solution = quantities; sent = was.is; place = refl; clock = refl; seen = there.is_seen };
     }
 
 -- ---- the entry of the row's satellite
@@ -77,47 +77,47 @@ pub row_stands : (t : Setting) (base rover : List Epoch) (taken : List PairOf) (
     All (IsSvPair t base rover taken) boxes → slice_get taken n ≡ Some pair → AreEpochsOf base rover pair be re → IsRow (setting boxes arcs position point signals scale) n group r →
     (a : Arc) → slice_get arcs r.arc ≡ Some a → StandsForRow t be re a.sat position point (counted signals scale) scale group a.shift r
 row_stands t base rover taken boxes arcs position point signals scale n group pair be re r all pair_is epochs row a a_is =
-    let v : SvPair = row.entry in
+    let entry : SvPair = row.entry in
     let arc : row.arc ≡ a = same_Some row.arc a (sym row.arc_is ∙ a_is) in
-    let x : IsSvPair t base rover taken v = element (IsSvPair t base rover taken) boxes row.entry_is.place v all row.entry_is.is in
-    let p : x.pair ≡ pair = same_pair taken n x.pair pair (subst (λ (k : ℕ). slice_get taken k ≡ Some x.pair) row.entry_is.of_pair x.pair_is) pair_is in
-    let b : x.base_epoch ≡ be = same_epoch base pair.base x.base_epoch be (subst (λ (o : PairOf). slice_get base o.base ≡ Some x.base_epoch) p x.epochs.of_base) epochs.of_base in
-    let q : x.rover_epoch ≡ re = same_epoch rover pair.rover x.rover_epoch re (subst (λ (o : PairOf). slice_get rover o.rover ≡ Some x.rover_epoch) p x.epochs.of_rover) epochs.of_rover in
-    let made : StandsForRow t x.base_epoch x.rover_epoch v.sat position point (counted signals scale) scale group row.arc.shift r = record {
-      observed = x.entry.sighting;
-      are = x.entry.seen;
-      base_sees = has_solved t x.entry.sighting.eph x.base_epoch.tag.0 (code_of x.entry.sighting.base) position v.base x.entry.base_holds x.entry.base_sent row.seen.base;
-      rover_sees = has_solved t x.entry.sighting.eph x.rover_epoch.tag.0 (code_of x.entry.sighting.rover) point v.rover x.entry.rover_holds x.entry.rover_sent row.seen.rover;
-      y = λ s w hs hw. subst (λ (xs : List ℤ). HoldsAll (counted signals scale) scale group row.arc.shift r s w xs) x.entry.observed (λ k d l. row.y k d l s w (record {
-        base_is = solved t x.entry.sighting.eph x.base_epoch.tag.0 (code_of x.entry.sighting.base) position v.base s x.entry.base_holds hs;
-        rover_is = solved t x.entry.sighting.eph x.rover_epoch.tag.0 (code_of x.entry.sighting.rover) point v.rover w x.entry.rover_holds hw;
+    let is_entry_pair : IsSvPair t base rover taken entry = element (IsSvPair t base rover taken) boxes row.entry_is.place entry all row.entry_is.is in
+    let same_pair_of : is_entry_pair.pair ≡ pair = same_pair taken n is_entry_pair.pair pair (subst (λ (k : ℕ). slice_get taken k ≡ Some is_entry_pair.pair) row.entry_is.of_pair is_entry_pair.pair_is) pair_is in
+    let same_base_epoch : is_entry_pair.base_epoch ≡ be = same_epoch base pair.base is_entry_pair.base_epoch be (subst (λ (o : PairOf). slice_get base o.base ≡ Some is_entry_pair.base_epoch) same_pair_of is_entry_pair.epochs.of_base) epochs.of_base in
+    let same_rover_epoch : is_entry_pair.rover_epoch ≡ re = same_epoch rover pair.rover is_entry_pair.rover_epoch re (subst (λ (o : PairOf). slice_get rover o.rover ≡ Some is_entry_pair.rover_epoch) same_pair_of is_entry_pair.epochs.of_rover) epochs.of_rover in
+    let made : StandsForRow t is_entry_pair.base_epoch is_entry_pair.rover_epoch entry.sat position point (counted signals scale) scale group row.arc.shift r = record {
+      observed = is_entry_pair.entry.sighting;
+      are = is_entry_pair.entry.seen;
+      base_sees = has_solved t is_entry_pair.entry.sighting.eph is_entry_pair.base_epoch.tag.0 (code_of is_entry_pair.entry.sighting.base) position entry.base is_entry_pair.entry.base_holds is_entry_pair.entry.base_sent row.seen.base;
+      rover_sees = has_solved t is_entry_pair.entry.sighting.eph is_entry_pair.rover_epoch.tag.0 (code_of is_entry_pair.entry.sighting.rover) point entry.rover is_entry_pair.entry.rover_holds is_entry_pair.entry.rover_sent row.seen.rover;
+      y = λ s w hs hw. subst (λ (xs : List ℤ). HoldsAll (counted signals scale) scale group row.arc.shift r s w xs) is_entry_pair.entry.observed (λ k d l. row.y k d l s w (record {
+        base_is = solved t is_entry_pair.entry.sighting.eph is_entry_pair.base_epoch.tag.0 (code_of is_entry_pair.entry.sighting.base) position entry.base s is_entry_pair.entry.base_holds hs;
+        rover_is = solved t is_entry_pair.entry.sighting.eph is_entry_pair.rover_epoch.tag.0 (code_of is_entry_pair.entry.sighting.rover) point entry.rover w is_entry_pair.entry.rover_holds hw;
       }));
-      u = λ w move direction hw d m. row.u w move direction (solved t x.entry.sighting.eph x.rover_epoch.tag.0 (code_of x.entry.sighting.rover) point v.rover w x.entry.rover_holds hw) d m;
+      u = λ w move direction hw d m. row.u w move direction (solved t is_entry_pair.entry.sighting.eph is_entry_pair.rover_epoch.tag.0 (code_of is_entry_pair.entry.sighting.rover) point entry.rover w is_entry_pair.entry.rover_holds hw) d m;
       radius = row.radius;
       others = row.others;
       narrow = row.narrow;
     } in
-    subst (λ (e : Epoch). StandsForRow t e re a.sat position point (counted signals scale) scale group a.shift r) b
-    (subst (λ (e : Epoch). StandsForRow t x.base_epoch e a.sat position point (counted signals scale) scale group a.shift r) q
-    (subst (λ (c : Arc). StandsForRow t x.base_epoch x.rover_epoch c.sat position point (counted signals scale) scale group c.shift r) arc
-    (subst (λ (k : ℕ). StandsForRow t x.base_epoch x.rover_epoch k position point (counted signals scale) scale group row.arc.shift r) row.entry_is.of_sat made)))
+    subst (λ (e : Epoch). StandsForRow t e re a.sat position point (counted signals scale) scale group a.shift r) same_base_epoch
+    (subst (λ (e : Epoch). StandsForRow t is_entry_pair.base_epoch e a.sat position point (counted signals scale) scale group a.shift r) same_rover_epoch
+    (subst (λ (c : Arc). StandsForRow t is_entry_pair.base_epoch is_entry_pair.rover_epoch c.sat position point (counted signals scale) scale group c.shift r) arc
+    (subst (λ (k : ℕ). StandsForRow t is_entry_pair.base_epoch is_entry_pair.rover_epoch k position point (counted signals scale) scale group row.arc.shift r) row.entry_is.of_sat made)))
 
 -- ---- the rows of a pair, and of all pairs
 pub pair_stands : (t : Setting) (base rover : List Epoch) (taken : List PairOf) (boxes : List SvPair) (arcs : List Arc) (position point : List ℤ) (signals : Signals) (scale n : ℕ) (p : PairRows) →
     All (IsSvPair t base rover taken) boxes → ArePairRows (setting boxes arcs position point signals scale) n p → StandsForPair t base rover taken position point (counted signals scale) scale arcs p
 pair_stands t base rover taken boxes arcs position point signals scale n p all rows =
-    let e : IsEntry boxes n rows.tag.sat rows.tag.entry = rows.tag.entry_is in
-    let x : IsSvPair t base rover taken rows.tag.entry = element (IsSvPair t base rover taken) boxes e.place rows.tag.entry all e.is in
-    let is : slice_get taken n ≡ Some x.pair = subst (λ (k : ℕ). slice_get taken k ≡ Some x.pair) e.of_pair x.pair_is in
+    let is_entry : IsEntry boxes n rows.tag.sat rows.tag.entry = rows.tag.entry_is in
+    let is_entry_pair : IsSvPair t base rover taken rows.tag.entry = element (IsSvPair t base rover taken) boxes is_entry.place rows.tag.entry all is_entry.is in
+    let pair_at_place : slice_get taken n ≡ Some is_entry_pair.pair = subst (λ (k : ℕ). slice_get taken k ≡ Some is_entry_pair.pair) is_entry.of_pair is_entry_pair.pair_is in
     record {
-      pair = x.pair;
-      base_epoch = x.base_epoch;
-      rover_epoch = x.rover_epoch;
-      pair_is = subst (λ (k : ℕ). slice_get taken k ≡ Some x.pair) (sym rows.number) is;
-      epochs = x.epochs;
-      tag = sym rows.tag.tag_is ∙ x.entry.tag;
+      pair = is_entry_pair.pair;
+      base_epoch = is_entry_pair.base_epoch;
+      rover_epoch = is_entry_pair.rover_epoch;
+      pair_is = subst (λ (k : ℕ). slice_get taken k ≡ Some is_entry_pair.pair) (sym rows.number) pair_at_place;
+      epochs = is_entry_pair.epochs;
+      tag = sym rows.tag.tag_is ∙ is_entry_pair.entry.tag;
       held = rows.arcs ∙ ap (λ (k : ℕ). arcs_at arcs k) (sym rows.number);
-      rows = λ k d l a a_is. row_stands t base rover taken boxes arcs position point signals scale n p.group x.pair x.base_epoch x.rover_epoch (get_or p.rows k d) all is x.epochs
+      rows = λ k d l a a_is. row_stands t base rover taken boxes arcs position point signals scale n p.group is_entry_pair.pair is_entry_pair.base_epoch is_entry_pair.rover_epoch (get_or p.rows k d) all pair_at_place is_entry_pair.epochs
           (rows.rows k d l) a a_is;
       group = rows.group;
     }

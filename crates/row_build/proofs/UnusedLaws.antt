@@ -22,7 +22,7 @@ not_counted [] s phase none = refl
 not_counted (x ∷ ss) s phase none = step (x == s) (is_phase x) (counts ss s) (filter is_phase ss) same none (not_counted ss s phase)
   where
     same : (x == s) ≡ true → (is_phase x ≡ true) × ((band x == band s) ≡ true)
-    same e = let f : x ≡ s = eqb-true x s e in (ap is_phase f ∙ phase, eq-eqb (band x) (band s) (ap band f))
+    same e = let same_sat : x ≡ s = eqb-true x s e in (ap is_phase same_sat ∙ phase, eq-eqb (band x) (band s) (ap band same_sat))
 
     step : (e h rest : Bool) (ps : List ℕ) → (e ≡ true → (h ≡ true) × ((band x == band s) ≡ true)) → list_any (λ (b : ℕ). b == band s) (map band (cond h (x ∷ ps) ps)) ≡ false →
         (list_any (λ (b : ℕ). b == band s) (map band ps) ≡ false → rest ≡ false) → (e || rest) ≡ false

@@ -15,7 +15,7 @@ AreInRange n = (IsBandsNumber n.bands) × ((IsSystem n.system) × ((1000 ≤ n.r
 
 abbrev made : (n : Numbers) → AreInRange n → Options
 made n r =
-    let q = r.1.1 in
+    let bounds = r.1.1 in
     record {
       bands = n.bands;
       system = n.system;
@@ -30,21 +30,21 @@ made n r =
       step = n.step;
       first = n.first;
       count = n.count;
-      ratio_from = q.0;
-      ratio_to = q.1.0;
-      budget_from = q.1.1.0;
-      budget_to = q.1.1.1.0;
-      mask_to = q.1.1.1.1.0;
-      gap_to = q.1.1.1.1.1.0;
-      jump_from = q.1.1.1.1.1.1.0;
-      jump_to = q.1.1.1.1.1.1.1.0;
-      arc_from = q.1.1.1.1.1.1.1.1.0;
-      arc_to = q.1.1.1.1.1.1.1.1.1.0;
-      step_from = q.1.1.1.1.1.1.1.1.1.1.0;
-      step_to = q.1.1.1.1.1.1.1.1.1.1.1.0;
-      first_to = q.1.1.1.1.1.1.1.1.1.1.1.1.0;
-      count_from = q.1.1.1.1.1.1.1.1.1.1.1.1.1.0;
-      count_to = q.1.1.1.1.1.1.1.1.1.1.1.1.1.1;
+      ratio_from = bounds.0;
+      ratio_to = bounds.1.0;
+      budget_from = bounds.1.1.0;
+      budget_to = bounds.1.1.1.0;
+      mask_to = bounds.1.1.1.1.0;
+      gap_to = bounds.1.1.1.1.1.0;
+      jump_from = bounds.1.1.1.1.1.1.0;
+      jump_to = bounds.1.1.1.1.1.1.1.0;
+      arc_from = bounds.1.1.1.1.1.1.1.1.0;
+      arc_to = bounds.1.1.1.1.1.1.1.1.1.0;
+      step_from = bounds.1.1.1.1.1.1.1.1.1.1.0;
+      step_to = bounds.1.1.1.1.1.1.1.1.1.1.1.0;
+      first_to = bounds.1.1.1.1.1.1.1.1.1.1.1.1.0;
+      count_from = bounds.1.1.1.1.1.1.1.1.1.1.1.1.1.0;
+      count_to = bounds.1.1.1.1.1.1.1.1.1.1.1.1.1.1;
     }
 
 abbrev ranges_of : (o : Options) → AreInRange (numbers_of o)

@@ -41,7 +41,7 @@ pub none_chosen : (fit : List Eph) (sat tag : ℕ) (e : Eph) → HasNoCandidate 
 none_chosen fit sat tag e none c = middle (λ f. IsCandidate sat tag f → ⊥) c.front c.rest e (subst (All (λ f. IsCandidate sat tag f → ⊥)) c.stands none) c.candidate
 
 same_sighting : (a a' b b' : List ℤ) (e e' : Eph) → a ≡ a' → b ≡ b' → e ≡ e'
-    → (let g : Sighting = record { base = a; rover = b; eph = e } in let h : Sighting = record { base = a'; rover = b'; eph = e' } in g ≡ h)
+    → (let left_sighting : Sighting = record { base = a; rover = b; eph = e } in let right_sighting : Sighting = record { base = a'; rover = b'; eph = e' } in left_sighting ≡ right_sighting)
 same_sighting a a' b b' e e' is is2 is3 = rw (is, is2, is3) refl
 
 pub seen_once : (s : Setting) (base rover : Epoch) (sat : ℕ) (g h : Sighting) → IsSighting s base rover sat g → IsSighting s base rover sat h → g ≡ h

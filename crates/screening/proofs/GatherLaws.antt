@@ -20,7 +20,7 @@ pub added_of : (s : Setting) (base rover : Epoch) (epochs : Passed) (pair sat : 
     IsEntryAt s base rover pair sat b → length sats < MOST_SATELLITES → u.sat ≡ b.sat → u.phase ≡ phases_of b.observed → u.lost ≡ lost → lost ≡ lost_lock s.types sat epochs → IsSmall u →
     sats' ≡ sats ++ u ∷ [] → boxes' ≡ boxes ++ b ∷ [] → IsAdded s base rover epochs pair sat sats sats' boxes boxes'
 added_of s base rover epochs pair sat sats sats' boxes boxes' u b lost at room named phase mark is small more grow =
-    let e : IsEntry s base rover b = at.entry in
+    let entry_stands : IsEntry s base rover b = at.entry in
     let sat_is : u.sat ≡ sat = named ∙ at.sat_is in
     record {
       room = room;
@@ -30,10 +30,10 @@ added_of s base rover epochs pair sat sats sats' boxes boxes' u b lost at room n
       boxes_grow = grow;
       named = sat_is;
       is_used = record {
-        sighting = e.sighting;
-        seen = subst (λ (n : ℕ). IsSighting s base rover n e.sighting) (sym named) e.seen;
-        kept = e.kept;
-        phase = phase ∙ ap phases_of e.observed;
+        sighting = entry_stands.sighting;
+        seen = subst (λ (n : ℕ). IsSighting s base rover n entry_stands.sighting) (sym named) entry_stands.seen;
+        kept = entry_stands.kept;
+        phase = phase ∙ ap phases_of entry_stands.observed;
         lost = mark ∙ is ∙ ap (λ (n : ℕ). lost_lock s.types n epochs) (sym sat_is);
       };
       small = small;
@@ -69,7 +69,7 @@ passed_over : (s : Setting) (base rover : Epoch) (epochs : Passed) (pair n : ℕ
 passed_over s base rover epochs pair n before sats boxes reason g = record {
   few = g.few;
   rising = g.rising;
-  below = λ k d inside. let h = g.below k d inside in omega (arith, h);
+  below = λ k d inside. let is_below = g.below k d inside in omega (arith, is_below);
   each = g.each;
   small = g.small;
   others = λ sat seen less is none. ⊎_elim (λ (lower : sat < n). g.others sat seen lower is none) (λ (here : sat ≡ n). at_n sat seen here is reason) (below_or_at sat n less);
@@ -84,7 +84,7 @@ passed_over s base rover epochs pair n before sats boxes reason g = record {
     at_n sat seen here is (inl full) =
         let few = g.few in
         let whole : length sats ≡ MOST_SATELLITES = omega (arith, full, few) in
-        inr (whole, λ k d inside. let h = g.below k d inside in omega (arith, h, here))
+        inr (whole, λ k d inside. let is_below = g.below k d inside in omega (arith, is_below, here))
     at_n sat seen here is (inr out) = inl (out seen (subst (λ (m : ℕ). IsSighting s base rover m seen) here is))
 
 added_one : (s : Setting) (base rover : Epoch) (epochs : Passed) (pair n : ℕ) (before : List SvPair) (sats : List UsedSat) (boxes : List SvPair) (u : UsedSat) (b : SvPair)
@@ -92,9 +92,9 @@ added_one : (s : Setting) (base rover : Epoch) (epochs : Passed) (pair n : ℕ) 
     IsUsedSat s base rover epochs u → IsSmall u → IsEntryAt s base rover pair n b → AreGathered s base rover epochs pair n before sats boxes → AreGathered s base rover epochs pair
     (n + 1) before (sats ++ u ∷ []) (boxes ++ b ∷ [])
 added_one s base rover epochs pair n before sats boxes u b room named used small at g = record {
-  few = let l = length_push sats u in omega (arith, l, room);
-  rising = all_pairs_push (λ (v w : UsedSat). v.sat < w.sat) sats u g.rising (λ k d inside. let h = g.below k d inside in omega (arith, h, named));
-  below = All-push (λ (v : UsedSat). v.sat < n + 1) sats u (λ k d inside. let h = g.below k d inside in omega (arith, h)) (omega (arith, named));
+  few = let pushed_length = length_push sats u in omega (arith, pushed_length, room);
+  rising = all_pairs_push (λ (v w : UsedSat). v.sat < w.sat) sats u g.rising (λ k d inside. let is_below = g.below k d inside in omega (arith, is_below, named));
+  below = All-push (λ (v : UsedSat). v.sat < n + 1) sats u (λ k d inside. let is_below = g.below k d inside in omega (arith, is_below)) (omega (arith, named));
   each = All-push (IsUsedSat s base rover epochs) sats u g.each used;
   small = All-push IsSmall sats u g.small small;
   others = λ sat seen less is none.
@@ -110,12 +110,12 @@ added_one s base rover epochs pair n before sats boxes u b room named used small
   of_pair = All-push (λ (x : SvPair). x.pair ≡ pair) g.added b g.of_pair at.pair_is;
 }
   where
-    one_place : (p p' t t' : ℕ) → p ≡ p' → t ≡ t' → (let xs : List (ℕ × ℕ) = (p, t) ∷ [] in let ys : List (ℕ × ℕ) = (p', t') ∷ [] in xs ≡ ys)
+    one_place : (p p' t t' : ℕ) → p ≡ p' → t ≡ t' → (let left_place : List (ℕ × ℕ) = (p, t) ∷ [] in let right_place : List (ℕ × ℕ) = (p', t') ∷ [] in left_place ≡ right_place)
     one_place p p' t t' e f = rw (e, f) refl
 
     earlier : (sat : ℕ) (seen : Sighting) → sat < n → IsSighting s base rover sat seen → is_among sat sats ≡ false → MayBeLeftOut s base.tag.0 seen
     earlier sat seen lower is none = ⊎_elim (λ (out : MayBeLeftOut s base.tag.0 seen). out)
-        (λ (enough : AreEnoughBelow sat sats). absurd (let e = enough.0 in omega (arith, e, room))) (g.others sat seen lower is none)
+        (λ (enough : AreEnoughBelow sat sats). absurd (let number_at_least = enough.0 in omega (arith, number_at_least, room))) (g.others sat seen lower is none)
 
 pub gathered_next : (s : Setting) (base rover : Epoch) (epochs : Passed) (pair n : ℕ) (before : List SvPair) (sats sats' : List UsedSat) (boxes boxes' : List SvPair) →
     AreGathered s base rover epochs pair n before sats boxes → IsPassedOver s base rover n sats sats' boxes boxes' ⊎ IsAdded s base rover epochs pair n sats sats' boxes boxes' →

@@ -28,8 +28,8 @@ like (x ∷ xs) (y ∷ ys) e zero a h = record {
     heads : (p q : Arc) (ps qs : List Arc) → p ∷ ps ≡ q ∷ qs → p ≡ q
     heads p q ps qs e = cc
 like (x ∷ xs) (y ∷ ys) e (suc k) a h =
-    let l : Like ys k a = like xs ys (tails (without_shifts y) (without_shifts x) (map without_shifts ys) (map without_shifts xs) e) k a h in
-    record { arc = l.arc; arc_is = l.arc_is; same = l.same }
+    let like_arc : Like ys k a = like xs ys (tails (without_shifts y) (without_shifts x) (map without_shifts ys) (map without_shifts xs) e) k a h in
+    record { arc = like_arc.arc; arc_is = like_arc.arc_is; same = like_arc.same }
   where
     tails : (p q : Arc) (ps qs : List Arc) → p ∷ ps ≡ q ∷ qs → ps ≡ qs
     tails p q ps qs e = cc
@@ -47,9 +47,9 @@ share_along a b c d e g (i, af, al, bf, bl) =
 
 neighbours_along : (xs ys : List Arc) → AreSameArcs xs ys → (k m : ℕ) → AreNeighbours xs k m → AreNeighbours ys k m
 neighbours_along xs ys e k m h =
-    let p : Like ys k h.one = like xs ys e k h.one h.one_is in
-    let q : Like ys m h.other = like xs ys e m h.other h.other_is in
-    record { one = p.arc; other = q.arc; one_is = p.arc_is; other_is = q.arc_is; share = share_along h.one h.other p.arc q.arc p.same q.same h.share }
+    let like_one : Like ys k h.one = like xs ys e k h.one h.one_is in
+    let like_other : Like ys m h.other = like xs ys e m h.other h.other_is in
+    record { one = like_one.arc; other = like_other.arc; one_is = like_one.arc_is; other_is = like_other.arc_is; share = share_along h.one h.other like_one.arc like_other.arc like_one.same like_other.same h.share }
 
 chain_along : (xs ys : List Arc) → AreSameArcs xs ys → (k : ℕ) (path : List ℕ) (n : ℕ) → IsChain xs k path n → IsChain ys k path n
 chain_along xs ys e k [] n h = h
@@ -66,10 +66,10 @@ datum_along a b e = sym (ap (λ (x : Arc). x.datum) e)
 
 pub datums_along : (xs ys : List Arc) → AreSameArcs xs ys → HaveDatums xs → HaveDatums ys
 datums_along xs ys e h k b g =
-    let p : Like xs k b = like ys xs (sym e) k b g in
-    let d : b.datum ≡ p.arc.datum = datum_along b p.arc p.same in
-    let i : IsTrue p.arc.datum ↔ IsFirstLinked xs k = h k p.arc p.arc_is in
-    (λ t. first_along xs ys e k (i.0 (subst IsTrue d t)), λ f. subst IsTrue (sym d) (i.1 (first_along ys xs (sym e) k f)))
+    let like_arc : Like xs k b = like ys xs (sym e) k b g in
+    let same_datum : b.datum ≡ like_arc.arc.datum = datum_along b like_arc.arc like_arc.same in
+    let is_first_linked : IsTrue like_arc.arc.datum ↔ IsFirstLinked xs k = h k like_arc.arc like_arc.arc_is in
+    (λ t. first_along xs ys e k (is_first_linked.0 (subst IsTrue same_datum t)), λ f. subst IsTrue (sym same_datum) (is_first_linked.1 (first_along ys xs (sym e) k f)))
 
 -- ---- runs
 runs_without : (arcs : List Arc) → map run_of (map without_shifts arcs) ≡ map run_of arcs
@@ -97,17 +97,17 @@ cut_along used xs ys e h = record {
 free_at : (arcs : List Arc) (k : ℕ) (a : Arc) → slice_get arcs k ≡ Some a → a.datum ≡ false → 1 ≤ free_count arcs
 free_at [] k a h d = absurd cc
 free_at (x ∷ xs) zero a h d =
-    let f : Arc → ℕ = λ y. cond (is_free y) 1 0 in
-    let e : free_count (x ∷ xs) ≡ cond (not x.datum) 1 0 + free_count xs = sum_by-cons f x xs in
-    let b : x.datum ≡ false = ap (λ (y : Arc). y.datum) (same_Some x a h) ∙ d in
-    more (free_count (x ∷ xs)) (free_count xs) (e ∙ ap (λ (t : Bool). cond (not t) 1 0 + free_count xs) b)
+    let count_of : Arc → ℕ = λ y. cond (is_free y) 1 0 in
+    let count_splits : free_count (x ∷ xs) ≡ cond (not x.datum) 1 0 + free_count xs = sum_by-cons count_of x xs in
+    let not_datum : x.datum ≡ false = ap (λ (y : Arc). y.datum) (same_Some x a h) ∙ d in
+    more (free_count (x ∷ xs)) (free_count xs) (count_splits ∙ ap (λ (t : Bool). cond (not t) 1 0 + free_count xs) not_datum)
   where
     more : (n m : ℕ) → n ≡ 1 + m → 1 ≤ n
     more n m e = omega arith
 free_at (x ∷ xs) (suc k) a h d =
-    let f : Arc → ℕ = λ y. cond (is_free y) 1 0 in
-    let e : free_count (x ∷ xs) ≡ cond (not x.datum) 1 0 + free_count xs = sum_by-cons f x xs in
-    more (free_count (x ∷ xs)) (free_count xs) (cond (not x.datum) 1 0) e (free_at xs k a h d)
+    let count_of : Arc → ℕ = λ y. cond (is_free y) 1 0 in
+    let count_splits : free_count (x ∷ xs) ≡ cond (not x.datum) 1 0 + free_count xs = sum_by-cons count_of x xs in
+    more (free_count (x ∷ xs)) (free_count xs) (cond (not x.datum) 1 0) count_splits (free_at xs k a h d)
   where
     more : (n m c : ℕ) → n ≡ c + m → 1 ≤ m → 1 ≤ n
     more n m c e h = omega arith

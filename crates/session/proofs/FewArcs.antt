@@ -73,7 +73,7 @@ all_begin (a ∷ arcs) n h =
     one f n h = grind (arith, nat_tests)
 
 few_begin : (used : List UsedPair) (kept : List Arc) (n : ℕ) → IsCutOf used kept → All IsInRange used → All IsOrdered kept → n ≤ length used → count_by (begins_before n) kept ≤ MOST_SATELLITES * n
-few_begin used kept zero c r o h = let e : count_by (begins_before 0) kept ≡ 0 = none_begin kept in omega arith
+few_begin used kept zero c r o h = let none_begins : count_by (begins_before 0) kept ≡ 0 = none_begin kept in omega arith
 few_begin used kept (suc n) c r o h =
     let before : count_by (begins_before n) kept ≤ MOST_SATELLITES * n = few_begin used kept n c r o (omega arith) in
     let held : length (arcs_at kept n) ≤ MOST_SATELLITES = held_few used kept n c r (omega arith) in

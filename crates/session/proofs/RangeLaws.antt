@@ -43,16 +43,16 @@ used_well : (used : List UsedPair) (sat i : ℕ) → All AreNumbered used → is
 used_well [] sat i h e = absurd (false≢true e)
 used_well (p ∷ ps) sat zero h e = record { number = sat_numbered p.sats.items sat (h 0 p (omega arith)) e; inside = omega arith }
 used_well (p ∷ ps) sat (suc i) h e =
-    let w : IsUsedWell ps sat i = used_well ps sat i (λ k d j. h (suc k) d (omega arith)) e in
-    let l : i < length ps = w.inside in
-    record { number = w.number; inside = omega arith }
+    let rest_used_well : IsUsedWell ps sat i = used_well ps sat i (λ k d j. h (suc k) d (omega arith)) e in
+    let inside_rest : i < length ps = rest_used_well.inside in
+    record { number = rest_used_well.number; inside = omega arith }
 
 arc_in_range : (used : List UsedPair) (kept : List Arc) → IsCutOf used kept → length used ≤ MOST_PAIRS → All AreNumbered used → (k : ℕ) (a : Arc)
     → slice_get kept k ≡ Some a → All (IsBelow (2 ^ 40)) a.shift → IsArcInRange a
 arc_in_range used kept c few numbered k a is shifts =
-    let r : IsArc c.bands c.jump used (run_of a) = (kept_each c.bands c.jump c.least used kept c.short k a c.kept is).0 in
-    let w : IsUsedWell used a.sat a.last = used_well used a.sat a.last numbered (r.run.used_in a.last r.run.order (omega arith)) in
-    record { sat_from = w.number.0; sat_to = w.number.1; order = r.run.order; last_in = below a.last (length used) w.inside few; shifts_in = shifts }
+    let is_arc : IsArc c.bands c.jump used (run_of a) = (kept_each c.bands c.jump c.least used kept c.short k a c.kept is).0 in
+    let is_used_well : IsUsedWell used a.sat a.last = used_well used a.sat a.last numbered (is_arc.run.used_in a.last is_arc.run.order (omega arith)) in
+    record { sat_from = is_used_well.number.0; sat_to = is_used_well.number.1; order = is_arc.run.order; last_in = below a.last (length used) is_used_well.inside few; shifts_in = shifts }
   where
     below : (n m : ℕ) → n < m → m ≤ MOST_PAIRS → n < MOST_PAIRS
     below n m h g = omega arith
@@ -129,25 +129,25 @@ two_holders (x ∷ xs) number h = go (holds number x) refl (λ l. two_holders xs
       order = positive (one_holder xs number (one_less (held (x ∷ xs) number) (held xs number) (total true e) h)).place;
     }
     go false e ih =
-        let t : TwoHolders xs number = ih (less (held (x ∷ xs) number) (held xs number) (total false e) h) in
-        record { first = later_holder x xs number t.first; second = later_holder x xs number t.second; order = both_more t.first.place t.second.place t.order }
+        let rest_holders : TwoHolders xs number = ih (less (held (x ∷ xs) number) (held xs number) (total false e) h) in
+        record { first = later_holder x xs number rest_holders.first; second = later_holder x xs number rest_holders.second; order = both_more rest_holders.first.place rest_holders.second.place rest_holders.order }
 
 neighbours : (arcs : List Arc) (number : ℕ) (t : TwoHolders arcs number) → AreNeighbours arcs t.second.place t.first.place
 neighbours arcs number t =
-    let p = held_ends t.second.arc number t.second.holds_it in
-    let q = held_ends t.first.arc number t.first.holds_it in
-    record { one = t.second.arc; other = t.first.arc; one_is = t.second.arc_is; other_is = t.first.arc_is; share = (number, p.0, p.1, q.0, q.1) }
+    let second_within_ends = held_ends t.second.arc number t.second.holds_it in
+    let first_within_ends = held_ends t.first.arc number t.first.holds_it in
+    record { one = t.second.arc; other = t.first.arc; one_is = t.second.arc_is; other_is = t.first.arc_is; share = (number, second_within_ends.0, second_within_ends.1, first_within_ends.0, first_within_ends.1) }
 
 -- ---- the arcs of a session
 pub able : (used : List UsedPair) (kept : List Arc) (taken : ℕ) → IsCutOf used kept → length used ≤ MOST_PAIRS → All AreNumbered used
     → AreShiftsBelow (2 ^ 40) kept → (AreFew taken kept → ⊥) → (AreMany kept → ⊥) → AreArcs kept
 able used kept taken c few numbered shifts not_few not_many =
-    let p : (number : ℕ) × (4 ≤ held kept number) = some_pair taken kept not_few in
-    let t : TwoHolders kept p.0 = two_holders kept p.0 (half (held kept p.0) p.1) in
+    let pair_held : (number : ℕ) × (4 ≤ held kept number) = some_pair taken kept not_few in
+    let holders : TwoHolders kept pair_held.0 = two_holders kept pair_held.0 (half (held kept pair_held.0) pair_held.1) in
     record {
-      some = two t.first.place t.second.place (length kept) t.order (slice_get_within kept t.second.place t.second.arc t.second.arc_is);
+      some = two holders.first.place holders.second.place (length kept) holders.order (slice_get_within kept holders.second.place holders.second.arc holders.second.arc_is);
       few = most (length kept) 200 (λ h. not_many (inr h));
-      some_free = later_is_free kept t.first.place t.second.place t.order c.datums (neighbours kept p.0 t);
+      some_free = later_is_free kept holders.first.place holders.second.place holders.order c.datums (neighbours kept pair_held.0 holders);
       few_free = most (free_count kept) MOST_FREE_ARCS (λ h. not_many (inl h));
       ranges = λ k d i. arc_in_range used kept c few numbered k (get_or kept k d) (slice_get-get_or kept k d i) (shifts k d i);
     }
@@ -182,8 +182,8 @@ arcs_along xs ys e h s = record {
   some_free = subst (λ (n : ℕ). 1 ≤ n) (sym (free_same xs ys e)) h.some_free;
   few_free = subst (λ (n : ℕ). n ≤ MOST_FREE_ARCS) (sym (free_same xs ys e)) h.few_free;
   ranges = λ k d i.
-      let l : Like xs k (get_or ys k d) = like ys xs (sym e) k (get_or ys k d) (slice_get-get_or ys k d i) in
-      in_range_along l.arc (get_or ys k d) (sym l.same) (subst IsArcInRange (at xs k l.arc l.arc_is) (h.ranges k l.arc (slice_get_within xs k l.arc l.arc_is))) (s k d i);
+      let like_arc : Like xs k (get_or ys k d) = like ys xs (sym e) k (get_or ys k d) (slice_get-get_or ys k d i) in
+      in_range_along like_arc.arc (get_or ys k d) (sym like_arc.same) (subst IsArcInRange (at xs k like_arc.arc like_arc.arc_is) (h.ranges k like_arc.arc (slice_get_within xs k like_arc.arc like_arc.arc_is))) (s k d i);
 }
   where
     at : (xs : List Arc) (k : ℕ) (a : Arc) → slice_get xs k ≡ Some a → get_or xs k a ≡ a
@@ -192,9 +192,9 @@ arcs_along xs ys e h s = record {
 -- an arc's first pair is one of the pairs
 pub first_inside : (used : List UsedPair) (kept : List Arc) (k : ℕ) (a : Arc) → IsCutOf used kept → All AreNumbered used → slice_get kept k ≡ Some a → a.first < length used
 first_inside used kept k a c numbered is =
-    let r : IsArc c.bands c.jump used (run_of a) = (kept_each c.bands c.jump c.least used kept c.short k a c.kept is).0 in
-    let w : IsUsedWell used a.sat a.first = used_well used a.sat a.first numbered (r.run.used_in a.first (omega arith) r.run.order) in
-    w.inside
+    let is_arc : IsArc c.bands c.jump used (run_of a) = (kept_each c.bands c.jump c.least used kept c.short k a c.kept is).0 in
+    let is_used_well : IsUsedWell used a.sat a.first = used_well used a.sat a.first numbered (is_arc.run.used_in a.first (omega arith) is_arc.run.order) in
+    is_used_well.inside
 
 low : (f : ℕ) → nat_le f f ≡ true
 low f = grind (arith, nat_tests)

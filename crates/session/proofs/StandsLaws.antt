@@ -20,9 +20,9 @@ pub rows_stand : (base rover : ObsFile) (nav : Records) (o : Options) (position 
     AreScreened base rover nav o position signals taken f →
     (s : Session) → HasRowsOf f.screened.boxes (length f.screened.used) f.kept f.position f.signals f.system s → StandsAsItIs base rover nav o position signals taken s
 rows_stand base rover nav o position signals taken f h s r =
-    let t = setting_of base nav signals o.mask (world_of o.system) in
-    let S : ℕ → List ℤ → Signals → Type 0 = λ y p q. StandsForFiles t base.epochs rover.epochs taken (bands_of o.bands) o.jump o.arc y p q s.point (map (λ a. a.shift) s.arcs) s.scale s in
-    let stands : S s.system s.base s.signals = session_stands t base.epochs rover.epochs taken (bands_of o.bands) o.jump o.arc h.short f.screened.used f.screened.boxes s h.arcs_are.used_are h.arcs_are.boxes_are
+    let setting = setting_of base nav signals o.mask (world_of o.system) in
+    let stands_for : ℕ → List ℤ → Signals → Type 0 = λ y p q. StandsForFiles setting base.epochs rover.epochs taken (bands_of o.bands) o.jump o.arc y p q s.point (map (λ a. a.shift) s.arcs) s.scale s in
+    let stands : stands_for s.system s.base s.signals = session_stands setting base.epochs rover.epochs taken (bands_of o.bands) o.jump o.arc h.short f.screened.used f.screened.boxes s h.arcs_are.used_are h.arcs_are.boxes_are
     (kept_along (bands_of o.bands) o.jump o.arc h.short f.screened.used f.kept s.arcs r.arcs_are h.arcs_are.kept_are) (datums_along f.kept s.arcs r.arcs_are h.arcs_are.datums) r.rows in
-    subst (λ (y : ℕ). S y position signals) (r.system_is ∙ h.system_is) (subst (λ (q : Signals). S s.system position q)
-    (r.signals_are ∙ h.signals_are) (subst (λ (p : List ℤ). S s.system p s.signals) (r.base_is ∙ h.position_is) stands))
+    subst (λ (y : ℕ). stands_for y position signals) (r.system_is ∙ h.system_is) (subst (λ (q : Signals). stands_for s.system position q)
+    (r.signals_are ∙ h.signals_are) (subst (λ (p : List ℤ). stands_for s.system p s.signals) (r.base_is ∙ h.position_is) stands))

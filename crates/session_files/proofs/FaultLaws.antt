@@ -14,7 +14,7 @@ use Rattle.job_answers.specs.Works.{FileWork, AreOpened, IsFaultOf}
 use Rattle.session_files.specs.SessionFiles.{StopsAtObs, StopsAtNav}
 
 pub refused_no_fault : (end : Ending) (line : List ℕ) → end ≡ ending Refused [] line → end.status ≢ ReadFault
-refused_no_fault end line same = λ is. let s = ap (λ (e : Ending). e.status) same in absurd (cc (s, is))
+refused_no_fault end line same = λ is. let status_is = ap (λ (e : Ending). e.status) same in absurd (cc (status_is, is))
 
 -- ---- the line of a fault
 pub fault_line : (told : List ℕ → Option (List ℕ)) (name : List ℕ) (ends : List ℕ → Ending → Type 0) (end : Ending) → ((text : List ℕ) → ends text end → end.status ≢ ReadFault)

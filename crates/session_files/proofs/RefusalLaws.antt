@@ -21,7 +21,7 @@ use Rattle.session_files.specs.Admitted.{AreAdmitted}
 -- tags that are apart have none that is close
 not_close : (gap : ℕ) (tags : List ℕ) (epoch : ℕ) → AreApart gap tags → IsFirstClose gap tags epoch → ⊥
 not_close gap tags epoch apart close =
-    let before : epoch - 1 + 1 ≡ epoch = let h = close.behind in omega (arith, h) in
+    let before : epoch - 1 + 1 ≡ epoch = let close_behind = close.behind in omega (arith, close_behind) in
     let inside : epoch - 1 + 1 < length tags = subst (λ (m : ℕ). m < length tags) (sym before) close.inside in
     let far : slice_index tags (epoch - 1) + 2 * gap < slice_index tags epoch = subst (λ (m : ℕ). slice_index tags (epoch - 1) + 2 * gap < slice_index tags m) before (apart (epoch - 1) inside) in
     let near = close.close in

@@ -34,13 +34,13 @@ files_over work base rover nav answers o b r n end read are (inl answered) =
     verdict_over work (base ∷ rover ∷ nav ∷ []) IsPairLine (SessionEnds answers work.told base rover nav o) end read answered.verdict
     (inl (record { base_file = b; rover_file = r; records = n; are = are; ends_so = inl answered }))
 files_over work base rover nav answers o b r n end read are (inr refused) =
-    let s = ap (λ (e : Ending). e.status) refused.end_is in
+    let status_is = ap (λ (e : Ending). e.status) refused.end_is in
     record {
       ends_so = inl (record { base_file = b; rover_file = r; records = n; are = are; ends_so = inr refused });
       answered = λ is. read;
       refused = λ is. inr ((refused.what, ap (λ (e : Ending). e.err) refused.end_is), read);
-      fault = λ fault. absurd (cc (s, fault));
-      named = λ fault. absurd (cc (s, fault));
+      fault = λ fault. absurd (cc (status_is, fault));
+      named = λ fault. absurd (cc (status_is, fault));
     }
 
 pub files_done : (work : FileWork) (base rover nav : List ℕ) (answers : SessionAnswers) (o : Options) (b r : ObsFile) (n : Records) (result : Result JobOutput JobStop)

@@ -43,14 +43,14 @@ fixed_cert (Full cert) fixed best = record { cert = cert; is = refl; fix = fixed
 pub fixed_for : (b r : ObsFile) (n : Records) (o : Options) (outcome : Outcome) → IsOutcome b r n o outcome → IsBestAnswer outcome.answer
     → is_fixed outcome.answer ≡ true → IsFixedFor b r n o outcome.answer
 fixed_for b r n o outcome is best fixed =
-    let c : IsFixedCert outcome.answer = fixed_cert outcome.answer fixed best in
-    let certified = certified_again b r n o outcome c.cert is c.is c.fix in
+    let fixed_answer : IsFixedCert outcome.answer = fixed_cert outcome.answer fixed best in
+    let certified = certified_again b r n o outcome fixed_answer.cert is fixed_answer.is fixed_answer.fix in
     record {
-      cert = c.cert;
-      answer_is = c.is;
-      fix = c.fix;
-      by_ratio = subst (IsBestByRatioIn c.cert.ratio c.cert.session) c.fix.tail_is (certified_by_ratio c.cert.session c.cert.ratio c.cert.budget c.cert.tail c.cert.fine certified);
+      cert = fixed_answer.cert;
+      answer_is = fixed_answer.is;
+      fix = fixed_answer.fix;
+      by_ratio = subst (IsBestByRatioIn fixed_answer.cert.ratio fixed_answer.cert.session) fixed_answer.fix.tail_is (certified_by_ratio fixed_answer.cert.session fixed_answer.cert.ratio fixed_answer.cert.budget fixed_answer.cert.tail fixed_answer.cert.fine certified);
       certified = certified;
-      only = no_other c.cert certified;
-      stands = stands_for b r n o outcome c.cert is c.is;
+      only = no_other fixed_answer.cert certified;
+      stands = stands_for b r n o outcome fixed_answer.cert is fixed_answer.is;
     }

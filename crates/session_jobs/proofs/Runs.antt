@@ -29,11 +29,11 @@ full_stands rules ratio budget made s tail full = elim (full.1) [
 
 pub stands_for : (b r : ObsFile) (n : Records) (o : Options) (outcome : Outcome) (cert : Cert) → IsOutcome b r n o outcome → outcome.answer ≡ Full cert → StandsForIts b r n o cert
 stands_for b r n o outcome cert is full =
-    let f = is.rounds in
-    let s : Session = cert.session in
-    let rules : Rules = rules_of f.screened.boxes (length f.screened.used) f.kept f.position f.signals f.system in
+    let rounds = is.rounds in
+    let session : Session = cert.session in
+    let rules : Rules = rules_of rounds.screened.boxes (length rounds.screened.used) rounds.kept rounds.position rounds.signals rounds.system in
     let ends = (subst (IsAnswer rules outcome.taken o outcome.rounds) full is.answer_is).1 in
-    let stands = is.stands s (full_stands rules o.ratio o.budget outcome.rounds s cert.tail ends.ends) in
+    let stands = is.stands session (full_stands rules o.ratio o.budget outcome.rounds session cert.tail ends.ends) in
     record {
       ratio_is = ends.ratio;
       budget_is = ends.budget;
@@ -44,5 +44,5 @@ stands_for b r n o outcome cert is full =
       taken = is.taken;
       taken_are = is.taken_are;
       stands = subst (λ (k : ℕ). StandsForFiles (setting_of b n is.signals o.mask (world_of o.system)) b.epochs r.epochs is.taken (bands_of o.bands)
-          o.jump o.arc o.system is.position is.signals s.point (map (λ (a : Arc). a.shift) s.arcs) k s) cert.fine stands;
+          o.jump o.arc o.system is.position is.signals session.point (map (λ (a : Arc). a.shift) session.arcs) k session) cert.fine stands;
     }

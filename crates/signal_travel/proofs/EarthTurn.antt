@@ -79,13 +79,13 @@ canonical a l h = canonical_exists 5 (of_scale 56 a) (go a l h)
 pub turn_holds : (tl th m a p cl ch sl sh cl' ch' sl' sh' : ℤ) → IsTurn tl th m a p cl ch sl sh → cl' ≡ cl -ℤ p → ch' ≡ ch +ℤ p → sl' ≡ sl -ℤ p → sh' ≡ sh +ℤ p →
     (t c s : Rational) → InBox 60 tl th t → IsAnglePair 5 (mul_r earth_rate t) c s → InBox 60 cl' ch' c × InBox 60 sl' sh' s
 turn_holds tl th m a p cl ch sl sh cl' ch' sl' sh' k e f g h t c s b q =
-    let x = canonical a k.angle_low k.angle_high in
-    let w = within t tl th m (th -ℤ m) a p b k.below (le_refl_ℤ (th -ℤ m)) k.angle k.least (less_nn k.middle_high) in
-    let v = canonical_is_pair 5 (of_scale 56 a) x.0 x.1 x.2 in
-    let law = sharp_law 5 (of_scale 61 (p -ℤ pos 1)) (mul_r earth_rate t) (of_scale 56 a) c s x.0 x.1 (lit≤ tt) q v w in
-    let held = k.pairs x.0 x.1 v in
-    let d : Rational = add_r (times 2 (of_scale 61 (p -ℤ pos 1))) (two_to_minus 67) in
-    (padded_holds cl ch cl' ch' p c x.0 d e f held.0 law.0 (pad_most p), padded_holds sl sh sl' sh' p s x.1 d g h held.1 law.1 (pad_most p))
+    let canonical_pair = canonical a k.angle_low k.angle_high in
+    let angle_is_within = within t tl th m (th -ℤ m) a p b k.below (le_refl_ℤ (th -ℤ m)) k.angle k.least (less_nn k.middle_high) in
+    let is_pair = canonical_is_pair 5 (of_scale 56 a) canonical_pair.0 canonical_pair.1 canonical_pair.2 in
+    let law = sharp_law 5 (of_scale 61 (p -ℤ pos 1)) (mul_r earth_rate t) (of_scale 56 a) c s canonical_pair.0 canonical_pair.1 (lit≤ tt) q is_pair angle_is_within in
+    let held = k.pairs canonical_pair.0 canonical_pair.1 is_pair in
+    let distance : Rational = add_r (times 2 (of_scale 61 (p -ℤ pos 1))) (two_to_minus 67) in
+    (padded_holds cl ch cl' ch' p c canonical_pair.0 distance e f held.0 law.0 (pad_most p), padded_holds sl sh sl' sh' p s canonical_pair.1 distance g h held.1 law.1 (pad_most p))
 
 -- ---- sizes: the pair of so small an angle is near (1, 0)
 
@@ -101,14 +101,14 @@ one_most = le_pos (65537 * 1152921504606846976) (1152939096792891392 * 65536) (l
 
 pub cos_ends : (a cl ch sl sh : ℤ) → ArePairs a cl ch sl sh → (neg_ℤ (pos 1152939096792891904) ≤ℤ cl) × (ch ≤ℤ pos 1152939096792891904)
 cos_ends a cl ch sl sh k =
-    let x = canonical a k.angle_low k.angle_high in
-    let v = canonical_is_pair 5 (of_scale 56 a) x.0 x.1 x.2 in
-    let n = (size_law_5 (of_scale 56 a) x.0 x.1 v).0 in
-    let b = (k.pairs x.0 x.1 v).0 in
-    let u : Rational = add_r (of_whole (pos 1)) (two_to_minus 16) in
-    let q : Rational = x.0 in (
-      low_end 60 cl ch (pos 512) (neg_ℤ (pos 1152939096792891392)) q k.cos_narrow (low_of (pos 1152939096792891392) q (≤ʳ_trans (neg_r q) u (of_scale 60 (pos 1152939096792891392)) n.1 one_most)) b,
-      high_end 60 cl ch (pos 512) (pos 1152939096792891392) q k.cos_narrow (≤ʳ_trans q u (of_scale 60 (pos 1152939096792891392)) n.0 one_most) b,
+    let canonical_pair = canonical a k.angle_low k.angle_high in
+    let is_pair = canonical_is_pair 5 (of_scale 56 a) canonical_pair.0 canonical_pair.1 canonical_pair.2 in
+    let cosine_at_most = (size_law_5 (of_scale 56 a) canonical_pair.0 canonical_pair.1 is_pair).0 in
+    let cosine_in_box = (k.pairs canonical_pair.0 canonical_pair.1 is_pair).0 in
+    let largest : Rational = add_r (of_whole (pos 1)) (two_to_minus 16) in
+    let cosine : Rational = canonical_pair.0 in (
+      low_end 60 cl ch (pos 512) (neg_ℤ (pos 1152939096792891392)) cosine k.cos_narrow (low_of (pos 1152939096792891392) cosine (≤ʳ_trans (neg_r cosine) largest (of_scale 60 (pos 1152939096792891392)) cosine_at_most.1 one_most)) cosine_in_box,
+      high_end 60 cl ch (pos 512) (pos 1152939096792891392) cosine k.cos_narrow (≤ʳ_trans cosine largest (of_scale 60 (pos 1152939096792891392)) cosine_at_most.0 one_most) cosine_in_box,
     )
 
 first_sine : (taylor_pair (part 5 (of_scale 56 (pos 0)))).sin.num ≡ pos 0
@@ -135,15 +135,15 @@ zero_is = no_sine 5 (taylor_pair (part 5 (of_scale 56 (pos 0)))) first_sine
 
 pub sin_ends : (a cl ch sl sh : ℤ) → ArePairs a cl ch sl sh → (neg_ℤ (pos 28024121222816) ≤ℤ sl) × (sh ≤ℤ pos 28024121222816)
 sin_ends a cl ch sl sh k =
-    let x = canonical a k.angle_low k.angle_high in
-    let v = canonical_is_pair 5 (of_scale 56 a) x.0 x.1 x.2 in
-    let b = (k.pairs x.0 x.1 v).1 in
-    let q : Rational = x.1 in
-    let law = canonical_law 5 (of_scale 56 a) (of_scale 56 a) (of_scale 56 (pos 0)) x.0 q zero_pair.cos zero_pair.sin (lit≤ tt) x.2 zero_canonical (near a k.angle_low) in
-    let z = at_zero (times 2 (of_scale 56 a)) q zero_pair.sin zero_is law.1 in
-    let u = small a k.angle_high in (
-      low_end 60 sl sh (pos 512) (neg_ℤ (pos 28024121222304)) q k.sin_narrow (low_of (pos 28024121222304) q (≤ʳ_trans (neg_r q) (times 2 (of_scale 56 a)) (of_scale 60 (pos 28024121222304)) z.1 u)) b,
-      high_end 60 sl sh (pos 512) (pos 28024121222304) q k.sin_narrow (≤ʳ_trans q (times 2 (of_scale 56 a)) (of_scale 60 (pos 28024121222304)) z.0 u) b,
+    let canonical_pair = canonical a k.angle_low k.angle_high in
+    let is_pair = canonical_is_pair 5 (of_scale 56 a) canonical_pair.0 canonical_pair.1 canonical_pair.2 in
+    let sine_in_box = (k.pairs canonical_pair.0 canonical_pair.1 is_pair).1 in
+    let sine : Rational = canonical_pair.1 in
+    let law = canonical_law 5 (of_scale 56 a) (of_scale 56 a) (of_scale 56 (pos 0)) canonical_pair.0 sine zero_pair.cos zero_pair.sin (lit≤ tt) canonical_pair.2 zero_canonical (near a k.angle_low) in
+    let sine_near_zero = at_zero (times 2 (of_scale 56 a)) sine zero_pair.sin zero_is law.1 in
+    let angle_at_most = small a k.angle_high in (
+      low_end 60 sl sh (pos 512) (neg_ℤ (pos 28024121222304)) sine k.sin_narrow (low_of (pos 28024121222304) sine (≤ʳ_trans (neg_r sine) (times 2 (of_scale 56 a)) (of_scale 60 (pos 28024121222304)) sine_near_zero.1 angle_at_most)) sine_in_box,
+      high_end 60 sl sh (pos 512) (pos 28024121222304) sine k.sin_narrow (≤ʳ_trans sine (times 2 (of_scale 56 a)) (of_scale 60 (pos 28024121222304)) sine_near_zero.0 angle_at_most) sine_in_box,
     )
   where
     near : (a : ℤ) → pos 0 ≤ℤ a → AreWithin (of_scale 56 a) (of_scale 56 a) (of_scale 56 (pos 0))

@@ -20,13 +20,13 @@ grid_place x y z = record { x = of_scale 17 (grid x); y = of_scale 17 (grid y); 
 
 -- ---- near
 grid_low : (lo : ℤ) → lo <ℤ (grid lo *ℤ pos 524288)
-grid_low lo = let h = lt_floor lo (2 ^ 19) (lit< tt) in go lo (floor_div lo (2 ^ 19)) h
+grid_low lo = let below_next_cell = lt_floor lo (2 ^ 19) (lit< tt) in go lo (floor_div lo (2 ^ 19)) below_next_cell
   where
     go : (lo f : ℤ) → lo <ℤ ((f *ℤ pos 524288) +ℤ pos 524288) → lo <ℤ ((f +ℤ pos 1) *ℤ pos 524288)
     go lo f h = omega (arith, ints)
 
 grid_high : (lo : ℤ) → (grid lo *ℤ pos 524288) ≤ℤ (lo +ℤ pos 524288)
-grid_high lo = let h = floor_le lo (2 ^ 19) (lit< tt) in go lo (floor_div lo (2 ^ 19)) h
+grid_high lo = let floor_at_most = floor_le lo (2 ^ 19) (lit< tt) in go lo (floor_div lo (2 ^ 19)) floor_at_most
   where
     go : (lo f : ℤ) → (f *ℤ pos 524288) ≤ℤ lo → ((f +ℤ pos 1) *ℤ pos 524288) ≤ℤ (lo +ℤ pos 524288)
     go lo f h = omega (arith, ints)
@@ -80,25 +80,25 @@ pub sides : (mask : ℕ) (x y z p q r : ℤ) →
     AreSides mask (dot3 (offset x p) (offset y q) (offset z r) p q r)
     (dot3 (offset x p) (offset y q) (offset z r) (offset x p) (offset y q) (offset z r)) (dot3 p q r p q r) (grid_place x y z) (point_of p q r)
 sides mask x y z p q r =
-    let g : Place = grid_place x y z in
-    let w : Place = point_of p q r in
-    let v : Place = difference g w in
+    let grid_point : Place = grid_place x y z in
+    let point : Place = point_of p q r in
+    let offset_vector : Place = difference grid_point point in
     let a : ℤ = offset x p in
     let b : ℤ = offset y q in
     let c : ℤ = offset z r in
-    let ea : Over (pos 81920000) a v.x = offset_over (grid x) p in
-    let eb : Over (pos 81920000) b v.y = offset_over (grid y) q in
-    let ec : Over (pos 81920000) c v.z = offset_over (grid z) r in
-    let rise = dot_over (pos 81920000) (pos 10000) a b c p q r v w ea eb ec (point_over p) (point_over q) (point_over r) in
-    let s = dot_over (pos 81920000) (pos 81920000) a b c a b c v v ea eb ec ea eb ec in
-    let t = dot_over (pos 10000) (pos 10000) p q r p q r w w (point_over p) (point_over q) (point_over r) (point_over p) (point_over q) (point_over r) in
+    let first_over : Over (pos 81920000) a offset_vector.x = offset_over (grid x) p in
+    let second_over : Over (pos 81920000) b offset_vector.y = offset_over (grid y) q in
+    let third_over : Over (pos 81920000) c offset_vector.z = offset_over (grid z) r in
+    let rise = dot_over (pos 81920000) (pos 10000) a b c p q r offset_vector point first_over second_over third_over (point_over p) (point_over q) (point_over r) in
+    let offset_dot_over = dot_over (pos 81920000) (pos 81920000) a b c a b c offset_vector offset_vector first_over second_over third_over first_over second_over third_over in
+    let point_dot_over = dot_over (pos 10000) (pos 10000) p q r p q r point point (point_over p) (point_over q) (point_over r) (point_over p) (point_over q) (point_over r) in
     let k : ℤ = dot3 a b c p q r in
     let m : ℤ = dot3 a b c a b c in
     let n : ℤ = dot3 p q r p q r in
     record {
       rise = rise;
-      mask_is = over_times (pos 671088640000000000000000) (pos (mask * mask)) (m *ℤ n) (mul_r (square v) (square w)) (over_mul (pos 6710886400000000) (pos 100000000) m n (square v) (square w) s t);
-      height_is = over_times (pos 671088640000000000000000) (pos 1000000) (k *ℤ k) (mul_r (dot v w) (dot v w)) (over_mul (pos 819200000000) (pos 819200000000) k k (dot v w) (dot v w) rise rise);
+      mask_is = over_times (pos 671088640000000000000000) (pos (mask * mask)) (m *ℤ n) (mul_r (square offset_vector) (square point)) (over_mul (pos 6710886400000000) (pos 100000000) m n (square offset_vector) (square point) offset_dot_over point_dot_over);
+      height_is = over_times (pos 671088640000000000000000) (pos 1000000) (k *ℤ k) (mul_r (dot offset_vector point) (dot offset_vector point)) (over_mul (pos 819200000000) (pos 819200000000) k k (dot offset_vector point) (dot offset_vector point) rise rise);
     }
 
 pub is_above : (mask : ℕ) (d s t : ℤ) (seen point : Place) → AreSides mask d s t seen point → pos 0 ≤ℤ d
@@ -144,9 +144,9 @@ decided_place T mask x y z p q r untrue up =
     let d : ℤ = dot3 (offset x p) (offset y q) (offset z r) p q r in
     let s : ℤ = dot3 (offset x p) (offset y q) (offset z r) (offset x p) (offset y q) (offset z r) in
     let t : ℤ = dot3 p q r p q r in
-    let e = sides mask x y z p q r in
+    let are_sides = sides mask x y z p q r in
     by_lt_z d (pos 0)
-    (λ l. falls mask d s t (grid_place x y z) (point_of p q r) e l)
+    (λ l. falls mask d s t (grid_place x y z) (point_of p q r) are_sides l)
     (λ l. by_lt_z ((pos 1000 *ℤ d) *ℤ (pos 1000 *ℤ d)) ((pos (mask * mask) *ℤ s) *ℤ t)
-    (λ k. is_low mask d s t (grid_place x y z) (point_of p q r) e k)
+    (λ k. is_low mask d s t (grid_place x y z) (point_of p q r) are_sides k)
     (λ k. absurd (untrue (up (l, k)))))

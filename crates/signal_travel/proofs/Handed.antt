@@ -15,7 +15,7 @@ same_point s a b c x y z e f = same a b c x y z (cc) (cc) (cc)
     same a b c x y z e f g = rw (e, f, g) refl
 
 pub held : (s : List (Iv 36)) (b : VectorBox) (p : Place) → s ≡ b.x ∷ b.y ∷ b.z ∷ [] → HoldsPlace s p → HoldsVector b p
-held s b p e h = let k : HoldsPlace (b.x ∷ b.y ∷ b.z ∷ []) p = subst (λ (t : List (Iv 36)). HoldsPlace t p) e h in (k.0, k.1.0, k.1.1.0)
+held s b p e h = let holds_place : HoldsPlace (b.x ∷ b.y ∷ b.z ∷ []) p = subst (λ (t : List (Iv 36)). HoldsPlace t p) e h in (holds_place.0, holds_place.1.0, holds_place.1.1.0)
 
 pub all_narrow : (x y z : Iv 36) (w : ℤ) → (width_of x ≤ℤ w) × (width_of y ≤ℤ w) × (width_of z ≤ℤ w) → All (λ (b : Iv 36). width_of b ≤ℤ w) (x ∷ y ∷ z ∷ [])
 all_narrow x y z w h zero d k = h.0

@@ -31,14 +31,14 @@ width_nn x w n = go x.lo x.hi x.ordered n
 
 gap : (v : VectorBox) (w : ℤ) → IsVectorWithin (45200000 * 2 ^ 36) v → IsVectorAtMostWide w v → (far_square v -ℤ near_square v) ≤ℤ (pos 3 *ℤ (w *ℤ (pos 2 *ℤ pos (45200000 * 2 ^ 36))))
 gap v w s n =
-    let x = one v.x w s.0 n.0 in
-    let y = one v.y w s.1 n.1 in
-    let z = one v.z w s.2 n.2 in
-    let w0 = width_nn v.x w n.0 in
+    let first_ends = one v.x w s.0 n.0 in
+    let second_ends = one v.y w s.1 n.1 in
+    let third_ends = one v.z w s.2 n.2 in
+    let width_nonnegative = width_nn v.x w n.0 in
     sum (far v.x) (far v.y) (far v.z) (near v.x) (near v.y) (near v.z) (w *ℤ (pos 2 *ℤ pos (45200000 * 2 ^ 36)))
-    (square_gap (near_end v.x.lo v.x.hi) (far_end v.x.lo v.x.hi) w (pos (45200000 * 2 ^ 36)) x.0 x.1 x.2 x.3 w0)
-    (square_gap (near_end v.y.lo v.y.hi) (far_end v.y.lo v.y.hi) w (pos (45200000 * 2 ^ 36)) y.0 y.1 y.2 y.3 w0)
-    (square_gap (near_end v.z.lo v.z.hi) (far_end v.z.lo v.z.hi) w (pos (45200000 * 2 ^ 36)) z.0 z.1 z.2 z.3 w0)
+    (square_gap (near_end v.x.lo v.x.hi) (far_end v.x.lo v.x.hi) w (pos (45200000 * 2 ^ 36)) first_ends.0 first_ends.1 first_ends.2 first_ends.3 width_nonnegative)
+    (square_gap (near_end v.y.lo v.y.hi) (far_end v.y.lo v.y.hi) w (pos (45200000 * 2 ^ 36)) second_ends.0 second_ends.1 second_ends.2 second_ends.3 width_nonnegative)
+    (square_gap (near_end v.z.lo v.z.hi) (far_end v.z.lo v.z.hi) w (pos (45200000 * 2 ^ 36)) third_ends.0 third_ends.1 third_ends.2 third_ends.3 width_nonnegative)
   where
     far : Iv 36 → ℤ
     far x = far_end x.lo x.hi *ℤ far_end x.lo x.hi
@@ -52,12 +52,12 @@ gap v w s n =
 -- the sum of the squares of the far ends, at their most
 far_most : (v : VectorBox) → IsVectorWithin (45200000 * 2 ^ 36) v → far_square v ≤ℤ pos 28943950857485999872168427520000000000
 far_most v s =
-    let x = one v.x (width_of v.x) s.0 (le_refl_ℤ (width_of v.x)) in
-    let y = one v.y (width_of v.y) s.1 (le_refl_ℤ (width_of v.y)) in
-    let z = one v.z (width_of v.z) s.2 (le_refl_ℤ (width_of v.z)) in
+    let first_ends = one v.x (width_of v.x) s.0 (le_refl_ℤ (width_of v.x)) in
+    let second_ends = one v.y (width_of v.y) s.1 (le_refl_ℤ (width_of v.y)) in
+    let third_ends = one v.z (width_of v.z) s.2 (le_refl_ℤ (width_of v.z)) in
     sum (far_end v.x.lo v.x.hi *ℤ far_end v.x.lo v.x.hi) (far_end v.y.lo v.y.hi *ℤ far_end v.y.lo v.y.hi) (far_end v.z.lo v.z.hi *ℤ far_end v.z.lo v.z.hi)
-    (square_most (near_end v.x.lo v.x.hi) (far_end v.x.lo v.x.hi) x.1 x.2 x.3) (square_most (near_end v.y.lo v.y.hi) (far_end v.y.lo v.y.hi) y.1 y.2 y.3)
-    (square_most (near_end v.z.lo v.z.hi) (far_end v.z.lo v.z.hi) z.1 z.2 z.3)
+    (square_most (near_end v.x.lo v.x.hi) (far_end v.x.lo v.x.hi) first_ends.1 first_ends.2 first_ends.3) (square_most (near_end v.y.lo v.y.hi) (far_end v.y.lo v.y.hi) second_ends.1 second_ends.2 second_ends.3)
+    (square_most (near_end v.z.lo v.z.hi) (far_end v.z.lo v.z.hi) third_ends.1 third_ends.2 third_ends.3)
   where
     sum : (a b c : ℤ) → a ≤ℤ pos 9647983619161999957389475840000000000 → b ≤ℤ pos 9647983619161999957389475840000000000
         → c ≤ℤ pos 9647983619161999957389475840000000000 → ((a +ℤ b) +ℤ c) ≤ℤ pos 28943950857485999872168427520000000000
@@ -65,13 +65,13 @@ far_most v s =
 
 near_below_far : (v : VectorBox) → IsVectorWithin (45200000 * 2 ^ 36) v → near_square v ≤ℤ far_square v
 near_below_far v s =
-    let x = one v.x (width_of v.x) s.0 (le_refl_ℤ (width_of v.x)) in
-    let y = one v.y (width_of v.y) s.1 (le_refl_ℤ (width_of v.y)) in
-    let z = one v.z (width_of v.z) s.2 (le_refl_ℤ (width_of v.z)) in
+    let first_ends = one v.x (width_of v.x) s.0 (le_refl_ℤ (width_of v.x)) in
+    let second_ends = one v.y (width_of v.y) s.1 (le_refl_ℤ (width_of v.y)) in
+    let third_ends = one v.z (width_of v.z) s.2 (le_refl_ℤ (width_of v.z)) in
     sum (far_end v.x.lo v.x.hi *ℤ far_end v.x.lo v.x.hi) (far_end v.y.lo v.y.hi *ℤ far_end v.y.lo v.y.hi) (far_end v.z.lo v.z.hi *ℤ far_end v.z.lo v.z.hi)
     (near_end v.x.lo v.x.hi *ℤ near_end v.x.lo v.x.hi) (near_end v.y.lo v.y.hi *ℤ near_end v.y.lo v.y.hi) (near_end v.z.lo v.z.hi *ℤ near_end v.z.lo v.z.hi)
-    (square_down (near_end v.x.lo v.x.hi) (far_end v.x.lo v.x.hi) x.2 x.1) (square_down (near_end v.y.lo v.y.hi) (far_end v.y.lo v.y.hi) y.2 y.1)
-    (square_down (near_end v.z.lo v.z.hi) (far_end v.z.lo v.z.hi) z.2 z.1)
+    (square_down (near_end v.x.lo v.x.hi) (far_end v.x.lo v.x.hi) first_ends.2 first_ends.1) (square_down (near_end v.y.lo v.y.hi) (far_end v.y.lo v.y.hi) second_ends.2 second_ends.1)
+    (square_down (near_end v.z.lo v.z.hi) (far_end v.z.lo v.z.hi) third_ends.2 third_ends.1)
   where
     sum : (a b c d e f : ℤ) → d ≤ℤ a → e ≤ℤ b → f ≤ℤ c → ((d +ℤ e) +ℤ f) ≤ℤ ((a +ℤ b) +ℤ c)
     sum a b c d e f h k l = omega (arith, lins)
@@ -100,8 +100,8 @@ square_ends v q r l h a = go (far_square v) (near_square v) q r (gap v (pos (2 ^
 
 pub root_least : (v : VectorBox) (q r l h : ℤ) → AreRoots v q r l h → pos 171798691840000000 ≤ℤ l
 root_least v q r l h a =
-    let s = (square_ends v q r l h a).0 in
-    last l (square_root (pos 171798691840000001) (l +ℤ pos 1) (up l a.not_negative) (go q ((l +ℤ pos 1) *ℤ (l +ℤ pos 1)) s a.low_root))
+    let low_square_bounds = (square_ends v q r l h a).0 in
+    last l (square_root (pos 171798691840000001) (l +ℤ pos 1) (up l a.not_negative) (go q ((l +ℤ pos 1) *ℤ (l +ℤ pos 1)) low_square_bounds a.low_root))
   where
     up : (l : ℤ) → pos 0 ≤ℤ l → pos 0 ≤ℤ (l +ℤ pos 1)
     up l h = omega (arith, lins)
@@ -123,9 +123,9 @@ above_zero h k = omega (arith, lins)
 
 pub root_most : (v : VectorBox) (q r l h : ℤ) → AreRoots v q r l h → h ≤ℤ pos 776180000000000000
 root_most v q r l h a =
-    let s = (square_ends v q r l h a).1 in
-    let p = above_zero h (root_positive v q r l h a) in
-    last h (square_root (h -ℤ pos 1) (pos 776179999999999999) (pos_nn 776179999999999999) (go r ((h -ℤ pos 1) *ℤ (h -ℤ pos 1)) s (a.high_root p)))
+    let high_square_bounds = (square_ends v q r l h a).1 in
+    let high_positive = above_zero h (root_positive v q r l h a) in
+    last h (square_root (h -ℤ pos 1) (pos 776179999999999999) (pos_nn 776179999999999999) (go r ((h -ℤ pos 1) *ℤ (h -ℤ pos 1)) high_square_bounds (a.high_root high_positive)))
   where
     go : (r x : ℤ) → r ≤ℤ pos 1045048800000000000 → (x *ℤ pos 1152921504606846976) <ℤ ((r *ℤ pos 576460752303423488) *ℤ pos 1152921504606846977) → x ≤ℤ pos 602455392399999998447640000000000001
     go r x h k = omega (arith, ints)
@@ -136,9 +136,9 @@ root_most v q r l h a =
 -- the squares of the ends against the roots, in units of 2^-36
 far_below : (v : VectorBox) (q r l h : ℤ) → AreRoots v q r l h → (((pos 4 *ℤ h) -ℤ pos 68) *ℤ ((pos 4 *ℤ h) -ℤ pos 68)) ≤ℤ far_square v
 far_below v q r l h a =
-    let p = root_positive v q r l h a in
+    let root_at_least = root_positive v q r l h a in
     far_root h r (far_square v) (weak (((h -ℤ pos 1) *ℤ (h -ℤ pos 1)) *ℤ pos (2 ^ 60)) ((r *ℤ pos (2 ^ 59)) *ℤ (pos (2 ^ 60) +ℤ pos 1))
-    (a.high_root (above_zero h p))) a.far (far_most v a.size) p
+    (a.high_root (above_zero h root_at_least))) a.far (far_most v a.size) root_at_least
 
 near_above : (v : VectorBox) (q r l h : ℤ) → AreRoots v q r l h → near_square v ≤ℤ (((pos 4 *ℤ l) +ℤ pos 68) *ℤ ((pos 4 *ℤ l) +ℤ pos 68))
 near_above v q r l h a = near_root l q (near_square v)
@@ -148,18 +148,18 @@ near_above v q r l h a = near_root l q (near_square v)
 -- the width of the length, where the vector is at most w wide
 pub length_width : (v : VectorBox) (q r l h w : ℤ) → AreRoots v q r l h → IsVectorAtMostWide w v → (pos 4 *ℤ ((pos 4 *ℤ h) -ℤ (pos 4 *ℤ l))) ≤ℤ ((pos 7 *ℤ w) +ℤ pos 800)
 length_width v q r l h w a n =
-    let x = one v.x w a.size.0 n.0 in
-    let y = one v.y w a.size.1 n.1 in
-    let z = one v.z w a.size.2 n.2 in
+    let first_ends = one v.x w a.size.0 n.0 in
+    let second_ends = one v.y w a.size.1 n.1 in
+    let third_ends = one v.z w a.size.2 n.2 in
     let b : ℤ = (pos 4 *ℤ l) +ℤ pos 68 in
-    let b0 = beta_nn l a.not_negative in
-    let w0 = width_nn v.x w n.0 in
-    let s = square_root (pos 4 *ℤ ((near_end v.x.lo v.x.hi +ℤ near_end v.y.lo v.y.hi) +ℤ near_end v.z.lo v.z.hi)) (pos 7 *ℤ b) (seven b b0)
+    let bound_nonnegative = beta_nn l a.not_negative in
+    let width_nonnegative = width_nn v.x w n.0 in
+    let near_root_bounded = square_root (pos 4 *ℤ ((near_end v.x.lo v.x.hi +ℤ near_end v.y.lo v.y.hi) +ℤ near_end v.z.lo v.z.hi)) (pos 7 *ℤ b) (seven b bound_nonnegative)
     (near_sum (near_end v.x.lo v.x.hi) (near_end v.y.lo v.y.hi) (near_end v.z.lo v.z.hi) b (near_above v q r l h a)) in
-    let t = square_root (pos 4 *ℤ ((pos 4 *ℤ h) -ℤ pos 68)) ((pos 4 *ℤ b) +ℤ (pos 7 *ℤ w)) (both b w b0 w0)
+    let far_root_bounded = square_root (pos 4 *ℤ ((pos 4 *ℤ h) -ℤ pos 68)) ((pos 4 *ℤ b) +ℤ (pos 7 *ℤ w)) (both b w bound_nonnegative width_nonnegative)
     (far_square_most (near_end v.x.lo v.x.hi) (near_end v.y.lo v.y.hi) (near_end v.z.lo v.z.hi) (far_end v.x.lo v.x.hi) (far_end v.y.lo v.y.hi) (far_end v.z.lo v.z.hi) w ((pos 4 *ℤ h) -ℤ pos 68) b
-    x.0 y.0 z.0 x.1 y.1 z.1 x.2 y.2 z.2 (far_below v q r l h a) (near_above v q r l h a) s w0) in
-    last h l w t
+    first_ends.0 second_ends.0 third_ends.0 first_ends.1 second_ends.1 third_ends.1 first_ends.2 second_ends.2 third_ends.2 (far_below v q r l h a) (near_above v q r l h a) near_root_bounded width_nonnegative) in
+    last h l w far_root_bounded
   where
     beta_nn : (l : ℤ) → pos 0 ≤ℤ l → pos 0 ≤ℤ ((pos 4 *ℤ l) +ℤ pos 68)
     beta_nn l h = omega (arith, ints)
@@ -190,10 +190,10 @@ length_reach v q r l h w a n =
     let y : ℤ = near_end v.y.lo v.y.hi in
     let z : ℤ = near_end v.z.lo v.z.hi in
     let b : ℤ = (pos 4 *ℤ l) +ℤ pos 68 in
-    let e = near_above v q r l h a in (
-      reach v.x b l w a.size.0 n.0 a.not_negative (first x y z b e),
-      reach v.y b l w a.size.1 n.1 a.not_negative (second x y z b e),
-      reach v.z b l w a.size.2 n.2 a.not_negative (third x y z b e),
+    let near_square_bounded = near_above v q r l h a in (
+      reach v.x b l w a.size.0 n.0 a.not_negative (first x y z b near_square_bounded),
+      reach v.y b l w a.size.1 n.1 a.not_negative (second x y z b near_square_bounded),
+      reach v.z b l w a.size.2 n.2 a.not_negative (third x y z b near_square_bounded),
     )
 
 -- ---- from units of 2^-34 to units of 2^-36

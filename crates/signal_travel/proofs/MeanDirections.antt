@@ -40,31 +40,31 @@ ratio_size a b c d p t c0 cd l u =
 
     low : (y : ℤ) → pos 0 <ℤ y → c ≤ℤ y → neg_ℤ (pos t) ≤ℤ floor_div (a *ℤ pos p) (unsigned_abs y)
     low y h k =
-        let f = plain y h in
-        let i : neg_ℤ (pos t) *ℤ pos (unsigned_abs y) ≡ neg_ℤ (pos t *ℤ pos (unsigned_abs y)) = same_by (pos t ∷ pos (unsigned_abs y) ∷ []) (λ t y. (ng t ⊗ y, ng (t ⊗ y))) refl in
-        let o : pos t *ℤ pos (unsigned_abs y) ≡ pos t *ℤ y = ap (λ z. pos t *ℤ z) f.1 in
-        let m : (pos t *ℤ c) ≤ℤ (pos t *ℤ y) = mul_le_left (pos t) c y (pos_nn t) k in
-        floor_greatest (a *ℤ pos p) (neg_ℤ (pos t)) (unsigned_abs y) f.0 (omega (arith, lins, i, o, m, l))
+        let size_is_plain = plain y h in
+        let negative_product_is : neg_ℤ (pos t) *ℤ pos (unsigned_abs y) ≡ neg_ℤ (pos t *ℤ pos (unsigned_abs y)) = same_by (pos t ∷ pos (unsigned_abs y) ∷ []) (λ t y. (ng t ⊗ y, ng (t ⊗ y))) refl in
+        let same_product : pos t *ℤ pos (unsigned_abs y) ≡ pos t *ℤ y = ap (λ z. pos t *ℤ z) size_is_plain.1 in
+        let product_at_most : (pos t *ℤ c) ≤ℤ (pos t *ℤ y) = mul_le_left (pos t) c y (pos_nn t) k in
+        floor_greatest (a *ℤ pos p) (neg_ℤ (pos t)) (unsigned_abs y) size_is_plain.0 (omega (arith, lins, negative_product_is, same_product, product_at_most, l))
 
     high : (y : ℤ) → pos 0 <ℤ y → c ≤ℤ y → ceil_div (b *ℤ pos p) (unsigned_abs y) ≤ℤ pos t
     high y h k =
-        let f = plain y h in
-        let o : pos t *ℤ pos (unsigned_abs y) ≡ pos t *ℤ y = ap (λ z. pos t *ℤ z) f.1 in
-        let m : (pos t *ℤ c) ≤ℤ (pos t *ℤ y) = mul_le_left (pos t) c y (pos_nn t) k in
-        ceil_least (b *ℤ pos p) (pos t) (unsigned_abs y) f.0 (omega (arith, lins, o, m, u))
+        let size_is_plain = plain y h in
+        let same_product : pos t *ℤ pos (unsigned_abs y) ≡ pos t *ℤ y = ap (λ z. pos t *ℤ z) size_is_plain.1 in
+        let product_at_most : (pos t *ℤ c) ≤ℤ (pos t *ℤ y) = mul_le_left (pos t) c y (pos_nn t) k in
+        ceil_least (b *ℤ pos p) (pos t) (unsigned_abs y) size_is_plain.0 (omega (arith, lins, same_product, product_at_most, u))
 
 -- ---- the vectors from the point to the places of a box
 pub seen_square : (b : VectorBox) (p : Point) (q : Place) → IsBetweenDistances 18900000 38100000 b.x b.y b.z → HoldsVector b q
     → IsBetween 141000000000000 2040000000000000 (square (difference q (point_of p.x p.y p.z)))
 seen_square b p q away h =
-    let s = away q.x q.y q.z h.0 h.1 h.2 in
-    vector_square q (point_of p.x p.y p.z) (record { low = s.0; high = s.1 }) (point_place p)
+    let is_away = away q.x q.y q.z h.0 h.1 h.2 in
+    vector_square q (point_of p.x p.y p.z) (record { low = is_away.0; high = is_away.1 }) (point_place p)
 
 pub seen_between : (b v : VectorBox) (p : Point) → IsBetweenDistances 18900000 38100000 b.x b.y b.z
     → ((q : Place) → HoldsVector b q → HoldsVector v (difference q (point_of p.x p.y p.z))) → HasVectorBetween 141000000000000 2040000000000000 v
 seen_between b v p away holds =
-    let s = seen_square b p (lowest b) away (lowest_held b) in
-    record { vector = difference (lowest b) (point_of p.x p.y p.z); held = holds (lowest b) (lowest_held b); far = s.low; near = s.high }
+    let square_between = seen_square b p (lowest b) away (lowest_held b) in
+    record { vector = difference (lowest b) (point_of p.x p.y p.z); held = holds (lowest b) (lowest_held b); far = square_between.low; near = square_between.high }
 
 -- within the limits of the law on the change of the range
 pub far_enough : (q : Rational) → IsBetween 141000000000000 2040000000000000 q → of_whole (pos 100000000000000) ≤ʳ q

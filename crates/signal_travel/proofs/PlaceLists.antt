@@ -23,8 +23,8 @@ pub record AreCoordinates (x y z : ℤ) : Type 0 where
   pub z_size : unsigned_abs z ≤ MOST_COORDINATE
 
 pub coordinates : (p : Point) → AreCoordinates p.x p.y p.z
-coordinates p = let s : List ℤ = p.x ∷ p.y ∷ p.z ∷ [] in record {
-  x_size = coordinate s 0 (lit< tt) p.receiver;
-  y_size = coordinate s 1 (lit< tt) p.receiver;
-  z_size = coordinate s 2 (lit< tt) p.receiver;
+coordinates p = let coordinates_of_place : List ℤ = p.x ∷ p.y ∷ p.z ∷ [] in record {
+  x_size = coordinate coordinates_of_place 0 (lit< tt) p.receiver;
+  y_size = coordinate coordinates_of_place 1 (lit< tt) p.receiver;
+  z_size = coordinate coordinates_of_place 2 (lit< tt) p.receiver;
 }

@@ -79,27 +79,27 @@ unfolding half_move
 closer sent point seen other d a b t s h o w x y =
     let u : Rational = half_move d in
     let v : Rational = two_to_minus 50 in
-    let gx = gap sent point seen a t h x in
-    let gy = gap sent point other b s h y in
-    let ga : Rational = square (difference (turned_back x.turn sent) point) in
-    let gb : Rational = square (difference (turned_back y.turn sent) point) in
-    let qa : Rational = square (difference seen point) in
-    let qb : Rational = square (difference other point) in
+    let left_gap = gap sent point seen a t h x in
+    let right_gap = gap sent point other b s h y in
+    let left_turned_square : Rational = square (difference (turned_back x.turn sent) point) in
+    let right_turned_square : Rational = square (difference (turned_back y.turn sent) point) in
+    let left_square : Rational = square (difference seen point) in
+    let right_square : Rational = square (difference other point) in
     let most : Rational = of_whole (pos 2040000000000000) in
-    let above : qa ≤ʳ ga = ≤ʳ_from_same qa ga gx.same in
-    let below : gb ≤ʳ qb = ≤ʳ_from_same gb qb (≈_sym qb gb gy.same) in
-    let range = range_root s qb y.travel_is in
-    let low = near_low (range_of s) qb range in
-    let far = root_r (of_whole (pos 11800000)) (range_of s) (root_nn (range_of s) qb range)
-    (range_least (range_of s) qb low (≤ʳ_trans (of_whole (pos 141000000000000)) gb qb gy.bounds.low below)) in
-    let nn = both_least d v o (le_pos 0 1 (lit≤ tt)) in
+    let above : left_square ≤ʳ left_turned_square = ≤ʳ_from_same left_square left_turned_square left_gap.same in
+    let below : right_turned_square ≤ʳ right_square = ≤ʳ_from_same right_turned_square right_square (≈_sym right_square right_turned_square right_gap.same) in
+    let range = range_root s right_square y.travel_is in
+    let low = near_low (range_of s) right_square range in
+    let far = root_r (of_whole (pos 11800000)) (range_of s) (root_nn (range_of s) right_square range)
+    (range_least (range_of s) right_square low (≤ʳ_trans (of_whole (pos 141000000000000)) right_turned_square right_square right_gap.bounds.low below)) in
+    let sum_nonnegative = both_least d v o (le_pos 0 1 (lit≤ tt)) in
     times_apart t s d v
     (root_r (mul_r (of_whole (pos 1000)) (range_of t)) (add_r (mul_r (of_whole (pos 1000)) (range_of s)) (mul_r (of_whole (pos 299792458)) (add_r d v)))
-    (sum_least s d v far nn)
-    (times_square t s d v u ga gb qa qb (near_high (range_of t) qa (range_root t qa x.travel_is)) low
+    (sum_least s d v far sum_nonnegative)
+    (times_square t s d v u left_turned_square right_turned_square left_square right_square (near_high (range_of t) left_square (range_root t left_square x.travel_is)) low
     (moves_slowly sent point u (mul_r earth_rate b) (mul_r earth_rate a) y.turn x.turn h y.turn_is x.turn_is (near_turns d b a y.turn x.turn (w.1, w.0) y.turn_is x.turn_is))
-    (enough d o) above below (≤ʳ_trans qa ga most above gx.bounds.high)
-    (≤ʳ_trans qb gb most (≤ʳ_from_same qb gb gy.same) gy.bounds.high) far nn))
+    (enough d o) above below (≤ʳ_trans left_square left_turned_square most above left_gap.bounds.high)
+    (≤ʳ_trans right_square right_turned_square most (≤ʳ_from_same right_square right_turned_square right_gap.same) right_gap.bounds.high) far sum_nonnegative))
   where
     enough : (d : Rational) → of_whole (pos 0) ≤ʳ d → add_r (mul_r (of_whole (pos 1152921504606846976)) (mul_r (of_whole (pos 96672000000000000)) (half_move d))) (of_whole (pos 4080000000000000))
         ≤ʳ mul_r (of_whole (pos 8157037253232621494131805388800)) (add_r d (two_to_minus 50))
@@ -113,12 +113,12 @@ record HasLight (sent point : Place) (turned : Rational) : Type 0 where
 
 light_after : (sent point : Place) (l : ℤ) → AreApart sent point → pos 0 ≤ℤ l → l ≤ℤ pos 192153584101141163 → HasLight sent point (of_scale 60 l)
 light_after sent point l h l0 l1 =
-    let s = some_turn l l0 l1 in
-    let place : Place = turned_back s.turn sent in
-    let q : Rational = square (difference place point) in
-    let bounds = vector_square place point (loosely (square place) (turned_square sent (mul_r earth_rate (of_scale 60 l)) s.turn h.is_sent s.is_pair)) h.is_receiver in
-    let r = near_root_exists (over_light_speed_squared q) (positive q bounds.low) in
-    record { seen = place; travel = r.root; is_seen = record { turn = s.turn; turn_is = s.is_pair; seen_is = (refl, refl, refl); travel_is = r.is_root } }
+    let some_turn_exists = some_turn l l0 l1 in
+    let place : Place = turned_back some_turn_exists.turn sent in
+    let square_length : Rational = square (difference place point) in
+    let bounds = vector_square place point (loosely (square place) (turned_square sent (mul_r earth_rate (of_scale 60 l)) some_turn_exists.turn h.is_sent some_turn_exists.is_pair)) h.is_receiver in
+    let has_root = near_root_exists (over_light_speed_squared square_length) (positive square_length bounds.low) in
+    record { seen = place; travel = has_root.root; is_seen = record { turn = some_turn_exists.turn; turn_is = some_turn_exists.is_pair; seen_is = (refl, refl, refl); travel_is = has_root.is_root } }
   where
     positive : (q : Rational) → of_whole (pos 141000000000000) ≤ʳ q → pos 0 <ℤ q.num
     positive q h = go q.num (pos q.den) (lt_pos 0 q.den q.positive) h
@@ -139,20 +139,20 @@ pub settled : (sent point seen : Place) (g lo hi l h : ℤ) (t : Rational) → A
     (hi -ℤ g) ≤ℤ pos 4080 → (g -ℤ lo) ≤ℤ pos 4080 → IsSeenPlace sent point t seen → InBox 60 l h t
 settled sent point seen g lo hi l h t k g0 g1 el eh holds above below is =
     let light = light_after sent point g k g0 g1 in
-    let s : Rational = light.travel in
-    let c : Rational = of_scale 60 g in
+    let travel : Rational = light.travel in
+    let guess : Rational = of_scale 60 g in
     let a : Rational = of_scale 60 (pos 4080) in
     let r : Rational = of_scale 60 (pos 4096) in
     let v : Rational = two_to_minus 50 in
-    let b = holds light.seen s light.is_seen in
-    let x = is_after sent point seen t is in
-    go (≤ʳ_total c t)
-    (λ o. not_late t s c a r v
-    (closer sent point seen light.seen (sub_r t c) t c t s k (less_least t c o) (≤ʳ_from_same (sub_r t c) (sub_r t c) refl, less_back t c o) x light.is_seen)
-    (≤ʳ_trans s (of_scale 60 hi) (add_r c a) b.1 (up hi g above)) reach_enough)
-    (λ o. not_early t s c a r v
-    (closer sent point light.seen seen (sub_r c t) c t s t k (less_least c t o) (≤ʳ_from_same (sub_r c t) (sub_r c t) refl, less_back c t o) light.is_seen x)
-    (≤ʳ_trans (sub_r c a) (of_scale 60 lo) s (down lo g below) b.0) reach_enough)
+    let travel_in_box = holds light.seen travel light.is_seen in
+    let is_seen_after = is_after sent point seen t is in
+    go (≤ʳ_total guess t)
+    (λ o. not_late t travel guess a r v
+    (closer sent point seen light.seen (sub_r t guess) t guess t travel k (less_least t guess o) (≤ʳ_from_same (sub_r t guess) (sub_r t guess) refl, less_back t guess o) is_seen_after light.is_seen)
+    (≤ʳ_trans travel (of_scale 60 hi) (add_r guess a) travel_in_box.1 (up hi g above)) reach_enough)
+    (λ o. not_early t travel guess a r v
+    (closer sent point light.seen seen (sub_r guess t) guess t travel t k (less_least guess t o) (≤ʳ_from_same (sub_r guess t) (sub_r guess t) refl, less_back guess t o) light.is_seen is_seen_after)
+    (≤ʳ_trans (sub_r guess a) (of_scale 60 lo) travel (down lo g below) travel_in_box.0) reach_enough)
   where
     up : (hi g : ℤ) → (hi -ℤ g) ≤ℤ pos 4080 → of_scale 60 hi ≤ʳ add_r (of_scale 60 g) (of_scale 60 (pos 4080))
     up hi g h = omega (arith, ints)
@@ -184,8 +184,8 @@ pub all_around : (sent : SentBox) (point : Point) (box travel : Iv 60) (x : ℤ)
     (travel.hi -ℤ x) ≤ℤ pos 4080 → (x -ℤ travel.lo) ≤ℤ pos 4080 →
     (p seen : Place) (t : Rational) → HoldsVector sent.place p → IsSeenPlace p (point_of point.x point.y point.z) t seen → Holds box t
 all_around sent point box travel x low high el eh light above below p seen t h s =
-    let q : Place = point_of point.x point.y point.z in
-    settled p q seen x travel.lo travel.hi box.lo box.hi t (record { is_sent = sent.away p.x p.y p.z h.0 h.1 h.2; is_receiver = point_place point })
+    let place : Place = point_of point.x point.y point.z in
+    settled p place seen x travel.lo travel.hi box.lo box.hi t (record { is_sent = sent.away p.x p.y p.z h.0 h.1 h.2; is_receiver = point_place point })
     (least x low) (most x high) el eh
     (λ other u r. light p other (of_scale 60 x) u h (end_in 60 box.lo box.hi x (first box.lo x el) (last box.hi x eh)) r) above below s
   where

@@ -63,8 +63,8 @@ pub record IsSomeTurn (t : Rational) : Type 0 where
 
 pub some_turn : (l : ℤ) → pos 0 ≤ℤ l → l ≤ℤ pos 192153584101141163 → IsSomeTurn (of_scale 60 l)
 some_turn l h k =
-    let x = canonical_exists 5 (mul_r earth_rate (of_scale 60 l)) (go l h k) in
-    record { turn = record { cos = x.0; sin = x.1 }; is_pair = canonical_is_pair 5 (mul_r earth_rate (of_scale 60 l)) x.0 x.1 x.2 }
+    let canonical_pair = canonical_exists 5 (mul_r earth_rate (of_scale 60 l)) (go l h k) in
+    record { turn = record { cos = canonical_pair.0; sin = canonical_pair.1 }; is_pair = canonical_is_pair 5 (mul_r earth_rate (of_scale 60 l)) canonical_pair.0 canonical_pair.1 canonical_pair.2 }
   where
     go : (l : ℤ) → pos 0 ≤ℤ l → l ≤ℤ pos 192153584101141163 → 2 * unsigned_abs (pos 72921151467 *ℤ l) ≤ 2 ^ 5 * (10 ^ 15 * 2 ^ 60)
     go l h k = omega (arith, ints)
@@ -78,12 +78,12 @@ pub record HasTurned (b : VectorBox) : Type 0 where
 pub turned_in : (sent b : VectorBox) (tl th : ℤ) → IsBetweenDistances 19000000 38000000 sent.x sent.y sent.z → pos 0 ≤ℤ tl → tl ≤ℤ th → th ≤ℤ pos 192153584101141163 →
     ((t : Rational) (pair : Pair) → InBox 60 tl th t → IsAnglePair 5 (mul_r earth_rate t) pair.cos pair.sin → (p : Place) → HoldsVector sent p → HoldsVector b (turned_back pair p)) → HasTurned b
 turned_in sent b tl th away t0 o t1 holds =
-    let s = some_turn tl t0 (through tl th o t1) in
-    let p : Place = lowest sent in
+    let some_turn_exists = some_turn tl t0 (through tl th o t1) in
+    let lowest_place : Place = lowest sent in
     record {
-      place = turned_back s.turn p;
-      held = holds (of_scale 60 tl) s.turn (end_in 60 tl th tl (le_refl_ℤ tl) o) s.is_pair p (lowest_held sent);
-      bounds = turned_square p (mul_r earth_rate (of_scale 60 tl)) s.turn (lowest_sent sent away) s.is_pair;
+      place = turned_back some_turn_exists.turn lowest_place;
+      held = holds (of_scale 60 tl) some_turn_exists.turn (end_in 60 tl th tl (le_refl_ℤ tl) o) some_turn_exists.is_pair lowest_place (lowest_held sent);
+      bounds = turned_square lowest_place (mul_r earth_rate (of_scale 60 tl)) some_turn_exists.turn (lowest_sent sent away) some_turn_exists.is_pair;
     }
   where
     through : (a b : ℤ) → a ≤ℤ b → b ≤ℤ pos 192153584101141163 → a ≤ℤ pos 192153584101141163
@@ -92,8 +92,8 @@ turned_in sent b tl th away t0 o t1 holds =
 -- the vector from the point to it
 pub between : (b v : VectorBox) (p : Point) → HasTurned b → ((q : Place) → HoldsVector b q → HoldsVector v (difference q (point_of p.x p.y p.z))) → HasVectorBetween 141000000000000 2040000000000000 v
 between b v p h holds =
-    let s = vector_square h.place (point_of p.x p.y p.z) (loosely (square h.place) h.bounds) (point_place p) in
-    record { vector = difference h.place (point_of p.x p.y p.z); held = holds h.place h.held; far = s.low; near = s.high }
+    let square_between = vector_square h.place (point_of p.x p.y p.z) (loosely (square h.place) h.bounds) (point_place p) in
+    record { vector = difference h.place (point_of p.x p.y p.z); held = holds h.place h.held; far = square_between.low; near = square_between.high }
 
 -- ---- two places in a narrow box are near each other
 apart : (a x h l : Rational) → a ≤ʳ h → l ≤ʳ x → sub_r h l ≤ʳ of_whole (pos 1) → sub_r a x ≤ʳ of_whole (pos 1)
@@ -107,10 +107,10 @@ near b p q w h k = apart p q (of_scale 36 b.hi) (of_scale 36 b.lo) h.1 k.0 (go b
 
 pub all_away : (b : VectorBox) → HasTurned b → IsVectorAtMostWide (pos (2 ^ 19)) b → IsBetweenDistances 18900000 38100000 b.x b.y b.z
 all_away b r n x y z ix iy iz =
-    let p : Place = r.place in
-    let k = r.held in (
-      place_far p.x p.y p.z x y z r.bounds.low r.bounds.high (near b.x x p.x n.0 ix k.0) (near b.x p.x x n.0 k.0 ix) (near b.y y p.y n.1 iy k.1)
-          (near b.y p.y y n.1 k.1 iy) (near b.z z p.z n.2 iz k.2) (near b.z p.z z n.2 k.2 iz),
-      place_near p.x p.y p.z x y z r.bounds.low r.bounds.high (near b.x x p.x n.0 ix k.0) (near b.x p.x x n.0 k.0 ix) (near b.y y p.y n.1 iy k.1)
-          (near b.y p.y y n.1 k.1 iy) (near b.z z p.z n.2 iz k.2) (near b.z p.z z n.2 k.2 iz),
+    let place : Place = r.place in
+    let is_held = r.held in (
+      place_far place.x place.y place.z x y z r.bounds.low r.bounds.high (near b.x x place.x n.0 ix is_held.0) (near b.x place.x x n.0 is_held.0 ix) (near b.y y place.y n.1 iy is_held.1)
+          (near b.y place.y y n.1 is_held.1 iy) (near b.z z place.z n.2 iz is_held.2) (near b.z place.z z n.2 is_held.2 iz),
+      place_near place.x place.y place.z x y z r.bounds.low r.bounds.high (near b.x x place.x n.0 ix is_held.0) (near b.x place.x x n.0 is_held.0 ix) (near b.y y place.y n.1 iy is_held.1)
+          (near b.y place.y y n.1 is_held.1 iy) (near b.z z place.z n.2 iz is_held.2) (near b.z place.z z n.2 is_held.2 iz),
     )

@@ -11,8 +11,8 @@ use Rattle.sim_jobs.specs.Matches.{IsDatumOf, AreMarked}
 -- ---- links go both ways, and one after another
 neighbours_back : (arcs : List Arc) (k m : ℕ) → AreNeighbours arcs k m → AreNeighbours arcs m k
 neighbours_back arcs k m near =
-    let s = near.share in
-    record { one = near.other; other = near.one; one_is = near.other_is; other_is = near.one_is; share = (s.0, s.3, s.4, s.1, s.2) }
+    let share_of_both = near.share in
+    record { one = near.other; other = near.one; one_is = near.other_is; other_is = near.one_is; share = (share_of_both.0, share_of_both.3, share_of_both.4, share_of_both.1, share_of_both.2) }
 
 chain_append : (arcs : List Arc) (k : ℕ) (path : List ℕ) (m : ℕ) (more : List ℕ) (n : ℕ) → IsChain arcs k path m → IsChain arcs m more n → IsChain arcs k (path ++ more) n
 chain_append arcs k [] m more n first second = subst (λ (j : ℕ). IsChain arcs j more n) (sym first) second
@@ -90,8 +90,8 @@ reached : (arcs : List Arc) (k : ℕ) (a : Arc) → AreMarked arcs → slice_get
 reached arcs k a marked is free =
     ⊎_elim (λ (found : Reaches arcs k a). found)
     (λ (none : IsFresh arcs k a).
-    let on : IsTrue a.datum = (marked.datums k a is).1 (λ n linked. chain_stays arcs k a marked.order.rising is none linked.0 k n (omega arith) linked.1) in
-    absurd (cc (on, free)))
+    let arc_is_datum : IsTrue a.datum = (marked.datums k a is).1 (λ n linked. chain_stays arcs k a marked.order.rising is none linked.0 k n (omega arith) linked.1) in
+    absurd (cc (arc_is_datum, free)))
     (reaches_or_not arcs k k a is (omega arith))
 
 -- a chain from arc k back to the datum d, over at most `bound` arcs
@@ -102,20 +102,20 @@ linked_to (suc bound) arcs d k e a marked at datum is low high none =
     ⊎_elim (λ (same : d ≡ k). subst (λ (n : ℕ). AreLinked arcs k n) (sym same) (linked_same arcs k))
     (λ (other : d ≡ k → ⊥).
     let less : d < k = omega arith in
-    let r : Reaches arcs k a = reached arcs k a marked is (none k a less (omega arith) is) in
-    let m : ℕ = r.place in
-    let near : AreNeighbours arcs k m = share_first arcs k m a r.arc marked.order.rising (marked.order.forward k a is) is r.is r.before r.reaches in
-    let below : d ≤ m =
+    let reaches_arc : Reaches arcs k a = reached arcs k a marked is (none k a less (omega arith) is) in
+    let place_before : ℕ = reaches_arc.place in
+    let near : AreNeighbours arcs k place_before = share_first arcs k place_before a reaches_arc.arc marked.order.rising (marked.order.forward k a is) is reaches_arc.is reaches_arc.before reaches_arc.reaches in
+    let below : d ≤ place_before =
     ⊎_elim
-    (λ (earlier : m < d).
+    (λ (earlier : place_before < d).
     let rise : e.first ≤ a.first = marked.order.rising d k e a less at is in
-    let reach : a.first ≤ r.arc.last = r.reaches in
-    let with : AreNeighbours arcs d m = share_first arcs d m e r.arc marked.order.rising (marked.order.forward d e at) at r.is earlier (omega (arith, rise, reach)) in
-    let first : d ≤ m = (marked.datums d e at).0 datum m (linked_next arcs d m with) in
+    let reach : a.first ≤ reaches_arc.arc.last = reaches_arc.reaches in
+    let with : AreNeighbours arcs d place_before = share_first arcs d place_before e reaches_arc.arc marked.order.rising (marked.order.forward d e at) at reaches_arc.is earlier (omega (arith, rise, reach)) in
+    let first : d ≤ place_before = (marked.datums d e at).0 datum place_before (linked_next arcs d place_before with) in
     first)
-    (λ (more : d ≤ m). more) (cases_lt m d) in
-    let before : m < k = r.before in
-    linked_through arcs k m d (linked_next arcs k m near) (linked_to bound arcs d m e r.arc marked at datum r.is below (omega (arith, before))
+    (λ (more : d ≤ place_before). more) (cases_lt place_before d) in
+    let before : place_before < k = reaches_arc.before in
+    linked_through arcs k place_before d (linked_next arcs k place_before near) (linked_to bound arcs d place_before e reaches_arc.arc marked at datum reaches_arc.is below (omega (arith, before))
     (λ j b from to found. none j b from (omega (arith, before)) found)))
     (cases_eq d k)
 

@@ -134,12 +134,12 @@ shared bands system number galileo = by (system == 69) refl
 
 -- ---- their epochs are sparse
 one_later : (step i m : ℕ) → step * (i + 1 + m) ≡ step * (i + suc m)
-one_later step i m = ap (λ (n : ℕ). step * n) (let e : i + 1 + m ≡ i + suc m = omega arith in e)
+one_later step i m = ap (λ (n : ℕ). step * n) (let later_index_is : i + 1 + m ≡ i + suc m = omega arith in later_index_is)
 
 tag_at : (t : Tracking) (step i : ℕ) (values : List (List made.Signals)) (m : ℕ) → m < length (tags_of (epochs_of t step i values))
     → slice_index (tags_of (epochs_of t step i values)) m ≡ 13_881_024_000_000_000 + step * (i + m) * 10_000_000
 tag_at t step i [] m inside = absurd (omega (arith, inside))
-tag_at t step i (sats ∷ values) zero inside = ap (λ (n : ℕ). 13_881_024_000_000_000 + step * n * 10_000_000) (let e : i ≡ i + 0 = omega arith in e)
+tag_at t step i (sats ∷ values) zero inside = ap (λ (n : ℕ). 13_881_024_000_000_000 + step * n * 10_000_000) (let same_index : i ≡ i + 0 = omega arith in same_index)
 tag_at t step i (sats ∷ values) (suc m) inside =
     tag_at t step (i + 1) values m (omega (arith, inside)) ∙ ap (λ (n : ℕ). 13_881_024_000_000_000 + n * 10_000_000) (one_later step i m)
 
@@ -150,7 +150,7 @@ far_apart step m low high some at next =
 
 first_at : (t : Tracking) (step : ℕ) (values : List (List made.Signals)) (m : ℕ) → m < length (tags_of (epochs_of t step 0 values))
     → slice_index (tags_of (epochs_of t step 0 values)) m ≡ 13_881_024_000_000_000 + step * m * 10_000_000
-first_at t step values m inside = tag_at t step 0 values m inside ∙ ap (λ (n : ℕ). 13_881_024_000_000_000 + step * n * 10_000_000) (let e : 0 + m ≡ m = omega arith in e)
+first_at t step values m inside = tag_at t step 0 values m inside ∙ ap (λ (n : ℕ). 13_881_024_000_000_000 + step * n * 10_000_000) (let zero_plus_is : 0 + m ≡ m = omega arith in zero_plus_is)
 
 apart : (t : Tracking) (step : ℕ) (values : List (List made.Signals)) → 0 < step → AreApart DEFAULT_GAP (tags_of (epochs_of t step 0 values))
 apart t step values some = λ m inside. far_apart step m _ _ some (first_at t step values m (omega (arith, inside))) (first_at t step values (m + 1) inside)
@@ -184,25 +184,25 @@ made_admitted seed epochs sats bands system told base rover nav o few small numb
     let rover_file = (rover_reads seed epochs sats bands system rover few small rover_is).has in
     let records = navigation_reads sats system nav small is_system nav_is in
     let step : ℕ = step_of epochs in
-    let t : Tracking = tracking_of bands system in
-    let s : System = system_of o.system in
-    let same : system_of system ≡ s = ap system_of (sym (system_on bands system o on)) in
+    let tracking : Tracking = tracking_of bands system in
+    let named_system : System = system_of o.system in
+    let same : system_of system ≡ named_system = ap system_of (sym (system_on bands system o on)) in
     let base_values = base_file.values in
     let rover_values = rover_file.values in
-    let base_obs : IsObservation s (lines_of base) (file_of t step base_values) = observation_as (system_of system) s (lines_of base) (file_of t step base_values) same base_file.reads in
-    let rover_obs : IsObservation s (lines_of rover) (file_of t step rover_values) = observation_as (system_of system) s (lines_of rover) (file_of t step rover_values) same rover_file.reads in
-    let nav_file : IsNavFile s (lines_of nav) (raws_of records.records) = subst (λ (s : System). IsNavFile s (lines_of nav) (raws_of records.records)) same records.has in
-    let base_as = λ (b : ObsFile) (of : IsObsOf s told (codes "base") b). file_read s told (codes "base") base (file_of t step base_values) b base_told base_obs of in
-    let rover_as = λ (r : ObsFile) (of : IsObsOf s told (codes "rover") r). file_read s told (codes "rover") rover (file_of t step rover_values) r rover_told rover_obs of in
-    let share : HaveSignals (bands_of bands) (file_of t step base_values) (file_of t step rover_values) = shared bands system number galileo step base_values rover_values in
-    let signals : HaveSignals (bands_of o.bands) (file_of t step base_values) (file_of t step rover_values) =
-    subst (λ (n : ℕ). HaveSignals (bands_of n) (file_of t step base_values) (file_of t step rover_values)) (sym (bands_on bands system o on)) share in
-    let gap : AreSparse o.gap (file_of t step base_values) (file_of t step rover_values) = sparse t epochs o.gap base_values rover_values (gap_on bands system o on) in
+    let base_obs : IsObservation named_system (lines_of base) (file_of tracking step base_values) = observation_as (system_of system) named_system (lines_of base) (file_of tracking step base_values) same base_file.reads in
+    let rover_obs : IsObservation named_system (lines_of rover) (file_of tracking step rover_values) = observation_as (system_of system) named_system (lines_of rover) (file_of tracking step rover_values) same rover_file.reads in
+    let nav_file : IsNavFile named_system (lines_of nav) (raws_of records.records) = subst (λ (named_system : System). IsNavFile named_system (lines_of nav) (raws_of records.records)) same records.has in
+    let base_as = λ (b : ObsFile) (of : IsObsOf named_system told (codes "base") b). file_read named_system told (codes "base") base (file_of tracking step base_values) b base_told base_obs of in
+    let rover_as = λ (r : ObsFile) (of : IsObsOf named_system told (codes "rover") r). file_read named_system told (codes "rover") rover (file_of tracking step rover_values) r rover_told rover_obs of in
+    let share : HaveSignals (bands_of bands) (file_of tracking step base_values) (file_of tracking step rover_values) = shared bands system number galileo step base_values rover_values in
+    let signals : HaveSignals (bands_of o.bands) (file_of tracking step base_values) (file_of tracking step rover_values) =
+    subst (λ (n : ℕ). HaveSignals (bands_of n) (file_of tracking step base_values) (file_of tracking step rover_values)) (sym (bands_on bands system o on)) share in
+    let gap : AreSparse o.gap (file_of tracking step base_values) (file_of tracking step rover_values) = sparse tracking epochs o.gap base_values rover_values (gap_on bands system o on) in
     record {
       base_is = record { text = base; told_is = base_told; fits = omega (arith, base_fits); file = (_, base_obs) };
       rover_is = record { text = rover; told_is = rover_told; fits = omega (arith, rover_fits); file = (_, rover_obs) };
       nav_is = record { text = nav; told_is = nav_told; fits = omega (arith, nav_fits); file = (_, nav_file) };
-      position = λ b of. subst HasPosition (sym (base_as b of)) (has_position t step base_values);
-      signals = λ b r of also. two_as t step base_values rover_values b r (HaveSignals (bands_of o.bands)) (base_as b of) (rover_as r also) signals;
-      sparse = λ b r of also. two_as t step base_values rover_values b r (AreSparse o.gap) (base_as b of) (rover_as r also) gap;
+      position = λ b of. subst HasPosition (sym (base_as b of)) (has_position tracking step base_values);
+      signals = λ b r of also. two_as tracking step base_values rover_values b r (HaveSignals (bands_of o.bands)) (base_as b of) (rover_as r also) signals;
+      sparse = λ b r of also. two_as tracking step base_values rover_values b r (AreSparse o.gap) (base_as b of) (rover_as r also) gap;
     }

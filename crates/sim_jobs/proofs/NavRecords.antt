@@ -149,10 +149,10 @@ sized (negsuc n) l h = omega (arith, ints)
 
 small_node : (l a : ℤ) → unsigned_abs l ≤ 9 → unsigned_abs a ≤ 9 → unsigned_abs ((pos 10 *ℤ l) -ℤ (pos 6 *ℤ a)) < 10 ^ 6
 small_node l a p q =
-    let l1 = low l p in
-    let l2 = high l p in
-    let a1 = low a q in
-    let a2 = high a q in
+    let letter_at_least = low l p in
+    let letter_at_most = high l p in
+    let anomaly_at_least = low a q in
+    let anomaly_at_most = high a q in
     sized ((pos 10 *ℤ l) -ℤ (pos 6 *ℤ a)) (omega (arith, ints)) (omega (arith, ints))
 
 small_root : (system : System) → unsigned_abs (root_a_tenths (letter_of system)) < 10 ^ 6

@@ -56,14 +56,14 @@ few_places mant n m p low high places same = by (unsigned_abs n) refl
     far_fails a is one far =
         let more : 1 * 10 ^ suc m ≤ a * 10 ^ suc m = mul-le-mul_right (10 ^ suc m) one in
         let size : unsigned_abs mant * 10 ^ p ≡ a * 10 ^ suc m = sizes ∙ ap (λ (x : ℕ). x * 10 ^ suc m) is in
-        let at = above m far in
-        let l = left in
+        let power_at_least = above m far in
+        let product_at_most = left in
         omega arith
 
     nothing : unsigned_abs n ≡ 0 → ⊥
     nothing is =
         let size : unsigned_abs mant * 10 ^ p ≡ 0 * 10 ^ suc m = sizes ∙ ap (λ (x : ℕ). x * 10 ^ suc m) is in
-        let s = some in
+        let product_at_least = some in
         omega arith
 
     by : (a : ℕ) → unsigned_abs n ≡ a → m < 33

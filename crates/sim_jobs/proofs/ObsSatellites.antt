@@ -85,7 +85,7 @@ values_given : (t : Tracking) (n : ℕ) (s : Signals) → AreInColumns s → val
 unfolding content the_kept
 values_given t n s room =
     values_read (content t n s) 0 (types_of t) (amounts_of t s) missing_values (as_many t s) (have_room t s room) refl
-    ∙ ap (λ (values : List (Option Value)). let r : Result (List (Option Value)) Flaw = Ok values in r) (values_are t s)
+    ∙ ap (λ (values : List (Option Value)). let given : Result (List (Option Value)) Flaw = Ok values in given) (values_are t s)
 
 -- ---- the satellite's number
 digit_is : (d : ℕ) → d < 10 → digit_of (48 + d) ≡ Some d

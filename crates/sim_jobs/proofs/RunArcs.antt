@@ -24,9 +24,9 @@ in_order : (bands : List ℕ) (jump least : ℕ) (used : List UsedPair) (kept : 
 in_order bands jump least used kept short are = record {
   forward = λ k a is. (kept_each bands jump least used kept short k a are is).0.run.order;
   rising = λ m k b a before first second.
-      let rs : List Run = filter (is_long least) are.runs in
-      let pairs : AllPairs Precedes rs = AllPairs-filter Precedes (is_long least) are.runs are.all.order in
-      no_later (run_of b) (run_of a) (precedes_at rs m k (run_of b) (run_of a) pairs before
+      let long_runs : List Run = filter (is_long least) are.runs in
+      let pairs : AllPairs Precedes long_runs = AllPairs-filter Precedes (is_long least) are.runs are.all.order in
+      no_later (run_of b) (run_of a) (precedes_at long_runs m k (run_of b) (run_of a) pairs before
       (kept_at bands jump least used kept short m b are first) (kept_at bands jump least used kept short k a are second));
 }
 

@@ -25,7 +25,7 @@ no_read_fault false e = absurd (cc e)
 -- an outcome is no read fault, and neither is a refusal
 pub end_no_fault : (o : Options) (seed epochs sats bands : ℕ) (b r : ObsFile) (n : Records) (end : Ending) → SimRunEnd o seed epochs sats bands b r n end → end.status ≢ ReadFault
 end_no_fault o seed epochs sats bands b r n end (inl found) is = no_read_fault (is_fixed found.outcome.answer) (sym (ap (λ (e : Ending). e.status) found.end_is) ∙ is)
-end_no_fault o seed epochs sats bands b r n end (inr refused) is = let s : end.status ≡ Refused = ap (λ (e : Ending). e.status) refused.end_is in absurd (cc (s, is))
+end_no_fault o seed epochs sats bands b r n end (inr refused) is = let status_is : end.status ≡ Refused = ap (λ (e : Ending). e.status) refused.end_is in absurd (cc (status_is, is))
 
 pub ends_found : (seed epochs sats bands system : ℕ) (told : List ℕ → Option (List ℕ)) (o : Options) (of : System) (b r : ObsFile) (n : Records) (end : Ending)
     → AreMadeFiles seed epochs sats bands system told → AreOptionsOn bands system o → AreAdmitted told (codes "base") (codes "rover") (codes "nav") o → of ≡ system_of o.system

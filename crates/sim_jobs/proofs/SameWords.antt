@@ -24,8 +24,8 @@ same_record letter k e f one other n m =
     let af1 : e.af1 ≡ f.af1 = one_number e.af1 f.af1 (decimal (pos 1) 12) n.af1 m.af1 one.af1 other.af1 in
     let af2 : e.af2 ≡ f.af2 = one_number e.af2 f.af2 (of_whole (pos 0)) n.af2 m.af2 one.af2 other.af2 in
     let crs : e.crs ≡ f.crs = one_number e.crs f.crs (of_whole (pos 0)) n.crs m.crs one.crs other.crs in
-    let dn : e.dn ≡ f.dn = one_number e.dn f.dn (decimal (pos 45) 10) n.dn m.dn one.dn other.dn in
-    let m0 : e.m0 ≡ f.m0 = one_number e.m0 f.m0 (decimal (anomaly k) 1) n.m0 m.m0 one.m0 other.m0 in
+    let same_motion : e.dn ≡ f.dn = one_number e.dn f.dn (decimal (pos 45) 10) n.dn m.dn one.dn other.dn in
+    let same_anomaly : e.m0 ≡ f.m0 = one_number e.m0 f.m0 (decimal (anomaly k) 1) n.m0 m.m0 one.m0 other.m0 in
     let cuc : e.cuc ≡ f.cuc = one_number e.cuc f.cuc (decimal (pos 1) 6) n.cuc m.cuc one.cuc other.cuc in
     let ecc : e.ecc ≡ f.ecc = one_number e.ecc f.ecc (decimal (pos (k + 1)) 3) n.ecc m.ecc one.ecc other.ecc in
     let cus : e.cus ≡ f.cus = one_number e.cus f.cus (of_whole (pos 0)) n.cus m.cus one.cus other.cus in
@@ -38,7 +38,7 @@ same_record letter k e f one other n m =
     let peri : e.peri ≡ f.peri = one_number e.peri f.peri (of_whole (pos 0)) n.peri m.peri one.peri other.peri in
     let node_rate : e.node_rate ≡ f.node_rate = one_number e.node_rate f.node_rate (decimal (negsuc 7) 9) n.node_rate m.node_rate one.node_rate other.node_rate in
     let incl_rate : e.incl_rate ≡ f.incl_rate = one_number e.incl_rate f.incl_rate (of_whole (pos 0)) n.incl_rate m.incl_rate one.incl_rate other.incl_rate in
-    rw (sat, af0, af1, af2, crs, dn, m0, cuc, ecc, cus, root_a, cic, longitude, cis, incl, crc, peri, node_rate, incl_rate) refl
+    rw (sat, af0, af1, af2, crs, same_motion, same_anomaly, cuc, ecc, cus, root_a, cic, longitude, cis, incl, crc, peri, node_rate, incl_rate) refl
 
 same_records : (letter k : ℕ) (es fs : List Eph) → length es ≡ length fs → AreSatellites letter k es → AreSatellites letter k fs → record_texts letter es ≡ record_texts letter fs
 same_records letter k [] [] count one other = refl

@@ -54,17 +54,17 @@ tracked bands system = by (has_l5 bands) (system == 69)
 observed_reads : (epochs bands system : ℕ) (point : List ℤ) (clock : ℤ) (records : List Eph) (cycles : List (List ℤ)) (text : List ℕ) → epochs ≤ MOST_PAIRS → length records ≤ 15 →
     IsObservationText epochs (tracking_of bands system) (world_of system) point clock records cycles text → ReadsAsObserved epochs bands system point clock records cycles text
 observed_reads epochs bands system point clock records cycles text few small is =
-    let t : Tracking = tracking_of bands system in
+    let tracking : Tracking = tracking_of bands system in
     let rooms : All HaveRoom is.values = λ k d lt. record { few = omega (arith, (is.observed k d lt).as_many); columns = (is.observed k d lt).columns } in
     let day : step_of epochs * length is.values ≤ 86400 = subst (λ (n : ℕ). step_of epochs * n ≤ 86400) (sym is.count) (two_hours epochs few) in
-    let reads : IsObsFile (system_in t) (lines_of text) (file_of t (step_of epochs) is.values) =
-    subst (λ (l : List ℕ). IsObsFile (system_in t) (lines_of l) (file_of t (step_of epochs) is.values)) (sym is.text_is)
-    (observations.file_is t (step_of epochs) is.values (step_some epochs) day (omega (arith, is.count)) rooms) in
+    let reads : IsObsFile (system_in tracking) (lines_of text) (file_of tracking (step_of epochs) is.values) =
+    subst (λ (l : List ℕ). IsObsFile (system_in tracking) (lines_of l) (file_of tracking (step_of epochs) is.values)) (sym is.text_is)
+    (observations.file_is tracking (step_of epochs) is.values (step_some epochs) day (omega (arith, is.count)) rooms) in
     record {
       values = is.values;
       count = is.count;
       observed = is.observed;
-      reads = subst (λ (s : System). IsObsFile s (lines_of text) (file_of t (step_of epochs) is.values)) (tracked bands system) reads;
+      reads = subst (λ (s : System). IsObsFile s (lines_of text) (file_of tracking (step_of epochs) is.values)) (tracked bands system) reads;
     }
 
 pub base_reads : (seed epochs sats bands system : ℕ) (text : List ℕ) → epochs ≤ MOST_PAIRS → sats ≤ 15 → IsBaseText seed epochs sats bands system text → ReadsAsBase seed epochs sats bands system text

@@ -20,9 +20,9 @@ pub by_entry : (truth : List (List ℤ)) (arcs : List Arc) (ss : List ℕ) (z : 
     → d < length arcs → ((e : Arc) → slice_get arcs d ≡ Some e → IsDatumOf arcs k d e) → slice_get arcs k ≡ Some a
     → IsTrue b ↔ AgreesWith truth arcs ss z k (get_or arcs k p) (get_or arcs d q) → IsTrue b ↔ HasTruth truth arcs ss z k a
 by_entry truth arcs ss z k d a p q b marked inside datum is agrees =
-    let e : Arc = get_or arcs d q in
-    by_datum truth arcs ss z k d a e b marked (datum e (slice_get-get_or arcs d q inside))
-    (subst (λ (t : Arc). IsTrue b ↔ AgreesWith truth arcs ss z k t e) (get_or_from_slice_get arcs k a p is) agrees)
+    let datum_arc : Arc = get_or arcs d q in
+    by_datum truth arcs ss z k d a datum_arc b marked (datum datum_arc (slice_get-get_or arcs d q inside))
+    (subst (λ (t : Arc). IsTrue b ↔ AgreesWith truth arcs ss z k t datum_arc) (get_or_from_slice_get arcs k a p is) agrees)
 
 there : (arcs : List Arc) (k : ℕ) → k < length arcs → (a : Arc) × (slice_get arcs k ≡ Some a)
 there [] k inside = absurd (omega arith)

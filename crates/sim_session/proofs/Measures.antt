@@ -68,16 +68,16 @@ pub phase_near : (f : ℕ) (d n clock cycles phase : ℤ) (v : Rational) → f �
 phase_near f d n clock cycles phase v small e i h =
     let some : of_whole (pos 0) ≤ʳ of_whole (pos f) = nonnegative (pos f) (pos_nn f) in
     let few : pos f ≤ℤ pos 2000000000 = most f small in
-    let w : Rational = thousandths f (measured clock v) in
+    let measured_value : Rational = thousandths f (measured clock v) in
     let whole : Rational = of_whole (pos 1000 *ℤ cycles) in (
-      cancel_r (of_whole LIGHT_SPEED) (sub_r (of_whole phase) (add_r w whole)) (of_whole (pos 2)) light
-          (order_r (v ∷ of_whole n ∷ of_whole clock ∷ of_scale 36 (d -ℤ pos 1) ∷ of_whole phase ∷ whole ∷ w ∷ of_whole (pos f) ∷ [])
+      cancel_r (of_whole LIGHT_SPEED) (sub_r (of_whole phase) (add_r measured_value whole)) (of_whole (pos 2)) light
+          (order_r (v ∷ of_whole n ∷ of_whole clock ∷ of_scale 36 (d -ℤ pos 1) ∷ of_whole phase ∷ whole ∷ measured_value ∷ of_whole (pos f) ∷ [])
           ((va 3 ≼ va 0) ∷ (ko LIGHT_SPEED ⊗ va 1 ≼ va 7 ⊗ (ko (pos 1000) ⊗ va 3 ⊕ va 2) ⊕ ko LIGHT_SPEED) ∷ (ko (pos 0) ≼ va 7) ∷ [])
           ((va 4 ≐ va 1 ⊕ va 5) ∷ (va 6 ⊗ ko LIGHT_SPEED ≐ va 7 ⊗ (ko (pos 1000) ⊗ va 0 ⊕ va 2)) ∷ [])
           (ko LIGHT_SPEED ⊗ (va 4 ⊖ (va 6 ⊕ va 5))) (ko LIGHT_SPEED ⊗ ko (pos 2)) (hy 1 ⊞ nm 1000 ⊠ hy 2 ⊠ hy 0 ⊞ nm (unsigned_abs LIGHT_SPEED)) (ng (ko LIGHT_SPEED) ∷ ko (pos 1) ∷ []) refl
           (h.0, (phase_low (pos f) d n clock few i.0, (some, tt))) (sum_is phase n (pos 1000 *ℤ cycles) e, (times_wavelength (pos f) (measured clock v), tt))),
-      cancel_r (of_whole LIGHT_SPEED) (sub_r (add_r w whole) (of_whole phase)) (of_whole (pos 2)) light
-          (order_r (v ∷ of_whole n ∷ of_whole clock ∷ of_scale 36 (d +ℤ pos (2 ^ 20)) ∷ of_whole phase ∷ whole ∷ w ∷ of_whole (pos f) ∷ [])
+      cancel_r (of_whole LIGHT_SPEED) (sub_r (add_r measured_value whole) (of_whole phase)) (of_whole (pos 2)) light
+          (order_r (v ∷ of_whole n ∷ of_whole clock ∷ of_scale 36 (d +ℤ pos (2 ^ 20)) ∷ of_whole phase ∷ whole ∷ measured_value ∷ of_whole (pos f) ∷ [])
           ((va 0 ≼ va 3) ∷ (va 7 ⊗ (ko (pos 1000) ⊗ va 3 ⊕ va 2) ≼ ko LIGHT_SPEED ⊗ va 1 ⊕ ko LIGHT_SPEED) ∷ (ko (pos 0) ≼ va 7) ∷ [])
           ((va 4 ≐ va 1 ⊕ va 5) ∷ (va 6 ⊗ ko LIGHT_SPEED ≐ va 7 ⊗ (ko (pos 1000) ⊗ va 0 ⊕ va 2)) ∷ [])
           (ko LIGHT_SPEED ⊗ ((va 6 ⊕ va 5) ⊖ va 4)) (ko LIGHT_SPEED ⊗ ko (pos 2)) (hy 1 ⊞ nm 1000 ⊠ hy 2 ⊠ hy 0 ⊞ nm (unsigned_abs LIGHT_SPEED)) (ko LIGHT_SPEED ∷ ng (ko (pos 1)) ∷ []) refl

@@ -12,7 +12,7 @@ use Rattle.sim_session.specs.Observations.{tag_of, AreObserved}
 pub one_more : {X : Type 0} (P : ℕ → X → Type 0) (xs : List X) (x : X) (n : ℕ) → length xs ≡ n → ((k : ℕ) (d : X) → k < n → P k (get_or xs k d)) → P n x →
     (k : ℕ) (d : X) → k < n + 1 → P k (get_or (xs ++ x ∷ []) k d)
 one_more {X} P xs x n e all here k d h = below_more (λ (j : ℕ). P j (get_or (xs ++ x ∷ []) j d)) n
-    (λ j l. let lt : j < length xs = omega (arith, e) in subst (λ (y : X). P j y) (sym (get_or_append_left xs (x ∷ []) d j lt)) (all j d l))
+    (λ j l. let inside : j < length xs = omega (arith, e) in subst (λ (y : X). P j y) (sym (get_or_append_left xs (x ∷ []) d j inside)) (all j d l))
     (subst (λ (y : X). P n y) (sym (get_or_push xs x d n e)) here) k h
 
 -- ---- epochs

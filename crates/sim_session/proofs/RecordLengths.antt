@@ -12,31 +12,31 @@ length-number_text d = refl
 pub length-first_line : (letter sat : ℕ) (a b c : Dec) → length (first_line letter sat a b c) ≡ 81
 unfolding first_line
 length-first_line letter sat a b c =
-    let x = length-number_text a in
-    let y = length-number_text b in
-    let z = length-number_text c in
-    simp (length-append, x, y, z) refl
+    let first_length = length-number_text a in
+    let second_length = length-number_text b in
+    let third_length = length-number_text c in
+    simp (length-append, first_length, second_length, third_length) refl
 
 pub length-further_line : (a b c d : Dec) → length (further_line a b c d) ≡ 81
 unfolding further_line
 length-further_line a b c d =
-    let x = length-number_text a in
-    let y = length-number_text b in
-    let z = length-number_text c in
-    let w = length-number_text d in
-    simp (length-append, x, y, z, w) refl
+    let first_length = length-number_text a in
+    let second_length = length-number_text b in
+    let third_length = length-number_text c in
+    let fourth_length = length-number_text d in
+    simp (length-append, first_length, second_length, third_length, fourth_length) refl
 
 pub length-record_text : (letter : ℕ) (e : Eph) → length (record_text letter e) ≡ 648
 unfolding record_text
 length-record_text letter e =
-    let l1 = length-first_line letter e.sat e.af0 e.af1 e.af2 in
-    let l2 = length-further_line zero_number e.crs e.dn e.m0 in
-    let l3 = length-further_line e.cuc e.ecc e.cus e.root_a in
-    let l4 = length-further_line second_number e.cic e.node e.cis in
-    let l5 = length-further_line e.incl e.crc e.peri e.node_rate in
-    let l6 = length-further_line e.incl_rate zero_number week_number zero_number in
-    let l7 = length-further_line zero_number zero_number zero_number zero_number in
-    simp (length-append, l1, l2, l3, l4, l5, l6, l7) refl
+    let clock_line_length = length-first_line letter e.sat e.af0 e.af1 e.af2 in
+    let second_line_length = length-further_line zero_number e.crs e.dn e.m0 in
+    let third_line_length = length-further_line e.cuc e.ecc e.cus e.root_a in
+    let fourth_line_length = length-further_line second_number e.cic e.node e.cis in
+    let fifth_line_length = length-further_line e.incl e.crc e.peri e.node_rate in
+    let sixth_line_length = length-further_line e.incl_rate zero_number week_number zero_number in
+    let last_line_length = length-further_line zero_number zero_number zero_number zero_number in
+    simp (length-append, clock_line_length, second_line_length, third_line_length, fourth_line_length, fifth_line_length, sixth_line_length, last_line_length) refl
 
 pub length-record_texts : (letter : ℕ) (es : List Eph) → length (record_texts letter es) ≡ 648 * length es
 length-record_texts letter [] = refl

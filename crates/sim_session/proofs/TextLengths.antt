@@ -65,20 +65,20 @@ pub length-satellite_line : (t : Tracking) (n : ℕ) (s : Signals) → AreInColu
 unfolding satellite_line
 length-satellite_line GpsL1L2 n s h =
     let code = length-thousandths s.code h.code in
-    let l1 = length-thousandths s.l1 h.l1 in
-    let l2 = length-thousandths s.l2 h.l2 in
-    simp (length-append, code, l1, l2) (lit≤ tt)
+    let first_length = length-thousandths s.l1 h.l1 in
+    let second_length = length-thousandths s.l2 h.l2 in
+    simp (length-append, code, first_length, second_length) (lit≤ tt)
 length-satellite_line GpsL1L2L5 n s h =
     let code = length-thousandths s.code h.code in
-    let l1 = length-thousandths s.l1 h.l1 in
-    let l2 = length-thousandths s.l2 h.l2 in
-    let l5 = length-thousandths s.l5 h.l5 in
-    simp (length-append, code, l1, l2, l5) (lit≤ tt)
+    let first_length = length-thousandths s.l1 h.l1 in
+    let second_length = length-thousandths s.l2 h.l2 in
+    let third_length = length-thousandths s.l5 h.l5 in
+    simp (length-append, code, first_length, second_length, third_length) (lit≤ tt)
 length-satellite_line GalileoE1E5a n s h =
     let code = length-thousandths s.code h.code in
-    let l1 = length-thousandths s.l1 h.l1 in
-    let l5 = length-thousandths s.l5 h.l5 in
-    simp (length-append, code, l1, l5) (lit≤ tt)
+    let first_length = length-thousandths s.l1 h.l1 in
+    let third_length = length-thousandths s.l5 h.l5 in
+    simp (length-append, code, first_length, third_length) (lit≤ tt)
 
 pub length-satellite_lines : (t : Tracking) (n : ℕ) (sats : List Signals) → All AreInColumns sats → length (satellite_lines t n sats) ≤ 98 * length sats
 length-satellite_lines t n [] h = lit≤ tt

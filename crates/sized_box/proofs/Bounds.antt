@@ -30,40 +30,40 @@ reached lo hi t l h k = (omega (arith, ints), omega (arith, ints))
 -- a number of at most t s in size, over s, rounded either way
 rounded_within : (z : ℤ) (t s : ℕ) → 0 < s → neg_ℤ (pos (t * s)) ≤ℤ z → z ≤ℤ pos (t * s) → (neg_ℤ (pos t) ≤ℤ floor_div z s) × (ceil_div z s ≤ℤ pos t)
 rounded_within z t s h low high =
-    let e : neg_ℤ (pos t) *ℤ pos s ≡ neg_ℤ (pos (t * s)) = same_by (pos t ∷ pos s ∷ []) (λ t s. (ng t ⊗ s, ng (t ⊗ s))) refl in
+    let neg_product_is : neg_ℤ (pos t) *ℤ pos s ≡ neg_ℤ (pos (t * s)) = same_by (pos t ∷ pos s ∷ []) (λ t s. (ng t ⊗ s, ng (t ⊗ s))) refl in
     (floor_greatest z (neg_ℤ (pos t)) s h (omega (arith, lins)), ceil_least z (pos t) s h high)
 
 corner_within : (u v : ℤ) (m n k : ℕ) → neg_ℤ (pos m) ≤ℤ u → u ≤ℤ pos m → neg_ℤ (pos n) ≤ℤ v → v ≤ℤ pos n → m * n ≤ k → (neg_ℤ (pos k) ≤ℤ (u *ℤ v)) × ((u *ℤ v) ≤ℤ pos k)
 corner_within u v m n k h₁ h₂ g₁ g₂ l =
-    let b = mul_bounds u v m n h₁ h₂ g₁ g₂ in
-    let p : pos (m * n) ≤ℤ pos k = le_pos (m * n) k l in
-    (omega (arith, lins, b.0, p), omega (arith, lins, b.1, p))
+    let product_between = mul_bounds u v m n h₁ h₂ g₁ g₂ in
+    let limit_at_most : pos (m * n) ≤ℤ pos k = le_pos (m * n) k l in
+    (omega (arith, lins, product_between.0, limit_at_most), omega (arith, lins, product_between.1, limit_at_most))
 
 pub product_within : (a b c d : ℤ) (m n t s : ℕ) → 0 < s → a ≤ℤ b → c ≤ℤ d → neg_ℤ (pos m) ≤ℤ a → b ≤ℤ pos m → neg_ℤ (pos n) ≤ℤ c → d ≤ℤ pos n → m * n ≤ t * s →
     (neg_ℤ (pos t) ≤ℤ floor_div (least_corner a b c d) s) × (ceil_div (most_corner a b c d) s ≤ℤ pos t)
 product_within a b c d m n t s h ab cd ma bm nc dn l =
-    let am : a ≤ℤ pos m = omega (arith, lins) in
-    let mb : neg_ℤ (pos m) ≤ℤ b = omega (arith, lins) in
-    let cn : c ≤ℤ pos n = omega (arith, lins) in
-    let nd : neg_ℤ (pos n) ≤ℤ d = omega (arith, lins) in
-    let ac = corner_within a c m n (t * s) ma am nc cn l in
-    let ad = corner_within a d m n (t * s) ma am nd dn l in
-    let bc = corner_within b c m n (t * s) mb bm nc cn l in
-    let bd = corner_within b d m n (t * s) mb bm nd dn l in (
+    let a_at_most_m : a ≤ℤ pos m = omega (arith, lins) in
+    let b_above_neg_m : neg_ℤ (pos m) ≤ℤ b = omega (arith, lins) in
+    let c_at_most_n : c ≤ℤ pos n = omega (arith, lins) in
+    let d_above_neg_n : neg_ℤ (pos n) ≤ℤ d = omega (arith, lins) in
+    let ac_within = corner_within a c m n (t * s) ma a_at_most_m nc c_at_most_n l in
+    let ad_within = corner_within a d m n (t * s) ma a_at_most_m d_above_neg_n dn l in
+    let bc_within = corner_within b c m n (t * s) b_above_neg_m bm nc c_at_most_n l in
+    let bd_within = corner_within b d m n (t * s) b_above_neg_m bm d_above_neg_n dn l in (
       least_case (λ z. neg_ℤ (pos t) ≤ℤ floor_div z s) (a *ℤ c) (a *ℤ d) (b *ℤ c) (b *ℤ d)
-          (rounded_within (a *ℤ c) t s h ac.0 ac.1).0 (rounded_within (a *ℤ d) t s h ad.0 ad.1).0 (rounded_within (b *ℤ c) t s h bc.0 bc.1).0 (rounded_within (b *ℤ d) t s h bd.0 bd.1).0,
+          (rounded_within (a *ℤ c) t s h ac_within.0 ac_within.1).0 (rounded_within (a *ℤ d) t s h ad_within.0 ad_within.1).0 (rounded_within (b *ℤ c) t s h bc_within.0 bc_within.1).0 (rounded_within (b *ℤ d) t s h bd_within.0 bd_within.1).0,
       most_case (λ z. ceil_div z s ≤ℤ pos t) (a *ℤ c) (a *ℤ d) (b *ℤ c) (b *ℤ d)
-          (rounded_within (a *ℤ c) t s h ac.0 ac.1).1 (rounded_within (a *ℤ d) t s h ad.0 ad.1).1 (rounded_within (b *ℤ c) t s h bc.0 bc.1).1 (rounded_within (b *ℤ d) t s h bd.0 bd.1).1,
+          (rounded_within (a *ℤ c) t s h ac_within.0 ac_within.1).1 (rounded_within (a *ℤ d) t s h ad_within.0 ad_within.1).1 (rounded_within (b *ℤ c) t s h bc_within.0 bc_within.1).1 (rounded_within (b *ℤ d) t s h bd_within.0 bd_within.1).1,
     )
 
 -- s w is below m v + n u + 2 s, which is at most (x + 1) s
 pub product_narrow : (w u v : ℤ) (m n p q x s : ℕ) → 0 < s → u ≤ℤ pos p → v ≤ℤ pos q → m * q + n * p + 2 * s ≤ (x + 1) * s →
     (pos s *ℤ w) <ℤ (((pos m *ℤ v) +ℤ (pos n *ℤ u)) +ℤ (pos 2 *ℤ pos s)) → w ≤ℤ pos x
 product_narrow w u v m n p q x s h up vq l k =
-    let i : (pos m *ℤ v) ≤ℤ (pos m *ℤ pos q) = mul_le_left (pos m) v (pos q) (pos_nn m) vq in
-    let j : (pos n *ℤ u) ≤ℤ (pos n *ℤ pos p) = mul_le_left (pos n) u (pos p) (pos_nn n) up in
-    let o : pos (m * q + n * p + 2 * s) ≤ℤ pos ((x + 1) * s) = le_pos (m * q + n * p + 2 * s) ((x + 1) * s) l in
-    below w (pos m *ℤ v) (pos n *ℤ u) (pos 2 *ℤ pos s) (pos (m * q)) (pos (n * p)) k i j (parts (m * q) (n * p) (2 * s) _ o)
+    let v_term_at_most : (pos m *ℤ v) ≤ℤ (pos m *ℤ pos q) = mul_le_left (pos m) v (pos q) (pos_nn m) vq in
+    let u_term_at_most : (pos n *ℤ u) ≤ℤ (pos n *ℤ pos p) = mul_le_left (pos n) u (pos p) (pos_nn n) up in
+    let total_at_most : pos (m * q + n * p + 2 * s) ≤ℤ pos ((x + 1) * s) = le_pos (m * q + n * p + 2 * s) ((x + 1) * s) l in
+    below w (pos m *ℤ v) (pos n *ℤ u) (pos 2 *ℤ pos s) (pos (m * q)) (pos (n * p)) k v_term_at_most u_term_at_most (parts (m * q) (n * p) (2 * s) _ total_at_most)
   where
     parts : (a b c d : ℕ) → pos (a + b + c) ≤ℤ pos d → ((pos a +ℤ pos b) +ℤ pos c) ≤ℤ pos d
     parts a b c d h = omega (arith, ints)
@@ -81,11 +81,11 @@ product_narrow w u v m n p q x s h up vq l k =
 pub square_within : (a b : ℤ) (m t s : ℕ) → 0 < s → a ≤ℤ b → neg_ℤ (pos m) ≤ℤ a → b ≤ℤ pos m → m * m ≤ t * s →
     (neg_ℤ (pos t) ≤ℤ floor_div (near_end a b *ℤ near_end a b) s) × (ceil_div (far_end a b *ℤ far_end a b) s ≤ℤ pos t)
 square_within a b m t s h ab ma bm l =
-    let n = near_within a b (pos m) ab ma bm in
-    let f = far_within a b (pos m) ab ma bm in
-    let p = corner_within (near_end a b) (near_end a b) m m (t * s) n.0 n.1 n.0 n.1 l in
-    let q = corner_within (far_end a b) (far_end a b) m m (t * s) f.0 f.1 f.0 f.1 l in
-    ((rounded_within (near_end a b *ℤ near_end a b) t s h p.0 p.1).0, (rounded_within (far_end a b *ℤ far_end a b) t s h q.0 q.1).1)
+    let near_end_within = near_within a b (pos m) ab ma bm in
+    let far_end_within = far_within a b (pos m) ab ma bm in
+    let near_square_within = corner_within (near_end a b) (near_end a b) m m (t * s) near_end_within.0 near_end_within.1 near_end_within.0 near_end_within.1 l in
+    let far_square_within = corner_within (far_end a b) (far_end a b) m m (t * s) far_end_within.0 far_end_within.1 far_end_within.0 far_end_within.1 l in
+    ((rounded_within (near_end a b *ℤ near_end a b) t s h near_square_within.0 near_square_within.1).0, (rounded_within (far_end a b *ℤ far_end a b) t s h far_square_within.0 far_square_within.1).1)
   where
     near_within : (a b m : ℤ) → a ≤ℤ b → neg_ℤ m ≤ℤ a → b ≤ℤ m → (neg_ℤ m ≤ℤ near_end a b) × (near_end a b ≤ℤ m)
     near_within a b m ab ma bm = (omega (arith, lins, clamps), omega (arith, lins, clamps))
@@ -104,12 +104,12 @@ square_narrow w u m p x s h up l k = product_narrow w u u (2 * m) 0 p p x s h up
 pub ratio_within : (a b c : ℤ) (m p g d : ℕ) → a ≤ℤ b → neg_ℤ (pos m) ≤ℤ a → b ≤ℤ pos m → pos d ≤ℤ c → m * p ≤ g * d →
     (neg_ℤ (pos g *ℤ c) ≤ℤ (a *ℤ pos p)) × ((b *ℤ pos p) ≤ℤ (pos g *ℤ c))
 ratio_within a b c m p g d ab ma bm dc l =
-    let i : (pos g *ℤ pos d) ≤ℤ (pos g *ℤ c) = mul_le_left (pos g) (pos d) c (pos_nn g) dc in
-    let j : (b *ℤ pos p) ≤ℤ (pos m *ℤ pos p) = mul_le_right (pos p) b (pos m) (pos_nn p) bm in
-    let k : (neg_ℤ (pos m) *ℤ pos p) ≤ℤ (a *ℤ pos p) = mul_le_right (pos p) (neg_ℤ (pos m)) a (pos_nn p) ma in
-    let e : neg_ℤ (pos m) *ℤ pos p ≡ neg_ℤ (pos (m * p)) = same_by (pos m ∷ pos p ∷ []) (λ m p. (ng m ⊗ p, ng (m ⊗ p))) refl in
-    let n : pos (m * p) ≤ℤ pos (g * d) = le_pos (m * p) (g * d) l in
-    (omega (arith, lins, i, k, e, n), omega (arith, lins, i, j, n))
+    let bound_at_most : (pos g *ℤ pos d) ≤ℤ (pos g *ℤ c) = mul_le_left (pos g) (pos d) c (pos_nn g) dc in
+    let high_at_most : (b *ℤ pos p) ≤ℤ (pos m *ℤ pos p) = mul_le_right (pos p) b (pos m) (pos_nn p) bm in
+    let low_above : (neg_ℤ (pos m) *ℤ pos p) ≤ℤ (a *ℤ pos p) = mul_le_right (pos p) (neg_ℤ (pos m)) a (pos_nn p) ma in
+    let neg_product_is : neg_ℤ (pos m) *ℤ pos p ≡ neg_ℤ (pos (m * p)) = same_by (pos m ∷ pos p ∷ []) (λ m p. (ng m ⊗ p, ng (m ⊗ p))) refl in
+    let size_at_most : pos (m * p) ≤ℤ pos (g * d) = le_pos (m * p) (g * d) l in
+    (omega (arith, lins, bound_at_most, low_above, neg_product_is, size_at_most), omega (arith, lins, bound_at_most, high_at_most, size_at_most))
 
 pub quotient_within : (a b c d : ℤ) (m p t e : ℕ) → a ≤ℤ b → c ≤ℤ d → neg_ℤ (pos m) ≤ℤ a → b ≤ℤ pos m → 0 < e → pos e ≤ℤ c → m * p ≤ t * e →
     (neg_ℤ (pos t) ≤ℤ least_ratio a b c d p) × (most_ratio a b c d p ≤ℤ pos t)
@@ -130,18 +130,18 @@ quotient_within a b c d m p t e ab cd ma bm e0 ec l =
 
     low : (y : ℤ) → pos e ≤ℤ y → neg_ℤ (pos t) ≤ℤ floor_div (a *ℤ pos p) (unsigned_abs y)
     low y h =
-        let r = ratio_within a b y m p t e ab ma bm h l in
-        let f = plain y h in
-        let k : neg_ℤ (pos t) *ℤ pos (unsigned_abs y) ≡ neg_ℤ (pos t *ℤ pos (unsigned_abs y)) = same_by (pos t ∷ pos (unsigned_abs y) ∷ []) (λ t y. (ng t ⊗ y, ng (t ⊗ y))) refl in
-        let o : pos t *ℤ pos (unsigned_abs y) ≡ pos t *ℤ y = ap (λ z. pos t *ℤ z) f.1 in
-        floor_greatest (a *ℤ pos p) (neg_ℤ (pos t)) (unsigned_abs y) f.0 (omega (arith, lins, k, o, r.0))
+        let ratio_bounds = ratio_within a b y m p t e ab ma bm h l in
+        let size_is = plain y h in
+        let neg_product_is : neg_ℤ (pos t) *ℤ pos (unsigned_abs y) ≡ neg_ℤ (pos t *ℤ pos (unsigned_abs y)) = same_by (pos t ∷ pos (unsigned_abs y) ∷ []) (λ t y. (ng t ⊗ y, ng (t ⊗ y))) refl in
+        let product_is : pos t *ℤ pos (unsigned_abs y) ≡ pos t *ℤ y = ap (λ z. pos t *ℤ z) size_is.1 in
+        floor_greatest (a *ℤ pos p) (neg_ℤ (pos t)) (unsigned_abs y) size_is.0 (omega (arith, lins, neg_product_is, product_is, ratio_bounds.0))
 
     high : (y : ℤ) → pos e ≤ℤ y → ceil_div (b *ℤ pos p) (unsigned_abs y) ≤ℤ pos t
     high y h =
-        let r = ratio_within a b y m p t e ab ma bm h l in
-        let f = plain y h in
-        let o : pos t *ℤ pos (unsigned_abs y) ≡ pos t *ℤ y = ap (λ z. pos t *ℤ z) f.1 in
-        ceil_least (b *ℤ pos p) (pos t) (unsigned_abs y) f.0 (omega (arith, lins, o, r.1))
+        let ratio_bounds = ratio_within a b y m p t e ab ma bm h l in
+        let size_is = plain y h in
+        let product_is : pos t *ℤ pos (unsigned_abs y) ≡ pos t *ℤ y = ap (λ z. pos t *ℤ z) size_is.1 in
+        ceil_least (b *ℤ pos p) (pos t) (unsigned_abs y) size_is.0 (omega (arith, lins, product_is, ratio_bounds.1))
 
 -- limits of ends are those of equal numbers
 pub same_within : (lo hi a b : ℤ) (t : ℕ) → lo ≡ a → hi ≡ b → neg_ℤ (pos t) ≤ℤ a → b ≤ℤ pos t → (neg_ℤ (pos t) ≤ℤ lo) × (hi ≤ℤ pos t)

@@ -26,7 +26,7 @@ share_first arcs k m a b rising forward is also before reaches = record {
 
 -- from a fresh arc no chain leads to an earlier one
 pub chain_stays : (arcs : List Arc) (k : ℕ) (a : Arc) → AreRising arcs → slice_get arcs k ≡ Some a → IsFresh arcs k a → (path : List ℕ) (j n : ℕ) → k ≤ j → IsChain arcs j path n → k ≤ n
-chain_stays arcs k a rising is fresh [] j n from chain = let e = chain in omega arith
+chain_stays arcs k a rising is fresh [] j n from chain = let chain_ends = chain in omega arith
 chain_stays arcs k a rising is fresh (m ∷ ms) j n from chain =
     let near = chain.0 in
     let share = near.share in
@@ -37,8 +37,8 @@ chain_stays arcs k a rising is fresh (m ∷ ms) j n from chain =
     (λ (other : k ≡ j → ⊥). rising k j a near.one (omega arith) is near.one_is) (cases_eq k j) in
     let next : k ≤ m =
     ⊎_elim (λ (less : m < k).
-    let l : near.other.last < a.first = fresh m near.other less near.other_is in
-    let p = share.1 in
-    let q = share.4 in
+    let ends_before : near.other.last < a.first = fresh m near.other less near.other_is in
+    let one_starts_by = share.1 in
+    let other_reaches = share.4 in
     absurd (omega arith)) (λ (more : k ≤ m). more) (cases_lt m k) in
     chain_stays arcs k a rising is fresh ms m n next chain.1

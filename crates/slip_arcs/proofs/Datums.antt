@@ -22,7 +22,7 @@ pub marked_next : (at : ℕ) (arcs : List Arc) (reach : ℕ) → Marked at arcs 
 marked_next at arcs reach marked =
     record {
       shifts = marked.shifts;
-      order = λ k a is. let o = marked.order k a is in (o.0, omega arith, o.2);
+      order = λ k a is. let in_order = marked.order k a is in (in_order.0, omega arith, in_order.2);
       rising = marked.rising;
       datums = marked.datums;
       reached = marked.reached;
@@ -46,76 +46,76 @@ new_datum : (at : ℕ) (arcs : List Arc) (reach sat last : ℕ) → Marked at ar
 new_datum at arcs reach sat last marked = (
   λ is m b before found.
       let within : reach ≤ at = leb-true reach at is in
-      ⊎_elim (λ (old : slice_get arcs m ≡ Some b). let o = marked.order m b old in let l : b.last < reach = o.2 in omega arith)
+      ⊎_elim (λ (old : slice_get arcs m ≡ Some b). let in_order = marked.order m b old in let ends_below_reach : b.last < reach = in_order.2 in omega arith)
       (λ (new : (m ≡ length arcs) × (new_arc reach sat at last ≡ b)). absurd (let here = new.0 in omega arith)) (push_get arcs (new_arc reach sat at last) b m found),
   λ fresh.
       le-leb reach at
       (⊎_elim (λ (none : reach ≡ 0). omega arith)
       (λ (some : (m : ℕ) × (b : Arc) × (slice_get arcs m ≡ Some b) × (reach ≡ b.last + 1)).
-      let l : some.1.last < at = fresh some.0 some.1 (slice_get_within arcs some.0 some.1 some.2) (push_before arcs (new_arc reach sat at last) some.1 some.0 some.2) in
-      let e = some.3 in
+      let ends_before : some.1.last < at = fresh some.0 some.1 (slice_get_within arcs some.0 some.1 some.2) (push_before arcs (new_arc reach sat at last) some.1 some.0 some.2) in
+      let reach_is = some.3 in
       omega arith)
       marked.reached),
 )
 
 marked_push : (at : ℕ) (arcs : List Arc) (reach sat last : ℕ) → at ≤ last → Marked at arcs reach → Marked at (arcs ++ new_arc reach sat at last ∷ []) (max reach (last + 1))
 marked_push at arcs reach sat last order marked =
-    let y : Arc = new_arc reach sat at last in
+    let added_arc : Arc = new_arc reach sat at last in
     record {
-      shifts = All-push (λ a. a.shift ≡ no_shift) arcs y marked.shifts refl;
+      shifts = All-push (λ a. a.shift ≡ no_shift) arcs added_arc marked.shifts refl;
       order = λ k a is.
-          ⊎_elim (λ (old : slice_get arcs k ≡ Some a). let o = marked.order k a old in (o.0, o.1, omega arith))
-          (λ (new : (k ≡ length arcs) × (y ≡ a)). subst (λ (b : Arc). (b.first ≤ b.last) × (b.first ≤ at) × (b.last < max reach (last + 1))) new.1 (order, omega arith, omega arith))
-          (push_get arcs y a k is);
+          ⊎_elim (λ (old : slice_get arcs k ≡ Some a). let in_order = marked.order k a old in (in_order.0, in_order.1, omega arith))
+          (λ (new : (k ≡ length arcs) × (added_arc ≡ a)). subst (λ (b : Arc). (b.first ≤ b.last) × (b.first ≤ at) × (b.last < max reach (last + 1))) new.1 (order, omega arith, omega arith))
+          (push_get arcs added_arc a k is);
       rising = λ m k b a before first second.
           ⊎_elim
           (λ (old : slice_get arcs k ≡ Some a).
           let inside = slice_get_within arcs k a old in
-          ⊎_elim (λ (older : slice_get arcs m ≡ Some b). marked.rising m k b a before older old) (λ (new : (m ≡ length arcs) × (y ≡ b)). absurd (let here = new.0 in omega arith))
-          (push_get arcs y b m first))
-          (λ (new : (k ≡ length arcs) × (y ≡ a)).
+          ⊎_elim (λ (older : slice_get arcs m ≡ Some b). marked.rising m k b a before older old) (λ (new : (m ≡ length arcs) × (added_arc ≡ b)). absurd (let here = new.0 in omega arith))
+          (push_get arcs added_arc b m first))
+          (λ (new : (k ≡ length arcs) × (added_arc ≡ a)).
           subst (λ (c : Arc). b.first ≤ c.first) new.1
           (⊎_elim (λ (older : slice_get arcs m ≡ Some b). (marked.order m b older).1)
-          (λ (same : (m ≡ length arcs) × (y ≡ b)). absurd (let here = new.0 in let there = same.0 in omega arith)) (push_get arcs y b m first)))
-          (push_get arcs y a k second);
+          (λ (same : (m ≡ length arcs) × (added_arc ≡ b)). absurd (let here = new.0 in let there = same.0 in omega arith)) (push_get arcs added_arc b m first)))
+          (push_get arcs added_arc a k second);
       datums = λ k a is.
           ⊎_elim
           (λ (old : slice_get arcs k ≡ Some a).
-          let d = marked.datums k a old in
-          (λ on. fresh_old arcs y k a old (d.0 on), λ fresh. d.1 (fresh_back arcs y k a fresh)))
-          (λ (new : (k ≡ length arcs) × (y ≡ a)).
-          subst (λ (n : ℕ). IsTrue a.datum ↔ IsFresh (arcs ++ y ∷ []) n a) (sym new.0)
-          (subst (λ (c : Arc). IsTrue c.datum ↔ IsFresh (arcs ++ y ∷ []) (length arcs) c) new.1 (new_datum at arcs reach sat last marked)))
-          (push_get arcs y a k is);
+          let datum_just_fresh = marked.datums k a old in
+          (λ on. fresh_old arcs added_arc k a old (datum_just_fresh.0 on), λ fresh. datum_just_fresh.1 (fresh_back arcs added_arc k a fresh)))
+          (λ (new : (k ≡ length arcs) × (added_arc ≡ a)).
+          subst (λ (n : ℕ). IsTrue a.datum ↔ IsFresh (arcs ++ added_arc ∷ []) n a) (sym new.0)
+          (subst (λ (c : Arc). IsTrue c.datum ↔ IsFresh (arcs ++ added_arc ∷ []) (length arcs) c) new.1 (new_datum at arcs reach sat last marked)))
+          (push_get arcs added_arc a k is);
       reached = inr
-          (⊎_elim (λ (less : reach < last + 1). (length arcs, y, last_push arcs y, omega arith))
+          (⊎_elim (λ (less : reach < last + 1). (length arcs, added_arc, last_push arcs added_arc, omega arith))
           (λ (more : last + 1 ≤ reach).
           ⊎_elim (λ (none : reach ≡ 0). absurd (omega arith))
           (λ (some : (m : ℕ) × (b : Arc) × (slice_get arcs m ≡ Some b) × (reach ≡ b.last + 1)).
-          (some.0, some.1, push_before arcs y some.1 some.0 some.2, let e = some.3 in omega arith)) marked.reached)
+          (some.0, some.1, push_before arcs added_arc some.1 some.0 some.2, let reach_is = some.3 in omega arith)) marked.reached)
           (cases_lt reach (last + 1)));
     }
 
 pub marked_add : (least at : ℕ) (arcs arcs' : List Arc) (short short' reach reach' sat last : ℕ) → at ≤ last
     → IsAdded least (record { sat = sat; first = at; last = last }) arcs arcs' short short' reach reach' → Marked at arcs reach → Marked at arcs' reach'
 marked_add least at arcs arcs' short short' reach reach' sat last order added marked =
-    let r : Run = record { sat = sat; first = at; last = last } in
+    let run : Run = record { sat = sat; first = at; last = last } in
     ⊎_elim
-    (λ (long : is_long least r ≡ true).
+    (λ (long : is_long least run ≡ true).
     let new = added.long long in
     subst (λ (n : ℕ). Marked at arcs' n) (sym new.2) (subst (λ (l : List Arc). Marked at l (max reach (last + 1))) (sym new.0) (marked_push at arcs reach sat last order marked)))
-    (λ (brief : is_long least r ≡ false).
+    (λ (brief : is_long least run ≡ false).
     let new = added.brief brief in
     subst (λ (n : ℕ). Marked at arcs' n) (sym new.2) (subst (λ (l : List Arc). Marked at l reach) (sym new.0) marked))
-    (cases_Bool (is_long least r))
+    (cases_Bool (is_long least run))
 
 -- of all that are linked to it a datum is the first, and only a datum is
 pub have_datums : (at : ℕ) (arcs : List Arc) (reach : ℕ) → Marked at arcs reach → HaveDatums arcs
 have_datums at arcs reach marked k a is =
-    let d = marked.datums k a is in (
-      λ on n linked. chain_stays arcs k a marked.rising is (d.0 on) linked.0 k n (omega arith) linked.1,
+    let datum_just_fresh = marked.datums k a is in (
+      λ on n linked. chain_stays arcs k a marked.rising is (datum_just_fresh.0 on) linked.0 k n (omega arith) linked.1,
       λ first.
-          d.1
+          datum_just_fresh.1
           (λ m b before found.
           ⊎_elim (λ (less : b.last < a.first). less)
           (λ (more : a.first ≤ b.last).

@@ -73,9 +73,9 @@ one_refusal arcs ss pairs why too (inr a) (inr b) = one_finish arcs ss pairs why
 -- where each pair has a front, the finish of their sum is refused
 pub finish_refused : (arcs : List Arc) (ss : List ℕ) (pairs : List PairRows) (why : LowerFault) → All (HasFront arcs ss) pairs → IsFormRefused arcs ss pairs why → IsFinishRefused arcs ss pairs why
 finish_refused arcs ss pairs why fronts (inl a) =
-    let p : PairRows = some_pair pairs a.place a.inside in
-    let front : HasFront arcs ss (get_or pairs a.place p) = fronts a.place p a.inside in
-    absurd (no_front arcs ss (get_or pairs a.place p) why front.0 (a.refused p) front.1)
+    let refused_pair : PairRows = some_pair pairs a.place a.inside in
+    let front : HasFront arcs ss (get_or pairs a.place refused_pair) = fronts a.place refused_pair a.inside in
+    absurd (no_front arcs ss (get_or pairs a.place refused_pair) why front.0 (a.refused refused_pair) front.1)
 finish_refused arcs ss pairs why fronts (inr a) = a
 
 -- rows whose form is refused have none
@@ -96,10 +96,10 @@ record HaveMoves (arcs : List Arc) (ss : List ℕ) (pairs : List PairRows) (h : 
 same_session : (arcs : List Arc) (ss : List ℕ) (pairs : List PairRows) (fs gs : List FrontForm) (f g : Form) → IsTrackForm arcs ss pairs fs f → IsTrackForm arcs ss pairs gs g → sessions.SameForm f g
 same_session arcs ss pairs fs gs f g a b =
     let same : SameForm f g = one_form arcs ss pairs fs gs f g a b in
-    let d = a.of_fronts.kept ∙ sym b.of_fronts.kept in
-    let l = a.of_fronts.factors ∙ sym b.of_fronts.factors in
+    let same_kept = a.of_fronts.kept ∙ sym b.of_fronts.kept in
+    let same_factors = a.of_fronts.factors ∙ sym b.of_fronts.factors in
     let columns : a.sum.columns ≡ b.sum.columns = a.of_fronts.columns ∙ sym b.of_fronts.columns in
-    record { h = same.h; columns = same.columns; baseline = a.finished.baseline ∙ (λ t. stored (d t) (l t) (columns t) 0 3) ∙ sym b.finished.baseline; form = same.form }
+    record { h = same.h; columns = same.columns; baseline = a.finished.baseline ∙ (λ t. stored (same_kept t) (same_factors t) (columns t) 0 3) ∙ sym b.finished.baseline; form = same.form }
 
 record SameMoves (h k : ℕ) (best other : TwoBest) (moves others : List (List ℤ)) : Type 0 where
   h_is : h ≡ k
@@ -152,10 +152,10 @@ no_sum arcs ss pairs budget h moves best top a b =
     let wide : List (List ℤ) = map (move_at (first_of a.best)) a.fronts in
     let same : SameMoves a.form.h h a.best best wide moves =
     one_moves arcs ss pairs a.form.h h a.best best wide moves (moves_summed arcs ss pairs budget a) (moves_found arcs ss pairs budget h moves best top b) in
-    let W : List ℤ → List ℤ → PairRows → Type 0 = IsWide arcs ss in
-    not_mapped (W (first_of best)) (move_at (first_of a.best)) pairs a.fronts a.place a.inside
-    (subst (λ (ms : List (List ℤ)). AllZip (λ p m. W (first_of best) m p → ⊥) pairs ms) (sym same.moves_are) b.bounded)
-    (λ p f. subst (λ (z : List ℤ). W z (move_at (first_of a.best) (get_or a.fronts a.place f)) (get_or pairs a.place p)) same.best_is.first_is (a.wide p f))
+    let is_wide : List ℤ → List ℤ → PairRows → Type 0 = IsWide arcs ss in
+    not_mapped (is_wide (first_of best)) (move_at (first_of a.best)) pairs a.fronts a.place a.inside
+    (subst (λ (ms : List (List ℤ)). AllZip (λ p m. is_wide (first_of best) m p → ⊥) pairs ms) (sym same.moves_are) b.bounded)
+    (λ p f. subst (λ (z : List ℤ). is_wide z (move_at (first_of a.best) (get_or a.fronts a.place f)) (get_or pairs a.place p)) same.best_is.first_is (a.wide p f))
 
 -- ---- one decision
 pub one_found : (arcs : List Arc) (ss : List ℕ) (pairs : List PairRows) (budget h k : ℕ) (moves others : List (List ℤ)) (best other : TwoBest) (top over : ℤ) →

@@ -57,19 +57,19 @@ pub track_vectors_fit : (arcs : List Arc) (signals : Signals) (pairs : List Pair
     1 ≤ free_count arcs → IsTrackForm arcs (fine_signals signals) pairs fs f → IsTwoBest f best → moves ≡ map (move_at (first_of best)) fs → All (λ m. HasWide m → ⊥) moves →
     ((z : List ℤ) → length z ≡ integers_of f → neg_ℤ (pos (2 ^ 63)) ≤ℤ value_of f z) → pos 0 ≤ℤ top → top ≤ℤ pos (2 ^ 119) → AreTrackVectors (fine_signals signals) arcs pairs f.h moves best top
 track_vectors_fit arcs signals pairs moves best top fs f some is two moves_are narrow from l g =
-    let ss = fine_signals signals in
-    let entries : integers_of f ≡ integer_count arcs ss = integers_are arcs ss pairs fs f is in
-    let r : InRange best.p1 best.p2 = values_in_range f best (subst (λ (n : ℕ). 1 ≤ n) (sym entries) (some_integers arcs signals some)) two from in
+    let signals_used = fine_signals signals in
+    let entries : integers_of f ≡ integer_count arcs signals_used = integers_are arcs signals_used pairs fs f is in
+    let values_range : InRange best.p1 best.p2 = values_in_range f best (subst (λ (n : ℕ). 1 ≤ n) (sym entries) (some_integers arcs signals some)) two from in
     record {
-      move_each = move_each arcs ss pairs fs (first_of best) moves is.of_fronts.of_pairs moves_are;
+      move_each = move_each arcs signals_used pairs fs (first_of best) moves is.of_fronts.of_pairs moves_are;
       moves_in = moves_small moves narrow;
       values = record {
         h_to = f.h_in;
         size = two.size ∙ entries;
         first_in = two.first_small;
         second_in = two.second_small;
-        p1_in = r.first;
-        p2_in = r.second;
+        p1_in = values_range.first;
+        p2_in = values_range.second;
         top_in = top_below top l g;
       };
     }

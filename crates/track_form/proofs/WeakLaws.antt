@@ -26,10 +26,10 @@ use Rattle.track_form.proofs.OneDecision.{some_pair}
 -- ---- a pair whose front is refused by a weak pivot
 pair_weak : (arcs : List Arc) (ss : List ℕ) (p : PairRows) (column : ℕ) (pivot : ℤ) → IsRefusedPair arcs ss p (fault.Weak column pivot) → IsWeak column pivot
 pair_weak arcs ss p column pivot a =
-    let n : Normal = a.normal in
-    let t : IsToldAs (fault.Weak column pivot) (front_of a.h n) = a.told in
-    let is : IsPivot 0 3 column pivot = weak_of (form_small (first_form a.h n)) 3 (first_form a.h n) column pivot refl (t.1.0 ∙ ap Err (told_weak column pivot t.0 t.1.1)) in
-    record { column_to = small column is.column; pivot_in = is.size }
+    let normal : Normal = a.normal in
+    let is_told : IsToldAs (fault.Weak column pivot) (front_of a.h normal) = a.told in
+    let is_pivot : IsPivot 0 3 column pivot = weak_of (form_small (first_form a.h normal)) 3 (first_form a.h normal) column pivot refl (is_told.1.0 ∙ ap Err (told_weak column pivot is_told.0 is_told.1.1)) in
+    record { column_to = small column is_pivot.column; pivot_in = is_pivot.size }
   where
     small : (i : ℕ) → i < 0 + 3 → i < MOST_FACTORS
     small i h = omega (arith, h)
@@ -38,10 +38,10 @@ pair_weak arcs ss p column pivot a =
 sum_weak : (sum : FrontForm) (column : ℕ) (pivot : ℤ) (refusal : Refusal) → steps 3 (sum.columns - 4) (form_of_table sum.p (sum.columns - 3)) ≡ Err refusal →
     fault.Weak column pivot ≡ told refusal → IsWeak column pivot
 sum_weak sum column pivot refusal e f =
-    let is : IsPivot 3 (sum.columns - 4) column pivot =
+    let is_pivot : IsPivot 3 (sum.columns - 4) column pivot =
     weak_of_steps 3 (sum.columns - 4) (form_of_table sum.p (sum.columns - 3)) column pivot (form_all_small (entry sum.p) 0 (sum.columns - 3) (λ r c a b l. test (entry sum.p r c) (sum.entries_in r c)))
     (e ∙ ap Err (told_weak column pivot refusal f)) in
-    record { column_to = small sum.columns column sum.columns_to is.column; pivot_in = is.size }
+    record { column_to = small sum.columns column sum.columns_to is_pivot.column; pivot_in = is_pivot.size }
   where
     test : (x : ℤ) → unsigned_abs x < 2 ^ 52 → is_small x ≡ true
     test x h = grind (arith, nat_tests, h)

@@ -51,34 +51,34 @@ certified_cert : (cert : TrackCert) (fix : IsTrackFix cert) → IsTrackDecision 
     → ((t : TrackTail) → IsTrackDecision cert.track.arcs (fine_signals cert.track.signals) cert.track.pairs cert.ratio cert.budget t → IsSameDecision t cert.tail) → IsCertifiedAgain cert
 certified_cert cert fix decision only =
     let arcs = cert.track.arcs in
-    let ss = fine_signals cert.track.signals in
+    let fine = fine_signals cert.track.signals in
     let pairs = cert.track.pairs in
-    let decided = subst (λ (t : TrackTail). IsTrackDecision arcs ss pairs cert.ratio cert.budget t) fix.tail_is decision in
-    let one = subst (λ (u : TrackTail). (t : TrackTail) → IsTrackDecision arcs ss pairs cert.ratio cert.budget t → IsSameDecision t u) fix.tail_is only in
+    let decided = subst (λ (t : TrackTail). IsTrackDecision arcs fine pairs cert.ratio cert.budget t) fix.tail_is decision in
+    let one = subst (λ (u : TrackTail). (t : TrackTail) → IsTrackDecision arcs fine pairs cert.ratio cert.budget t → IsSameDecision t u) fix.tail_is only in
     record {
       certified =
-          subst (λ (t : TrackTail). IsTrackVerdict arcs ss pairs cert.ratio cert.budget t Certified) (sym fix.tail_is)
-          (certified_again arcs ss pairs cert.ratio cert.budget fix.h fix.moves fix.best fix.top decided);
+          subst (λ (t : TrackTail). IsTrackVerdict arcs fine pairs cert.ratio cert.budget t Certified) (sym fix.tail_is)
+          (certified_again arcs fine pairs cert.ratio cert.budget fix.h fix.moves fix.best fix.top decided);
       only =
-          λ v is. no_other arcs ss pairs cert.ratio cert.budget fix.h fix.moves fix.best fix.top one v
-          (subst (λ (t : TrackTail). IsTrackVerdict arcs ss pairs cert.ratio cert.budget t v) fix.tail_is is);
+          λ v is. no_other arcs fine pairs cert.ratio cert.budget fix.h fix.moves fix.best fix.top one v
+          (subst (λ (t : TrackTail). IsTrackVerdict arcs fine pairs cert.ratio cert.budget t v) fix.tail_is is);
     }
 
 pub track_fixed_for : (b r : ObsFile) (n : Records) (o : Options) (outcome : TrackOutcome) → IsTrackOutcome b r n o outcome → is_track_fixed outcome.answer ≡ true
     → IsTrackFixedFor b r n o outcome.answer
 track_fixed_for b r n o outcome found is =
-    let c : IsFixedTrack outcome.answer = fixed_track outcome.answer is in
-    let answered = subst (λ (a : TrackAnswer). IsTrackAnswer found.screened found.kept found.position found.signals o outcome.taken outcome.lost a) c.is found.answer_is in
+    let fixed_answer : IsFixedTrack outcome.answer = fixed_track outcome.answer is in
+    let answered = subst (λ (a : TrackAnswer). IsTrackAnswer found.screened found.kept found.position found.signals o outcome.taken outcome.lost a) fixed_answer.is found.answer_is in
     let decided = answered.1.1 in
-    let fix : IsTrackFix c.cert = fixed_tail c.cert c.cert.tail refl c.fixed decided.best in
-    let again : IsCertifiedAgain c.cert = certified_cert c.cert fix decided.decision decided.only in
+    let fix : IsTrackFix fixed_answer.cert = fixed_tail fixed_answer.cert fixed_answer.cert.tail refl fixed_answer.fixed decided.best in
+    let again : IsCertifiedAgain fixed_answer.cert = certified_cert fixed_answer.cert fix decided.decision decided.only in
     record {
-      cert = c.cert;
-      answer_is = c.is;
+      cert = fixed_answer.cert;
+      answer_is = fixed_answer.is;
       fix = fix;
-      by_ratio = subst (IsTrackBestByRatioIn c.cert.ratio c.cert.track.arcs (fine_signals c.cert.track.signals) c.cert.track.pairs) fix.tail_is
-          (certified_by_ratio c.cert.track.arcs (fine_signals c.cert.track.signals) c.cert.track.pairs c.cert.ratio c.cert.budget c.cert.tail again.certified);
+      by_ratio = subst (IsTrackBestByRatioIn fixed_answer.cert.ratio fixed_answer.cert.track.arcs (fine_signals fixed_answer.cert.track.signals) fixed_answer.cert.track.pairs) fix.tail_is
+          (certified_by_ratio fixed_answer.cert.track.arcs (fine_signals fixed_answer.cert.track.signals) fixed_answer.cert.track.pairs fixed_answer.cert.ratio fixed_answer.cert.budget fixed_answer.cert.tail again.certified);
       certified = again.certified;
       only = again.only;
-      stands = track_stands_for b r n o outcome c.cert found c.is;
+      stands = track_stands_for b r n o outcome fixed_answer.cert found fixed_answer.is;
     }

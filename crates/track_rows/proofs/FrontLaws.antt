@@ -84,8 +84,8 @@ front_same arcs after ss p same has =
 pub tracked_fronts : (screened : Screened) (kept : List Arc) (position : List ℤ) (signals : Signals) (system : ℕ) (t : Tracked) →
     IsTrackOf screened kept position signals system t → All (HasFront t.track.arcs (fine_signals t.track.signals)) t.track.pairs
 tracked_fronts screened kept position signals system t is = λ k d inside.
-    let p : PairRows = get_or t.track.pairs k d in
+    let pair : PairRows = get_or t.track.pairs k d in
     let within : k < length t.track.points = subst (λ (n : ℕ). k < n) (sym is.is_track.point_each) inside in
-    let by = is.is_track.are_tracked k (get_or t.track.points k []) p (slice_get-get_or t.track.points k [] within) (slice_get-get_or t.track.pairs k d inside) in
-    subst (λ (s : Signals). HasFront t.track.arcs (fine_signals s) p) (sym is.signals_are)
-    (front_same (map unshifted kept) t.track.arcs (fine_signals signals) p is.is_track.same by.front)
+    let is_tracked = is.is_track.are_tracked k (get_or t.track.points k []) pair (slice_get-get_or t.track.points k [] within) (slice_get-get_or t.track.pairs k d inside) in
+    subst (λ (s : Signals). HasFront t.track.arcs (fine_signals s) pair) (sym is.signals_are)
+    (front_same (map unshifted kept) t.track.arcs (fine_signals signals) pair is.is_track.same is_tracked.front)

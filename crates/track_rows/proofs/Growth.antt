@@ -56,9 +56,9 @@ pub tried_along : (t : TrackSetting) (arcs next : List Arc) (begun begun' : ℕ 
 tried_along t arcs next begun begun' pair point tried same after up down stays h = record {
   same = h.same;
   stayed = λ k b c is_b is_c holds begun_k.
-      let l : Like arcs k b = like next arcs (same ∙ sym after) k b is_b in
-      let e : b ≡ l.arc = stays k l.arc b l.arc_is is_b (down k begun_k) in
-      h.stayed k l.arc c l.arc_is is_c (subst (λ (x : Arc). holds_pair x pair ≡ true) e holds) (down k begun_k) ∙ sym e;
+      let like_arc : Like arcs k b = like next arcs (same ∙ sym after) k b is_b in
+      let same_arc : b ≡ like_arc.arc = stays k like_arc.arc b like_arc.arc_is is_b (down k begun_k) in
+      h.stayed k like_arc.arc c like_arc.arc_is is_c (subst (λ (x : Arc). holds_pair x pair ≡ true) same_arc holds) (down k begun_k) ∙ sym same_arc;
   taken = λ k c is_c holds not_begun. h.taken k c is_c holds (λ (b : begun k). not_begun (up k b));
 }
 
@@ -96,11 +96,11 @@ lost_by t arcs next begun begun' pair Wide along l = record { rows = l.rows; row
 lost_still : (t : TrackSetting) (count : ℕ) (arcs next : List Arc) (tracked : List PairRows) (new : PairRows) (l : Lost) → AreNext t arcs tracked count next → new.number ≡ count → l.pair < count →
     IsLost t arcs (HasBegun t.kept tracked l.pair) l.pair l.cause → IsLost t next (HasBegun t.kept (tracked ++ new ∷ []) l.pair) l.pair l.cause
 lost_still t count arcs next tracked new l n number less is =
-    let up : (k : ℕ) → HasBegun t.kept tracked l.pair k → HasBegun t.kept (tracked ++ new ∷ []) l.pair k = λ k b. begun_after t.kept tracked new l.pair k b in
+    let still_begun : (k : ℕ) → HasBegun t.kept tracked l.pair k → HasBegun t.kept (tracked ++ new ∷ []) l.pair k = λ k b. begun_after t.kept tracked new l.pair k b in
     let down : (k : ℕ) → HasBegun t.kept (tracked ++ new ∷ []) l.pair k → HasBegun t.kept tracked l.pair k =
     λ k b. begun_before t.kept tracked new l.pair k (subst (λ (m : ℕ). l.pair < m) (sym number) less) b in
     lost_by t arcs next (HasBegun t.kept tracked l.pair) (HasBegun t.kept (tracked ++ new ∷ []) l.pair) l.pair l.cause
-    (λ point tried h. tried_along t arcs next (HasBegun t.kept tracked l.pair) (HasBegun t.kept (tracked ++ new ∷ []) l.pair) l.pair point tried n.same n.after up down
+    (λ point tried h. tried_along t arcs next (HasBegun t.kept tracked l.pair) (HasBegun t.kept (tracked ++ new ∷ []) l.pair) l.pair point tried n.same n.after still_begun down
     (λ k a b is_a is_b begun. n.stays k a b is_a is_b (begun_later t.kept tracked l.pair count k less begun)) h) is
 
 -- the arcs of an earlier tracked pair have begun, so they are the same
@@ -121,11 +121,11 @@ tracked_still t count arcs next tracked new i point p n number is_p less is = re
       same = n.after;
       stayed = λ k b c is_b is_c holds begun. same_Some c b (sym is_c ∙ is_b);
       taken = λ k b is_b holds not_begun.
-          let l : Like arcs k b = like next arcs (n.same ∙ sym n.after) k b is_b in
-          let held : holds_pair l.arc p.number ≡ true = held_back t.kept arcs p.number k l.arc n.same l.arc_is (held_in t.kept next p.number k b n.after is_b holds) in
-          let e : b ≡ l.arc = same k l.arc b l.arc_is is_b held in
-          subst (λ (x : Arc). AreFirstShifts (rows_setting t t.kept point 0) p.number x.sat x.shift) (sym e)
-          (is.is_tried.are_tried.taken k l.arc l.arc_is held (λ (old : HasBegun t.kept tracked p.number k). not_begun (begun_after t.kept tracked new p.number k old)));
+          let like_arc : Like arcs k b = like next arcs (n.same ∙ sym n.after) k b is_b in
+          let held : holds_pair like_arc.arc p.number ≡ true = held_back t.kept arcs p.number k like_arc.arc n.same like_arc.arc_is (held_in t.kept next p.number k b n.after is_b holds) in
+          let same_arc : b ≡ like_arc.arc = same k like_arc.arc b like_arc.arc_is is_b held in
+          subst (λ (x : Arc). AreFirstShifts (rows_setting t t.kept point 0) p.number x.sat x.shift) (sym same_arc)
+          (is.is_tried.are_tried.taken k like_arc.arc like_arc.arc_is held (λ (old : HasBegun t.kept tracked p.number k). not_begun (begun_after t.kept tracked new p.number k old)));
     };
   };
   rows_are = rows_carried t.boxes arcs next t.position point t.signals 0 p.number p (agree_at p.number arcs next (n.after ∙ sym n.same) same) is.rows_are;
@@ -229,11 +229,11 @@ tracked_more t count arcs next points tracked lost point new is by others = reco
   tracked_rise = all_pairs_push (λ (p q : PairRows). p.number < q.number) tracked new is.tracked_rise (λ k d i. subst (λ (m : ℕ). (get_or tracked k d).number < m) (sym number) (is.tracked_in k d i));
   lost_rise = is.lost_rise;
   untouched = λ k b is_b free.
-      let l : Like arcs k b = like next arcs (n.same ∙ sym n.after) k b is_b in
-      let away : holds_pair l.arc count ≡ false = false_from_ne_true (holds_pair l.arc count) (λ holds. free (Any-push (λ (p : PairRows). IsHeld t.kept p.number k) tracked new
-      (subst (λ (m : ℕ). IsHeld t.kept m k) (sym number) (held_in t.kept arcs count k l.arc n.same l.arc_is holds)))) in
-      let e : b ≡ l.arc = others k l.arc b l.arc_is is_b away in
-      ap (λ (x : Arc). x.shift) e ∙ is.untouched k l.arc l.arc_is (λ (some : HasRow t.kept tracked k). free (any_more (λ (p : PairRows). IsHeld t.kept p.number k) tracked new some));
+      let like_arc : Like arcs k b = like next arcs (n.same ∙ sym n.after) k b is_b in
+      let away : holds_pair like_arc.arc count ≡ false = false_from_ne_true (holds_pair like_arc.arc count) (λ holds. free (Any-push (λ (p : PairRows). IsHeld t.kept p.number k) tracked new
+      (subst (λ (m : ℕ). IsHeld t.kept m k) (sym number) (held_in t.kept arcs count k like_arc.arc n.same like_arc.arc_is holds)))) in
+      let same_arc : b ≡ like_arc.arc = others k like_arc.arc b like_arc.arc_is is_b away in
+      ap (λ (x : Arc). x.shift) same_arc ∙ is.untouched k like_arc.arc like_arc.arc_is (λ (some : HasRow t.kept tracked k). free (any_more (λ (p : PairRows). IsHeld t.kept p.number k) tracked new some));
 }
   where
     number : new.number ≡ count

@@ -50,11 +50,11 @@ of_kept : (kept arcs : List Arc) (pair : ℕ) (r : Row) → AreSameArcs kept arc
 of_kept kept arcs pair r same o = record {
   arc_in = subst (λ (n : ℕ). r.arc < n) (length_same kept arcs same) o.arc_in;
   from_first = λ a is.
-      let l : Like arcs r.arc a = like kept arcs same r.arc a is in
-      subst (λ (n : ℕ). n ≤ pair) (ap (λ (x : Arc). x.first) l.same) (o.from_first l.arc l.arc_is);
+      let like_first : Like arcs r.arc a = like kept arcs same r.arc a is in
+      subst (λ (n : ℕ). n ≤ pair) (ap (λ (x : Arc). x.first) like_first.same) (o.from_first like_first.arc like_first.arc_is);
   to_last = λ a is.
-      let l : Like arcs r.arc a = like kept arcs same r.arc a is in
-      subst (λ (n : ℕ). pair ≤ n) (ap (λ (x : Arc). x.last) l.same) (o.to_last l.arc l.arc_is);
+      let like_last : Like arcs r.arc a = like kept arcs same r.arc a is in
+      subst (λ (n : ℕ). pair ≤ n) (ap (λ (x : Arc). x.last) like_last.same) (o.to_last like_last.arc like_last.arc_is);
 }
 
 pub has_kept : (kept arcs : List Arc) (p : PairRows) → AreSameArcs kept arcs → HasItsArcs arcs p → HasItsArcs kept p

@@ -43,7 +43,7 @@ more_marked n begun arcs pair flags more a b m so_far is_a is_b m_is pushed = su
 
     forth : (k : ℕ) → slice_get (flags ++ m ∷ []) k ≡ Some true → (k < n + 1) × ((slice_get begun k ≡ Some true) ⊎ IsHeld arcs pair k)
     forth k flag = ⊎_elim
-        (λ (old : slice_get flags k ≡ Some true). let o = (so_far.each k).0 old in (wider k o.0, o.1))
+        (λ (old : slice_get flags k ≡ Some true). let was_held = (so_far.each k).0 old in (wider k was_held.0, was_held.1))
         (λ (new : (k ≡ length flags) × (m ≡ true)). let last : k ≡ n = new.0 ∙ so_far.count in (
           own k last,
           ⊎_elim

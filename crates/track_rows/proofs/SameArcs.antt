@@ -12,14 +12,14 @@ use Rattle.track_rows.specs.Tracks.{unshifted}
 -- an arc that holds the pair holds it in the other list
 pub held_in : (kept arcs : List Arc) (pair k : ℕ) (b : Arc) → AreSameArcs kept arcs → slice_get arcs k ≡ Some b → holds_pair b pair ≡ true → IsHeld kept pair k
 held_in kept arcs pair k b same is held =
-    let l : Like kept k b = like arcs kept (sym same) k b is in
-    record { arc = l.arc; is = l.arc_is; held = same_holds l.arc b pair l.same ∙ held }
+    let like_arc : Like kept k b = like arcs kept (sym same) k b is in
+    record { arc = like_arc.arc; is = like_arc.arc_is; held = same_holds like_arc.arc b pair like_arc.same ∙ held }
 
 pub held_back : (kept arcs : List Arc) (pair k : ℕ) (b : Arc) → AreSameArcs kept arcs → slice_get arcs k ≡ Some b → IsHeld kept pair k → holds_pair b pair ≡ true
 held_back kept arcs pair k b same is h =
-    let l : Like kept k b = like arcs kept (sym same) k b is in
-    let e : h.arc ≡ l.arc = same_Some h.arc l.arc (sym h.is ∙ l.arc_is) in
-    sym (same_holds l.arc b pair l.same) ∙ subst (λ (x : Arc). holds_pair x pair ≡ true) e h.held
+    let like_arc : Like kept k b = like arcs kept (sym same) k b is in
+    let same_arc : h.arc ≡ like_arc.arc = same_Some h.arc like_arc.arc (sym h.is ∙ like_arc.arc_is) in
+    sym (same_holds like_arc.arc b pair like_arc.same) ∙ subst (λ (x : Arc). holds_pair x pair ≡ true) same_arc h.held
 
 -- where the arcs that hold the pair are the same in both, the lists agree at it
 pub agree_at : (pair : ℕ) (xs ys : List Arc) → AreSameArcs xs ys → ((k : ℕ) (a b : Arc) → slice_get xs k ≡ Some a → slice_get ys k ≡ Some b → holds_pair a pair ≡ true → b ≡ a) → AgreeAt pair xs ys

@@ -40,12 +40,12 @@ pub begun_walk : (t : TrackSetting) (kept arcs : List Arc) (begun : List Bool) (
     t.kept ≡ kept → AreArcs kept → AreUnshifted kept →
     arcs ≡ kept → begun ≡ replicate (length kept) false → points ≡ [] → tracked ≡ [] → lost ≡ [] → IsWalked t 0 arcs begun points tracked lost
 begun_walk t kept arcs begun points tracked lost e are unshifted arcs_are flags no_points no_pair none_lost =
-    let f : begun ≡ replicate (length t.kept) false = flags ∙ ap (λ (xs : List Arc). replicate (length xs) false) (sym e) in
+    let no_flags_yet : begun ≡ replicate (length t.kept) false = flags ∙ ap (λ (xs : List Arc). replicate (length xs) false) (sym e) in
     subst (λ (xs : List Arc). IsWalked t 0 xs begun points tracked lost) (e ∙ sym arcs_are)
     (subst (λ (xs : List (List ℤ)). IsWalked t 0 t.kept begun xs tracked lost) (sym no_points)
     (subst (λ (xs : List PairRows). IsWalked t 0 t.kept begun [] xs lost) (sym no_pair)
     (subst (λ (xs : List Lost). IsWalked t 0 t.kept begun [] [] xs) (sym none_lost)
-    (first_walk t begun (subst AreArcs (sym e) are) (subst AreUnshifted (sym e) unshifted) f (ap length f ∙ length-replicate (length t.kept) false)))))
+    (first_walk t begun (subst AreArcs (sym e) are) (subst AreUnshifted (sym e) unshifted) no_flags_yet (ap length no_flags_yet ∙ length-replicate (length t.kept) false)))))
 
 -- ---- a trial by the flags is one by the pairs that are tracked
 along : (t : TrackSetting) (count : ℕ) (arcs : List Arc) (begun : List Bool) (points : List (List ℤ)) (tracked : List PairRows) (lost : List Lost) → IsWalked t count arcs begun points tracked lost →
@@ -60,10 +60,10 @@ along t count arcs begun points tracked lost w point tried h =
 pub lost_step : (t : TrackSetting) (count : ℕ) (arcs : List Arc) (begun : List Bool) (points : List (List ℤ)) (tracked : List PairRows) (lost : List Lost) (new : Lost) →
     IsWalked t count arcs begun points tracked lost → new.pair ≡ count → IsLost t arcs (flagged begun) count new.cause → IsWalked t (count + 1) arcs begun points tracked (lost ++ new ∷ [])
 lost_step t count arcs begun points tracked lost new w number is =
-    let by : IsLost t arcs (HasBegun t.kept tracked count) count new.cause =
+    let is_lost : IsLost t arcs (HasBegun t.kept tracked count) count new.cause =
     lost_by t arcs arcs (flagged begun) (HasBegun t.kept tracked count) count new.cause (along t count arcs begun points tracked lost w) is in
     record {
-      is_track = lost_more t count arcs points tracked lost new w.is_track number (subst (λ (m : ℕ). IsLost t arcs (HasBegun t.kept tracked m) m new.cause) (sym number) by);
+      is_track = lost_more t count arcs points tracked lost new w.is_track number (subst (λ (m : ℕ). IsLost t arcs (HasBegun t.kept tracked m) m new.cause) (sym number) is_lost);
       flags = w.flags;
       fit = w.fit;
       few = more (length tracked) w.few;
@@ -79,13 +79,13 @@ pub tracked_step : (t : TrackSetting) (count : ℕ) (arcs next : List Arc) (begu
     FitsTrack t.signals point new next → AreMarked begun next count flags →
     IsWalked t (count + 1) next flags (points ++ point ∷ []) (tracked ++ new ∷ []) lost
 tracked_step t count arcs next begun flags points tracked lost point new w is others fit marked =
-    let by : IsTrackedBy t arcs (HasBegun t.kept tracked count) count point new next = record {
+    let is_tracked : IsTrackedBy t arcs (HasBegun t.kept tracked count) count point new next = record {
       is_tried = tried_by t arcs arcs (flagged begun) (HasBegun t.kept tracked count) count point next (along t count arcs begun points tracked lost w) is.is_tried;
       rows_are = is.rows_are;
       front = is.front;
     } in
     record {
-      is_track = tracked_more t count arcs next points tracked lost point new w.is_track by others;
+      is_track = tracked_more t count arcs next points tracked lost point new w.is_track is_tracked others;
       flags = flags_more t.kept next tracked new begun flags is.is_tried.are_tried.same w.flags (subst (λ (m : ℕ). AreMarked begun next m flags) (sym is.rows_are.number) marked);
       fit = record {
         arcs_in = fit.arcs_in;

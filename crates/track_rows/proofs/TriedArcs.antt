@@ -24,8 +24,8 @@ same_holds a b pair same = ap (λ (x : Arc). holds_pair x pair) same
 pub other_arc : (t : TrackSetting) (begun : Type 0) (pair : ℕ) (point : List ℤ) (arcs : List Arc) (k : ℕ) (a b : Arc) → AreSameArcs t.kept arcs → slice_get arcs k ≡ Some a → b ≡ a →
     ((c : Arc) → slice_get t.kept k ≡ Some c → holds_pair c pair ≡ false) → IsTriedArc t begun pair point a b
 other_arc t begun pair point arcs k a b same is stays none =
-    let l : Like t.kept k a = like arcs t.kept (sym same) k a is in
-    let off : holds_pair b pair ≡ false = ap (λ (x : Arc). holds_pair x pair) stays ∙ sym (same_holds l.arc a pair l.same) ∙ none l.arc l.arc_is in
+    let like_arc : Like t.kept k a = like arcs t.kept (sym same) k a is in
+    let off : holds_pair b pair ≡ false = ap (λ (x : Arc). holds_pair x pair) stays ∙ sym (same_holds like_arc.arc a pair like_arc.same) ∙ none like_arc.arc like_arc.arc_is in
     record { same = ap without_shifts stays; stayed = λ _. stays; other = λ _. stays; taken = λ holds _. absurd (false≢true (sym off ∙ holds)) }
 
 pub taken_arc : (t : TrackSetting) (begun : Type 0) (pair : ℕ) (point : List ℤ) (arcs : List Arc) (k : ℕ) (a : Arc) (shift : List ℤ) →
@@ -33,12 +33,12 @@ pub taken_arc : (t : TrackSetting) (begun : Type 0) (pair : ℕ) (point : List �
     ((c : Arc) → slice_get t.kept k ≡ Some c → holds_pair c pair ≡ false → ⊥) → ((c : Arc) → slice_get t.kept k ≡ Some c → AreFirstShifts (rows_setting t t.kept point 0) pair c.sat shift) →
     IsTriedArc t begun pair point a (record a { shift = shift })
 taken_arc t begun pair point arcs k a shift same is fresh some near =
-    let l : Like t.kept k a = like arcs t.kept (sym same) k a is in
+    let like_arc : Like t.kept k a = like arcs t.kept (sym same) k a is in
     record {
       same = refl;
       stayed = λ b. absurd (fresh b);
-      other = λ off. absurd (some l.arc l.arc_is (same_holds l.arc a pair l.same ∙ off));
-      taken = λ _ _. subst (λ (sat : ℕ). AreFirstShifts (rows_setting t t.kept point 0) pair sat shift) (ap (λ (x : Arc). x.sat) l.same) (near l.arc l.arc_is);
+      other = λ off. absurd (some like_arc.arc like_arc.arc_is (same_holds like_arc.arc a pair like_arc.same ∙ off));
+      taken = λ _ _. subst (λ (sat : ℕ). AreFirstShifts (rows_setting t t.kept point 0) pair sat shift) (ap (λ (x : Arc). x.sat) like_arc.same) (near like_arc.arc like_arc.arc_is);
     }
 
 pub below_more : (shift : List ℤ) → All (IsBelow (2 ^ 39)) shift → All (IsBelow (2 ^ 40)) shift
@@ -79,8 +79,8 @@ all_tried t arcs begun pair point n tried same all so_far =
       same = along ∙ same;
       stayed = λ k a b at there holds is. (so_far.each k a b at there).stayed is;
       taken = λ k b there holds fresh.
-          let l : Like arcs k b = like tried arcs (sym along) k b there in
-          (so_far.each k l.arc b l.arc_is there).taken holds fresh;
+          let like_arc : Like arcs k b = like tried arcs (sym along) k b there in
+          (so_far.each k like_arc.arc b like_arc.arc_is there).taken holds fresh;
     }
 
 pub keeps_others : (t : TrackSetting) (arcs : List Arc) (begun : ℕ → Type 0) (pair : ℕ) (point : List ℤ) (n : ℕ) (tried : List Arc) →

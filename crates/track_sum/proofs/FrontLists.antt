@@ -31,8 +31,8 @@ front_place arcs ss [] fs k p are l e = absurd (omega arith)
 front_place arcs ss (q ∷ pairs) [] k p are l e = absurd are
 front_place arcs ss (q ∷ pairs) (f ∷ fs) zero p are l e = record { front = f; is = subst (λ (x : PairRows). IsFrontOfPair arcs ss x f) e are.0; inside = omega arith; at = refl }
 front_place arcs ss (q ∷ pairs) (f ∷ fs) (suc k) p are l e =
-    let w : HasPlace arcs ss p fs k = front_place arcs ss pairs fs k p are.1 (omega arith) e in
-    record { front = w.front; is = w.is; inside = omega (arith, w.inside); at = w.at }
+    let has_place : HasPlace arcs ss p fs k = front_place arcs ss pairs fs k p are.1 (omega arith) e in
+    record { front = has_place.front; is = has_place.is; inside = omega (arith, has_place.inside); at = has_place.at }
 
 -- the fronts from there on
 pub fronts_from : (arcs : List Arc) (ss : List ℕ) (p : PairRows) (fs : List FrontForm) (k : ℕ) → (w : HasPlace arcs ss p fs k) → drop k fs ≡ w.front ∷ drop (k + 1) fs

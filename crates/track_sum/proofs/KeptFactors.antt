@@ -55,8 +55,8 @@ wide_at arcs ss z (p ∷ pairs) [] fs a b i k l e h = absurd a
 wide_at arcs ss z (p ∷ pairs) (j ∷ ks) [] a b i k l e h = absurd b
 wide_at arcs ss z (p ∷ pairs) (j ∷ ks) (f ∷ fs) a b zero k l e h = (0, f, omega arith, refl, subst HasWide (ap (λ (x : PairFactors). move_by z x) (sym e) ∙ one_move arcs ss z p j f a.0 b.0) h)
 wide_at arcs ss z (p ∷ pairs) (j ∷ ks) (f ∷ fs) a b (suc i) k l e h =
-    let w = wide_at arcs ss z pairs ks fs a.1 b.1 i k (omega (arith, l)) e h in
-    (suc w.0, w.1, omega (arith, w.2), w.3, w.4)
+    let is_wide = wide_at arcs ss z pairs ks fs a.1 b.1 i k (omega (arith, l)) e h in
+    (suc is_wide.0, is_wide.1, omega (arith, is_wide.2), is_wide.3, is_wide.4)
 
 pub wide_front : (arcs : List Arc) (ss : List ℕ) (z : List ℤ) (pairs : List PairRows) (ks : List PairFactors) (fs : List FrontForm) → AreFactors arcs ss pairs ks → AreFronts arcs ss pairs fs →
     Any (λ k. HasWide (move_by z k)) ks → Any (λ f. HasWide (move_at z f)) fs

@@ -70,11 +70,11 @@ exponent_least : (arcs : List Arc) (ss : List ℕ) (pairs : List PairRows) (fs g
     AreExponents (map brief fs) e h → AreExponents (map brief gs) d g → h ≤ g
 exponent_least arcs ss pairs fs gs e h d g a b s t =
     let k : ℕ = s.attained.0 in
-    let x : Front = s.attained.1 in
+    let front : Front = s.attained.1 in
     let inside : k < length pairs = subst (λ (n : ℕ). k < n) (fronts_long arcs ss pairs fs a) s.attained.2 in
     let least : e ≤ d = s.least d (subst (λ (n : ℕ). 2 * n ≤ 2 ^ d) (fronts_long arcs ss pairs gs b ∙ sym (fronts_long arcs ss pairs fs a)) t.enough) in
-    let height : x.h ≡ (get_or (map brief gs) k x).h = ap (λ (f : Front). f.h) (sym s.attained.3) ∙ heights_same arcs ss pairs fs gs a b k inside x x in
-    least_of x.h e h (get_or (map brief gs) k x).h d g s.attained.4 height least (t.over k x (subst (λ (n : ℕ). k < n) (sym (fronts_long arcs ss pairs gs b)) inside))
+    let height : front.h ≡ (get_or (map brief gs) k front).h = ap (λ (f : Front). f.h) (sym s.attained.3) ∙ heights_same arcs ss pairs fs gs a b k inside front front in
+    least_of front.h e h (get_or (map brief gs) k front).h d g s.attained.4 height least (t.over k front (subst (λ (n : ℕ). k < n) (sym (fronts_long arcs ss pairs gs b)) inside))
   where
     least_of : (a e h b d g : ℕ) → a + e ≡ h → a ≡ b → e ≤ d → b + d ≤ g → h ≤ g
     least_of a e h b d g i j k l = omega arith
@@ -144,9 +144,9 @@ pub no_fronts : (arcs : List Arc) (ss : List ℕ) (pairs : List PairRows) (why :
 no_fronts arcs ss [] why fs a b = absurd (omega (arith, a.inside))
 no_fronts arcs ss (q ∷ rest) why fs a b =
     let pairs : List PairRows = q ∷ rest in
-    let p : PairRows = get_or pairs a.place q in
-    let w : HasPlace arcs ss p fs a.place = front_place arcs ss pairs fs a.place p b a.inside (get_or_default pairs a.place p q a.inside) in
-    no_front arcs ss p why w.front (a.refused q) w.is
+    let pair : PairRows = get_or pairs a.place q in
+    let has_place : HasPlace arcs ss pair fs a.place = front_place arcs ss pairs fs a.place pair b a.inside (get_or_default pairs a.place pair q a.inside) in
+    no_front arcs ss pair why has_place.front (a.refused q) has_place.is
 
 same_finish : (s t : FrontForm) → SameSum s t → finish_of s ≡ finish_of t
 same_finish s t same = ap₂ (λ (k : ℕ) (a : List Column). steps 3 (k - 4) a) same.columns same.form
@@ -169,8 +169,8 @@ one_told a b r s e t u = t.1.1 ∙ ap told (same_refusal t.0 u.0 (sym t.1.0 ∙ 
 one_pair : (arcs : List Arc) (ss : List ℕ) (p : PairRows) (a b : LowerFault) → IsRefusedPair arcs ss p a → IsRefusedPair arcs ss p b → a ≡ b
 one_pair arcs ss p a b s t =
     let same = same_normal arcs ss (p ∷ []) s.normal t.normal s.of_rows t.of_rows in
-    let h : s.h ≡ t.h = exponent_unique s.h t.h (form_of t.normal) (one_exponent arcs ss (p ∷ []) s.normal t.normal s.h s.of_rows t.of_rows s.exponent) t.exponent in
-    one_told a b (front_of s.h s.normal) (front_of t.h t.normal) (same_front s.h s.normal t.normal same ∙ ap (λ (e : ℕ). front_of e t.normal) h) s.told t.told
+    let same_exponent : s.h ≡ t.h = exponent_unique s.h t.h (form_of t.normal) (one_exponent arcs ss (p ∷ []) s.normal t.normal s.h s.of_rows t.of_rows s.exponent) t.exponent in
+    one_told a b (front_of s.h s.normal) (front_of t.h t.normal) (same_front s.h s.normal t.normal same ∙ ap (λ (e : ℕ). front_of e t.normal) same_exponent) s.told t.told
 
 pub one_first : (arcs : List Arc) (ss : List ℕ) (pairs : List PairRows) (a b : LowerFault) → IsFirstRefused arcs ss pairs a → IsFirstRefused arcs ss pairs b → a ≡ b
 one_first arcs ss [] a b s t = absurd (omega (arith, s.inside))

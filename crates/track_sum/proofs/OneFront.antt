@@ -23,15 +23,15 @@ pub record SameFront (f g : FrontForm) : Type 0 where
 
 pub one_front : (arcs : List Arc) (ss : List ℕ) (p : PairRows) (f g : FrontForm) → IsFrontOfPair arcs ss p f → IsFrontOfPair arcs ss p g → SameFront f g
 one_front arcs ss p f g a b =
-    let n = a.normal in
-    let m = b.normal in
-    let same = same_normal arcs ss (p ∷ []) n m a.of_rows b.of_rows in
-    let h : f.h ≡ g.h = exponent_unique f.h g.h (form_of n) a.front.exponent (subst (λ (c : List Column). IsExponent g.h c) (sym same.form) b.front.exponent) in
+    let left_normal = a.normal in
+    let right_normal = b.normal in
+    let same = same_normal arcs ss (p ∷ []) left_normal right_normal a.of_rows b.of_rows in
+    let same_exponent : f.h ≡ g.h = exponent_unique f.h g.h (form_of left_normal) a.front.exponent (subst (λ (c : List Column). IsExponent g.h c) (sym same.form) b.front.exponent) in
     let taken : Ok (stored f.d f.l f.columns 0 3, form_of_table f.p (f.columns - 3)) ≡ Ok (stored g.d g.l g.columns 0 3, form_of_table g.p (g.columns - 3)) =
-    sym a.front.taken ∙ same_front f.h n m same ∙ ap (λ (e : ℕ). front_of e m) h ∙ b.front.taken in
+    sym a.front.taken ∙ same_front f.h left_normal right_normal same ∙ ap (λ (e : ℕ). front_of e right_normal) same_exponent ∙ b.front.taken in
     let pair : (stored f.d f.l f.columns 0 3, form_of_table f.p (f.columns - 3)) ≡ (stored g.d g.l g.columns 0 3, form_of_table g.p (g.columns - 3)) = cc in
     record {
-      h = h;
+      h = same_exponent;
       columns = a.front.columns ∙ same.columns ∙ sym b.front.columns;
       baseline = ap (λ (q : List Factor × List Column). q.0) pair;
       form = ap (λ (q : List Factor × List Column). q.1) pair;
@@ -41,6 +41,6 @@ one_front arcs ss p f g a b =
 pub no_front : (arcs : List Arc) (ss : List ℕ) (p : PairRows) (why : LowerFault) (f : FrontForm) → IsRefusedPair arcs ss p why → IsFrontOfPair arcs ss p f → ⊥
 no_front arcs ss p why f a b =
     let same = same_normal arcs ss (p ∷ []) b.normal a.normal b.of_rows a.of_rows in
-    let h : f.h ≡ a.h = exponent_unique f.h a.h (form_of a.normal) (one_exponent arcs ss (p ∷ []) b.normal a.normal f.h b.of_rows a.of_rows b.front.exponent) a.exponent in
-    let whole = same_front f.h b.normal a.normal same ∙ ap (λ (e : ℕ). front_of e a.normal) h in
+    let same_exponent : f.h ≡ a.h = exponent_unique f.h a.h (form_of a.normal) (one_exponent arcs ss (p ∷ []) b.normal a.normal f.h b.of_rows a.of_rows b.front.exponent) a.exponent in
+    let whole = same_front f.h b.normal a.normal same ∙ ap (λ (e : ℕ). front_of e a.normal) same_exponent in
     absurd (cc (a.told.1.0, whole, b.front.taken))

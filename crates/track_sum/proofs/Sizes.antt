@@ -19,7 +19,7 @@ abbrev IsRounded : ℤ → ℕ → ℤ → Type 0
 IsRounded x m q = (neg_ℤ (pos m) ≤ℤ (x -ℤ (pos m *ℤ q))) × ((x -ℤ (pos m *ℤ q)) ≤ℤ pos m)
 
 nearest_rounded : (x : ℤ) (m : ℕ) → 0 < m → IsRounded x m (nearest_div x m)
-nearest_rounded x m h = let b = nearest_close x m h in (low (pos m) (x -ℤ (pos m *ℤ nearest_div x m)) (pos_nn m) b.0, high (pos m) (x -ℤ (pos m *ℤ nearest_div x m)) (pos_nn m) b.1)
+nearest_rounded x m h = let nearest_bounds = nearest_close x m h in (low (pos m) (x -ℤ (pos m *ℤ nearest_div x m)) (pos_nn m) nearest_bounds.0, high (pos m) (x -ℤ (pos m *ℤ nearest_div x m)) (pos_nn m) nearest_bounds.1)
   where
     low : (m d : ℤ) → pos 0 ≤ℤ m → neg_ℤ m ≤ℤ (pos 2 *ℤ d) → neg_ℤ m ≤ℤ d
     low m d k h = omega (arith, ints)
@@ -60,21 +60,21 @@ sum_size f k b (g ∷ fs) all = step (unsigned_abs (f g)) (unsigned_abs (sum (ma
   where
     step : (a s t l c : ℕ) → t ≤ a + s → a * k ≤ c → s * k ≤ l * c → t * k ≤ suc l * c
     step a s t l c h i j =
-        let p : t * k ≤ (a + s) * k = mul-le-mul_right k h in
-        let q : (a + s) * k ≡ a * k + s * k = add-mul a s k in
-        let r : suc l * c ≡ l * c + c = suc-mul l c in
-        omega (arith, p, q, r, i, j)
+        let products_ordered : t * k ≤ (a + s) * k = mul-le-mul_right k h in
+        let product_splits : (a + s) * k ≡ a * k + s * k = add-mul a s k in
+        let successor_times : suc l * c ≡ l * c + c = suc-mul l c in
+        omega (arith, products_ordered, product_splits, successor_times, i, j)
 
 -- what each pair is divided by is at least twice the number of pairs
 part_large : (e h : ℕ) (f : Front) (k : ℕ) → k ≤ 2 ^ e → f.h + e ≤ h → k ≤ part h f
-part_large e h f k enough over = let p : 2 ^ e ≤ 2 ^ (h - f.h) = pow_mono (omega (arith, over)) in omega (arith, p, enough)
+part_large e h f k enough over = let power_at_most : 2 ^ e ≤ 2 ^ (h - f.h) = pow_mono (omega (arith, over)) in omega (arith, power_at_most, enough)
 
 each_part : (e h k : ℕ) (r : ℤ → ℕ → ℤ) (at : Front → ℤ) (fs : List Front) → ((x : ℤ) (m : ℕ) → 0 < m → IsRounded x m (r x m)) → k ≤ 2 ^ e → All (λ f. f.h + e ≤ h) fs →
     All (λ f. unsigned_abs (at f) < 2 ^ 52) fs
     → All (λ f. unsigned_abs (r (at f) (part h f)) * k ≤ 2 ^ 52 + k) fs
 each_part e h k r at fs is enough over small i d inside =
-    let f = get_or fs i d in
-    rounded_size (at f) (r (at f) (part h f)) (part h f) k (2 ^ 52) (is (at f) (part h f) (pow_pos (h - f.h))) (part_large e h f k enough (over i d inside)) (below (at f) (small i d inside))
+    let front = get_or fs i d in
+    rounded_size (at front) (r (at front) (part h front)) (part h front) k (2 ^ 52) (is (at front) (part h front) (pow_pos (h - front.h))) (part_large e h front k enough (over i d inside)) (below (at front) (small i d inside))
   where
     below : (x : ℤ) → unsigned_abs x < 2 ^ 52 → unsigned_abs x ≤ 2 ^ 52
     below x h = omega (arith, h)
@@ -90,9 +90,9 @@ sum_half e h all r at fs is some few enough over small =
   where
     halves : (s l : ℕ) → l ≤ all → s * (2 * all) ≤ l * (2 ^ 52 + 2 * all) → s ≤ 2 ^ 51 + all
     halves s l h g =
-        let p : l * (2 ^ 52 + 2 * all) ≤ all * (2 ^ 52 + 2 * all) = mul-le-mul_right (2 ^ 52 + 2 * all) h in
-        let q : s * (2 * all) ≤ all * (2 ^ 52 + 2 * all) = omega (arith, g, p) in
-        le_of_mul-le-mul_right {k = 2 * all} (subst (λ (n : ℕ). s * (2 * all) ≤ n) (turn all) q) (omega (arith, some))
+        let products_ordered : l * (2 ^ 52 + 2 * all) ≤ all * (2 ^ 52 + 2 * all) = mul-le-mul_right (2 ^ 52 + 2 * all) h in
+        let half_at_most : s * (2 * all) ≤ all * (2 ^ 52 + 2 * all) = omega (arith, g, products_ordered) in
+        le_of_mul-le-mul_right {k = 2 * all} (subst (λ (n : ℕ). s * (2 * all) ≤ n) (turn all) half_at_most) (omega (arith, some))
       where
         turn : (l : ℕ) → l * (2 ^ 52 + 2 * l) ≡ (2 ^ 51 + l) * (2 * l)
         turn l = omega arith
@@ -106,7 +106,7 @@ entry_small n e h fs some few columns exponents small i j = by_place (nat_eq i j
         (sum_half e h (length fs) floor_div (λ f. f.at i i) fs floor_rounded some (omega arith) exponents.enough exponents.over (λ k d l. small k d l i i)) few
       where
         taken : (l : ℕ) → l ≤ MOST_PAIRS → l * n ≤ MOST_PAIRS * 61
-        taken l h = let p : l * n ≤ l * 61 = mul-le-mul_left l columns in omega (arith, p, h)
+        taken l h = let count_at_most : l * n ≤ l * 61 = mul-le-mul_left l columns in omega (arith, count_at_most, h)
 
         less : (s : ℤ) (l : ℕ) → unsigned_abs s ≤ 2 ^ 51 + l → l ≤ MOST_PAIRS → unsigned_abs (s -ℤ (pos l *ℤ pos n)) < 2 ^ 52
         less s l h g = go s (l * n) l h g (taken l g)
@@ -131,9 +131,9 @@ exponent_few e h fs few each exponents = by_pair exponents.attained
 
     by_pair : Any (λ f. f.h + e ≡ h) fs → h ≤ 90
     by_pair some =
-        let at : e ≤ 13 = exponents.least 13 thirteen in
+        let exponent_at_most : e ≤ 13 = exponents.least 13 thirteen in
         let one : some.1.h ≤ 77 = subst (λ (f : Front). f.h ≤ 77) some.3 (each some.0 some.1 some.2) in
-        omega (arith, at, some.4, one)
+        omega (arith, exponent_at_most, some.4, one)
 
 -- they are unique, so a text has one form
 pub exponents_unique : (fs : List Front) (e h d g : ℕ) → AreExponents fs e h → AreExponents fs d g → (e ≡ d) × (h ≡ g)

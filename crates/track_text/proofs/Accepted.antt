@@ -78,17 +78,17 @@ pairs_accepted f arcs least (p ∷ pairs) (x ∷ points) numbers rest few_signal
     let with_this = subst (λ (ns : List ℕ). AreAccepted track_rules (Tail f arcs ns) rest) (sym (append_assoc numbers (p.number ∷ []) (numbers_of pairs))) behind in
     let later = pairs_accepted f arcs (p.number + 1) pairs points now rest few_signals few (omega (arith, each)) (All-tail (HasItsArcs arcs) p pairs has) (All-tail IsWholePair p pairs whole)
     (All-tail IsPoint x points are) (All-tail (λ (m : List ℤ). length m ≡ 3) x points triples) rising.1 with_this in
-    let c1 = rows_accepted track_rules f.ss arcs p.number (λ (n k : ℕ). before_rows f arcs (length pairs) p.number n k numbers) (before_pairs f arcs (length pairs) (p.number + 1) now) 0 p.rows others
+    let rows_pass = rows_accepted track_rules f.ss arcs p.number (λ (n k : ℕ). before_rows f arcs (length pairs) p.number n k numbers) (before_pairs f arcs (length pairs) (p.number + 1) now) 0 p.rows others
     (rows_taken f arcs (length pairs) p.number numbers) few_signals few own wide (rises (λ (r : Row). r.arc) 0 p.rows p.arcs_rise (λ d some. omega arith)) later in
-    let c2 = line_accepted track_rules (PairPoint f arcs (length pairs) p.number count numbers) (vector_in (codes "at") 3 COORDINATES)
+    let point_passes = line_accepted track_rules (PairPoint f arcs (length pairs) p.number count numbers) (vector_in (codes "at") 3 COORDINATES)
     (λ (z : List ℤ). before_rows f arcs (length pairs) p.number count 0 numbers) x at_point (rows ++ others)
-    (point_taken f arcs (length pairs) p.number count numbers) (point_length (codes "at") x (lit≤ tt) three point) (point_spells (codes "at") x three point) c1 in
-    let c3 = subst (λ (n : ℕ). AreAccepted track_rules (PairPoint f arcs n p.number count numbers) (at_point ∷ (rows ++ others))) (sym fewer) c2 in
+    (point_taken f arcs (length pairs) p.number count numbers) (point_length (codes "at") x (lit≤ tt) three point) (point_spells (codes "at") x three point) rows_pass in
+    let point_still_passes = subst (λ (n : ℕ). AreAccepted track_rules (PairPoint f arcs n p.number count numbers) (at_point ∷ (rows ++ others))) (sym fewer) point_passes in
     let reads = pair_spells Two least p.number p.tag.0 count p.group rising.0 p.number_in p.tag_in p.group_in p.some_rows p.few_rows in
     let short = line_length (codes "pair") (pos p.number ∷ pos p.tag.0 ∷ p.group ∷ pos count ∷ []) (lit≤ tt) (lit≤ tt) (pair_small p) in
-    let c4 = line_accepted track_rules (before_pairs f arcs left least numbers) (pair_in Two least) (λ (h : PairHead). PairPoint f arcs (left - 1) h.number h.count numbers)
-    (pair_head p.number p.tag.0 p.group count) head (at_point ∷ (rows ++ others)) (pair_taken f arcs left least numbers (omega arith)) short reads c3 in
-    subst (AreAccepted track_rules (before_pairs f arcs left least numbers)) (sym (append_assoc (placed_pair_lines f.ss p x) (all_placed_pairs f.ss pairs points) rest)) c4
+    let head_passes = line_accepted track_rules (before_pairs f arcs left least numbers) (pair_in Two least) (λ (h : PairHead). PairPoint f arcs (left - 1) h.number h.count numbers)
+    (pair_head p.number p.tag.0 p.group count) head (at_point ∷ (rows ++ others)) (pair_taken f arcs left least numbers (omega arith)) short reads point_still_passes in
+    subst (AreAccepted track_rules (before_pairs f arcs left least numbers)) (sym (append_assoc (placed_pair_lines f.ss p x) (all_placed_pairs f.ss pairs points) rest)) head_passes
 
 -- ---- tails
 
@@ -97,14 +97,14 @@ moves_accepted : (pairs : List PairRows) (moves : List (List ℤ)) (rest : List 
 moves_accepted [] moves rest each are triples behind = behind
 moves_accepted (p ∷ pairs) [] rest each are triples behind = absurd (omega (arith, each))
 moves_accepted (p ∷ pairs) (m ∷ moves) rest each are triples behind =
-    let is = All-head IsMove m moves are in
+    let is_move = All-head IsMove m moves are in
     let three = All-head (λ (z : List ℤ). length z ≡ 3) m moves triples in
     let later = moves_accepted pairs moves rest (omega (arith, each)) (All-tail IsMove m moves are) (All-tail (λ (z : List ℤ). length z ≡ 3) m moves triples) behind in
     let few : length (pos p.number ∷ m) ≤ MOST_INTEGERS = omega (arith, three) in
-    let short = line_length (codes "move") (pos p.number ∷ m) (lit≤ tt) few (move_small p m is) in
+    let short = line_length (codes "move") (pos p.number ∷ m) (lit≤ tt) few (move_small p m is_move) in
     line_accepted track_rules (before_moves (p.number ∷ numbers_of pairs)) (move_in p.number) (λ (z : List ℤ). before_moves (numbers_of pairs)) m (move_line p.number m)
     (move_lines pairs moves ++ rest)
-    (move_taken p.number (numbers_of pairs)) short (move_spells p m three is) later
+    (move_taken p.number (numbers_of pairs)) short (move_spells p m three is_move) later
 
 -- the lines of a tail with vectors, and the last one
 vectors_accepted : (f : Frame) (arcs : List Arc) (pairs : List PairRows) (h : ℕ) (moves : List (List ℤ)) (best : TwoBest) (top : ℤ) (fixed : Bool)
@@ -112,29 +112,29 @@ vectors_accepted : (f : Frame) (arcs : List Arc) (pairs : List PairRows) (h : �
     → AreAccepted track_rules (Tail f arcs (numbers_of pairs)) (track_vectors_lines pairs h moves best top ++ last_line fixed ∷ [])
 vectors_accepted f arcs pairs h moves best top fixed are whole =
     let n = best.size in
-    let v = are.values in
+    let values_fit = are.values in
     let numbers = numbers_of pairs in
     let first = take n best.first in
     let second = take n best.second in
     let first_long : length first ≡ n = length-take-le n best.first (omega (arith, best.size_to, whole.first)) in
     let second_long : length second ≡ n = length-take-le n best.second (omega (arith, best.size_to, whole.second)) in
-    let s1 = entries_small n best.first v.first_in in
-    let s2 = entries_small n best.second v.second_in in
-    let s3 = values_small h best.p1 best.p2 top v.h_to v.p1_in v.p2_in v.top_in in
+    let first_small = entries_small n best.first values_fit.first_in in
+    let second_small = entries_small n best.second values_fit.second_in in
+    let values_are_small = values_small h best.p1 best.p2 top values_fit.h_to values_fit.p1_in values_fit.p2_in values_fit.top_in in
     let line = values_line h best.p1 best.p2 top in
-    let z1_read = vector_spells (codes "z1") n ENTRIES first first_long s1 (entries_in n best.first v.first_in) in
-    let z1 : admit (Tail f arcs numbers) (vector_line (codes "z1") first) ≡ Ok (Second n numbers) =
-    admits_vectors f n arcs numbers (vector_line (codes "z1") first) v.size refl ∙ ap (λ (r : Result (List ℤ) Flaw). and_then r (λ z. Ok (Second n numbers))) z1_read in
-    let z2_read = vector_spells (codes "z2") n ENTRIES second second_long s2 (entries_in n best.second v.second_in) in
-    let values_read = values_spell h best.p1 best.p2 top v.h_to v.p1_in v.p2_in v.top_in in
-    let c1 = line_accepted track_rules Last last_in (λ (b : Bool). End) fixed (last_line fixed) [] last_taken (last_length fixed) (last_read fixed) (end_accepted track_rules End refl) in
-    let c2 = line_accepted track_rules Values values_in (λ (x : FormValues). Last) (form_values h best.p1 best.p2 top) line (last_line fixed ∷ []) values_taken
-    (line_length (codes "values") (pos h ∷ best.p1 ∷ best.p2 ∷ top ∷ []) (lit≤ tt) (lit≤ tt) s3) values_read c1 in
-    let c3 = moves_accepted pairs moves (line ∷ last_line fixed ∷ []) are.move_each are.moves_in whole.move_each c2 in
-    let c4 = line_accepted track_rules (Second n numbers) (vector_in (codes "z2") n ENTRIES) (λ (z : List ℤ). before_moves numbers) second (vector_line (codes "z2") second)
-    (move_lines pairs moves ++ (line ∷ last_line fixed ∷ [])) (second_taken n numbers) (line_length (codes "z2") second (lit≤ tt) (omega (arith, second_long, best.size_to)) s2) z2_read c3 in
+    let z1_read = vector_spells (codes "z1") n ENTRIES first first_long first_small (entries_in n best.first values_fit.first_in) in
+    let first_admitted : admit (Tail f arcs numbers) (vector_line (codes "z1") first) ≡ Ok (Second n numbers) =
+    admits_vectors f n arcs numbers (vector_line (codes "z1") first) values_fit.size refl ∙ ap (λ (r : Result (List ℤ) Flaw). and_then r (λ z. Ok (Second n numbers))) z1_read in
+    let z2_read = vector_spells (codes "z2") n ENTRIES second second_long second_small (entries_in n best.second values_fit.second_in) in
+    let values_read = values_spell h best.p1 best.p2 top values_fit.h_to values_fit.p1_in values_fit.p2_in values_fit.top_in in
+    let last_passes = line_accepted track_rules Last last_in (λ (b : Bool). End) fixed (last_line fixed) [] last_taken (last_length fixed) (last_read fixed) (end_accepted track_rules End refl) in
+    let values_pass = line_accepted track_rules Values values_in (λ (x : FormValues). Last) (form_values h best.p1 best.p2 top) line (last_line fixed ∷ []) values_taken
+    (line_length (codes "values") (pos h ∷ best.p1 ∷ best.p2 ∷ top ∷ []) (lit≤ tt) (lit≤ tt) values_are_small) values_read last_passes in
+    let moves_pass = moves_accepted pairs moves (line ∷ last_line fixed ∷ []) are.move_each are.moves_in whole.move_each values_pass in
+    let second_passes = line_accepted track_rules (Second n numbers) (vector_in (codes "z2") n ENTRIES) (λ (z : List ℤ). before_moves numbers) second (vector_line (codes "z2") second)
+    (move_lines pairs moves ++ (line ∷ last_line fixed ∷ [])) (second_taken n numbers) (line_length (codes "z2") second (lit≤ tt) (omega (arith, second_long, best.size_to)) second_small) z2_read moves_pass in
     let all = step track_rules (Tail f arcs numbers) (Second n numbers) (vector_line (codes "z1") first) (vector_line (codes "z2") second ∷ (move_lines pairs moves ++ (line ∷ last_line fixed ∷ [])))
-    (line_length (codes "z1") first (lit≤ tt) (omega (arith, first_long, best.size_to)) s1) z1 c4 in
+    (line_length (codes "z1") first (lit≤ tt) (omega (arith, first_long, best.size_to)) first_small) first_admitted second_passes in
     let split : track_vectors_lines pairs h moves best top ++ last_line fixed ∷ []
     ≡ vector_line (codes "z1") first ∷ vector_line (codes "z2") second ∷ (move_lines pairs moves ++ (line ∷ last_line fixed ∷ [])) =
     ap (λ (l : List (List ℕ)). vector_line (codes "z1") first ∷ vector_line (codes "z2") second ∷ l) (append_assoc (move_lines pairs moves) (line ∷ []) (last_line fixed ∷ [])) in
@@ -174,37 +174,37 @@ regrouped c = ap (λ (l : List (List ℕ)). track_head_lines c.ratio c.budget c.
 
 track_accepted : (c : TrackCert) → IsWholeTrackCert c → AreAccepted track_rules Form (lines_of_track c)
 track_accepted c whole =
-    let t = c.track in
-    let ss = fine_signals t.signals in
+    let track = c.track in
+    let fine = fine_signals track.signals in
     let budget = c.budget in
-    let f = frame budget ss in
-    let n = length t.pairs in
-    let few_signals : length ss ≤ SIGNALS = (signals_good t.signals.l2 t.signals.l5).few in
-    let ends = track_tail_lines t.pairs c.tail in
-    let after_arcs = counted_placed_pairs ss t.pairs t.points ++ ends in
-    let tail = tail_accepted f t.arcs t.pairs c.tail c.budget_to c.tail_fits whole.tail in
-    let c1 = pairs_accepted f t.arcs 0 t.pairs t.points [] ends few_signals t.arcs_in.few t.point_each t.pairs_in.rows_have_arcs whole.track.pairs t.points_in whole.track.points
-    (rises (λ (p : PairRows). p.number) 0 t.pairs t.pairs_in.rising (λ d some. omega arith)) tail in
-    let few_pairs : n < 2 ^ 126 = omega (arith, t.pairs_in.few) in
-    let c2 = line_accepted track_rules (PairCount f t.arcs) (count_in (codes "pairs") 1 MOST_PAIRS) (λ (k : ℕ). before_pairs f t.arcs k 0 []) n (count_line (codes "pairs") n)
-    (all_placed_pairs ss t.pairs t.points ++ ends) (pair_count_taken f t.arcs) (line_length (codes "pairs") (pos n ∷ []) (lit≤ tt) (lit≤ tt) (few_pairs, tt))
-    (count_spells (codes "pairs") 1 MOST_PAIRS n c.some_pairs t.pairs_in.few (omega arith)) c1 in
-    let c3 = counted_arcs_accepted track_rules Two t.signals.l2 t.signals.l5 (ArcCount f) (before_arcs f) t.arcs after_arcs (arc_count_taken f) (arcs_taken f) t.arcs_in
-    (λ k d inside. (t.arcs_in.ranges k d inside).sat_to) t.shifts_used whole.track.arcs c2 in
-    let signals = signals_line Two t.signals.l1 t.signals.l2 t.signals.l5 in
-    let c4 = line_accepted track_rules (Letters budget) (signals_in Two) (behind_letters budget) (letters_of_signals t.signals) signals (counted_arcs ss t.arcs ++ after_arcs) (letters_taken budget)
-    (letters_length Two t.signals) (letters_spell Two t.signals (λ e. absurd (not_one e))) c3 in
-    let c5 = line_accepted track_rules (Base budget) (vector_in (codes "base") 3 COORDINATES) (λ (p : List ℤ). Letters budget) t.base (vector_line (codes "base") t.base) _ (base_taken budget)
-    (point_length (codes "base") t.base (lit≤ tt) whole.track.base t.base_in) (point_spells (codes "base") t.base whole.track.base t.base_in) c4 in
-    let c6 = line_accepted track_rules (SystemLine budget) system_in (λ (s : ℕ). Base budget) t.system (system_line t.system) _ (system_taken budget) (lit≤ tt)
-    (system_spells t.system t.system_is) c5 in
+    let f = frame budget fine in
+    let n = length track.pairs in
+    let few_signals : length fine ≤ SIGNALS = (signals_good track.signals.l2 track.signals.l5).few in
+    let ends = track_tail_lines track.pairs c.tail in
+    let after_arcs = counted_placed_pairs fine track.pairs track.points ++ ends in
+    let tail = tail_accepted f track.arcs track.pairs c.tail c.budget_to c.tail_fits whole.tail in
+    let pairs_pass = pairs_accepted f track.arcs 0 track.pairs track.points [] ends few_signals track.arcs_in.few track.point_each track.pairs_in.rows_have_arcs whole.track.pairs track.points_in whole.track.points
+    (rises (λ (p : PairRows). p.number) 0 track.pairs track.pairs_in.rising (λ d some. omega arith)) tail in
+    let few_pairs : n < 2 ^ 126 = omega (arith, track.pairs_in.few) in
+    let pair_count_passes = line_accepted track_rules (PairCount f track.arcs) (count_in (codes "pairs") 1 MOST_PAIRS) (λ (k : ℕ). before_pairs f track.arcs k 0 []) n (count_line (codes "pairs") n)
+    (all_placed_pairs fine track.pairs track.points ++ ends) (pair_count_taken f track.arcs) (line_length (codes "pairs") (pos n ∷ []) (lit≤ tt) (lit≤ tt) (few_pairs, tt))
+    (count_spells (codes "pairs") 1 MOST_PAIRS n c.some_pairs track.pairs_in.few (omega arith)) pairs_pass in
+    let arcs_pass = counted_arcs_accepted track_rules Two track.signals.l2 track.signals.l5 (ArcCount f) (before_arcs f) track.arcs after_arcs (arc_count_taken f) (arcs_taken f) track.arcs_in
+    (λ k d inside. (track.arcs_in.ranges k d inside).sat_to) track.shifts_used whole.track.arcs pair_count_passes in
+    let signals = signals_line Two track.signals.l1 track.signals.l2 track.signals.l5 in
+    let letters_pass = line_accepted track_rules (Letters budget) (signals_in Two) (behind_letters budget) (letters_of_signals track.signals) signals (counted_arcs fine track.arcs ++ after_arcs) (letters_taken budget)
+    (letters_length Two track.signals) (letters_spell Two track.signals (λ e. absurd (not_one e))) arcs_pass in
+    let base_passes = line_accepted track_rules (Base budget) (vector_in (codes "base") 3 COORDINATES) (λ (p : List ℤ). Letters budget) track.base (vector_line (codes "base") track.base) _ (base_taken budget)
+    (point_length (codes "base") track.base (lit≤ tt) whole.track.base track.base_in) (point_spells (codes "base") track.base whole.track.base track.base_in) letters_pass in
+    let system_passes = line_accepted track_rules (SystemLine budget) system_in (λ (s : ℕ). Base budget) track.system (system_line track.system) _ (system_taken budget) (lit≤ tt)
+    (system_spells track.system track.system_is) base_passes in
     let few_visits : budget < 2 ^ 126 = omega (arith, c.budget_to) in
-    let c7 = line_accepted track_rules Budget (count_in (codes "budget") 1 MOST_BUDGET) (λ (k : ℕ). SystemLine k) budget (count_line (codes "budget") budget) _ budget_taken
-    (line_length (codes "budget") (pos budget ∷ []) (lit≤ tt) (lit≤ tt) (few_visits, tt)) (count_spells (codes "budget") 1 MOST_BUDGET budget c.budget_from c.budget_to (omega arith)) c6 in
+    let budget_passes = line_accepted track_rules Budget (count_in (codes "budget") 1 MOST_BUDGET) (λ (k : ℕ). SystemLine k) budget (count_line (codes "budget") budget) _ budget_taken
+    (line_length (codes "budget") (pos budget ∷ []) (lit≤ tt) (lit≤ tt) (few_visits, tt)) (count_spells (codes "budget") 1 MOST_BUDGET budget c.budget_from c.budget_to (omega arith)) system_passes in
     let small_ratio : c.ratio < 2 ^ 126 = omega (arith, c.ratio_to) in
-    let c8 = line_accepted track_rules Ratio (count_in (codes "ratio") 1000 MOST_RATIO) (λ (k : ℕ). Budget) c.ratio (count_line (codes "ratio") c.ratio) _ ratio_taken
-    (line_length (codes "ratio") (pos c.ratio ∷ []) (lit≤ tt) (lit≤ tt) (small_ratio, tt)) (count_spells (codes "ratio") 1000 MOST_RATIO c.ratio c.ratio_from c.ratio_to (omega arith)) c7 in
-    let all = step track_rules Form Ratio track_form _ (lit≤ tt) refl c8 in
+    let ratio_passes = line_accepted track_rules Ratio (count_in (codes "ratio") 1000 MOST_RATIO) (λ (k : ℕ). Budget) c.ratio (count_line (codes "ratio") c.ratio) _ ratio_taken
+    (line_length (codes "ratio") (pos c.ratio ∷ []) (lit≤ tt) (lit≤ tt) (small_ratio, tt)) (count_spells (codes "ratio") 1000 MOST_RATIO c.ratio c.ratio_from c.ratio_to (omega arith)) budget_passes in
+    let all = step track_rules Form Ratio track_form _ (lit≤ tt) refl ratio_passes in
     subst (AreAccepted track_rules Form) (sym (regrouped c)) all
 
 -- the text of the certificate of a track is none that is refused

@@ -51,22 +51,22 @@ points_of h = h.point.value ∷ []
 
 abbrev track_of : (h : TrackHead) (arcs : List Arc) → AreBegun Two (signals_of_head h) 0 arcs → Track
 track_of h arcs begun =
-    let s = (session_cert h arcs begun).session in
+    let session = (session_cert h arcs begun).session in
     record {
       system = h.system.value;
       base = h.base.value;
       signals = h.signals.value;
       arcs = arcs;
       points = points_of h;
-      pairs = s.pairs;
+      pairs = session.pairs;
       system_is = h.system.is.0;
       base_in = h.base.is.0;
-      arcs_in = s.arcs_in;
+      arcs_in = session.arcs_in;
       points_in = All-one IsPoint h.point.value h.point.is.0;
       point_each = refl;
-      pairs_in = s.pairs_in;
-      rows_used = s.rows_used;
-      shifts_used = s.shifts_used;
+      pairs_in = session.pairs_in;
+      rows_used = session.rows_used;
+      shifts_used = session.shifts_used;
     }
 
 abbrev track_cert : (h : TrackHead) (arcs : List Arc) → AreBegun Two (signals_of_head h) 0 arcs → TrackCert
@@ -133,20 +133,20 @@ arcs_front h left arcs = head_of h ++ count_line (codes "arcs") (length arcs + l
 
 arcs_begun : (h : TrackHead) (left : ℕ) (arcs : List Arc) → AreBegun Two (signals_of_head h) left arcs → IsBegunBy (arcs_front h left arcs)
 arcs_begun h left arcs begun =
-    let ss = signals_of_head h in
-    let f = filled Two ss left arcs begun in
-    let c = track_cert h (arcs ++ f.more) f.whole in
-    let pairs = counted_placed_pairs ss c.track.pairs (points_of h) in
-    let tail = track_tail_lines c.track.pairs c.tail in
+    let head_signals = signals_of_head h in
+    let f = filled Two head_signals left arcs begun in
+    let made_cert = track_cert h (arcs ++ f.more) f.whole in
+    let pairs = counted_placed_pairs head_signals made_cert.track.pairs (points_of h) in
+    let tail = track_tail_lines made_cert.track.pairs made_cert.tail in
     let count : length (arcs ++ f.more) ≡ length arcs + left = length-append arcs f.more ∙ ap (λ (n : ℕ). length arcs + n) f.count in
-    let lines : counted_arcs ss (arcs ++ f.more) ≡ (count_line (codes "arcs") (length arcs + left) ∷ arc_lines ss arcs) ++ arc_lines ss f.more =
-    λ i. count_line (codes "arcs") (count i) ∷ arc_lines-append ss arcs f.more i in
+    let lines : counted_arcs head_signals (arcs ++ f.more) ≡ (count_line (codes "arcs") (length arcs + left) ∷ arc_lines head_signals arcs) ++ arc_lines head_signals f.more =
+    λ i. count_line (codes "arcs") (count i) ∷ arc_lines-append head_signals arcs f.more i in
     record {
-      cert = c;
+      cert = made_cert;
       whole = track_whole h (arcs ++ f.more) f.whole;
-      more = arc_lines ss f.more ++ (pairs ++ tail);
+      more = arc_lines head_signals f.more ++ (pairs ++ tail);
       split = ap (λ (l : List (List ℕ)). (head_of h ++ (l ++ pairs)) ++ tail) lines
-          ∙ regroup (head_of h) (count_line (codes "arcs") (length arcs + left) ∷ arc_lines ss arcs) (arc_lines ss f.more) pairs tail;
+          ∙ regroup (head_of h) (count_line (codes "arcs") (length arcs + left) ∷ arc_lines head_signals arcs) (arc_lines head_signals f.more) pairs tail;
     }
 
 -- a head alone
@@ -182,24 +182,24 @@ part_begins : (h : TrackHead) (front part behind : List (List ℕ)) → front �
 part_begins h front part behind are split = subst IsBegunBy (sym are) (fewer_lines part behind (subst IsBegunBy (sym split) (whole_head h)))
 
 held_begins : (s : Expected) (front : List (List ℕ)) → Held s front → IsBegunBy front
-held_begins Form front are = let h = any_head Two in part_begins h front [] (head_of h) are refl
+held_begins Form front are = let head = any_head Two in part_begins head front [] (head_of head) are refl
 held_begins Ratio front are =
-    let h = any_head Two in
-    part_begins h front (track_form ∷ []) (ratio_of h ∷ budget_of h ∷ system_of h ∷ base_of h ∷ letters_of h ∷ []) are refl
+    let head = any_head Two in
+    part_begins head front (track_form ∷ []) (ratio_of head ∷ budget_of head ∷ system_of head ∷ base_of head ∷ letters_of head ∷ []) are refl
 held_begins Budget front held =
-    let h = held.head in
-    part_begins h front (track_form ∷ ratio_of h ∷ []) (budget_of h ∷ system_of h ∷ base_of h ∷ letters_of h ∷ []) held.are refl
+    let head = held.head in
+    part_begins head front (track_form ∷ ratio_of head ∷ []) (budget_of head ∷ system_of head ∷ base_of head ∷ letters_of head ∷ []) held.are refl
 held_begins (SystemLine budget) front held =
-    let h = held.head in
-    part_begins h front (track_form ∷ ratio_of h ∷ budget_of h ∷ []) (system_of h ∷ base_of h ∷ letters_of h ∷ []) held.are refl
+    let head = held.head in
+    part_begins head front (track_form ∷ ratio_of head ∷ budget_of head ∷ []) (system_of head ∷ base_of head ∷ letters_of head ∷ []) held.are refl
 held_begins (Base budget) front held =
-    let h = held.head in
-    part_begins h front (track_form ∷ ratio_of h ∷ budget_of h ∷ system_of h ∷ []) (base_of h ∷ letters_of h ∷ []) held.are refl
+    let head = held.head in
+    part_begins head front (track_form ∷ ratio_of head ∷ budget_of head ∷ system_of head ∷ []) (base_of head ∷ letters_of head ∷ []) held.are refl
 held_begins (Letters budget) front held =
-    let h = held.head in
-    part_begins h front (track_form ∷ ratio_of h ∷ budget_of h ∷ system_of h ∷ base_of h ∷ []) (letters_of h ∷ []) held.are refl
+    let head = held.head in
+    part_begins head front (track_form ∷ ratio_of head ∷ budget_of head ∷ system_of head ∷ base_of head ∷ []) (letters_of head ∷ []) held.are refl
 held_begins (ArcCount f) front held = subst IsBegunBy (sym held.2) (whole_head held.0)
-held_begins (NextArc f left arcs) front held = let a = held.1 in subst IsBegunBy (sym a.are) (arcs_begun a.head left arcs a.begun)
+held_begins (NextArc f left arcs) front held = let begun_arcs = held.1 in subst IsBegunBy (sym begun_arcs.are) (arcs_begun begun_arcs.head left arcs begun_arcs.begun)
 held_begins (PairCount f arcs) front held = subst IsBegunBy (sym held.are) (arcs_begun held.head 0 arcs held.begun)
 held_begins (NextPair f arcs left least numbers) front held = absurd held
 held_begins (PairPoint f arcs pairs number count numbers) front held = absurd held
@@ -225,20 +225,20 @@ arcs_next f (suc left) arcs front held = (omega arith, held)
 arc_step : (f : Frame) (left : ℕ) (arcs : List Arc) (front : List (List ℕ)) (line : List ℕ) (a : Arc) → 1 ≤ left → HeldArcs f left arcs front → arc_in Two f.ss (free_count arcs) left line ≡ Ok a
     → HeldArcs f (left - 1) (arcs ++ a ∷ []) (front ++ line ∷ [])
 arc_step f left arcs front line a some held is =
-    let h = held.head in
-    let s = h.signals.value in
-    let ss = signals_of_head h in
-    let read = arc_was Two s.l2 s.l5 (free_count arcs) left line a (ap (λ (l : List ℕ). arc_in Two l (free_count arcs) left line) (sym held.signals) ∙ is) in
+    let held_head = held.head in
+    let given_signals = held_head.signals.value in
+    let head_signals = signals_of_head held_head in
+    let read = arc_was Two given_signals.l2 given_signals.l5 (free_count arcs) left line a (ap (λ (l : List ℕ). arc_in Two l (free_count arcs) left line) (sym held.signals) ∙ is) in
     let sizes = length-append arcs (a ∷ []) in
     let count : length arcs + left ≡ length (arcs ++ a ∷ []) + (left - 1) = omega (arith, sizes, some) in
-    let own : arc_lines ss arcs ++ arc_line ss a ∷ [] ≡ arc_lines ss (arcs ++ a ∷ []) = arcs_took ss arcs a [] ∙ append-nil (arc_lines ss (arcs ++ a ∷ [])) in
+    let own : arc_lines head_signals arcs ++ arc_line head_signals a ∷ [] ≡ arc_lines head_signals (arcs ++ a ∷ []) = arcs_took head_signals arcs a [] ∙ append-nil (arc_lines head_signals (arcs ++ a ∷ [])) in
     record {
-      head = h;
+      head = held_head;
       signals = held.signals;
-      begun = one_more Two ss left arcs a some held.begun read.of_version read.stands;
-      are = pushed front (arcs_front h left arcs) line (arc_line ss a) held.are read.line_is
-          ∙ append_assoc (head_of h) (count_line (codes "arcs") (length arcs + left) ∷ arc_lines ss arcs) (arc_line ss a ∷ [])
-          ∙ (λ i. head_of h ++ count_line (codes "arcs") (count i) ∷ own i);
+      begun = one_more Two head_signals left arcs a some held.begun read.of_version read.stands;
+      are = pushed front (arcs_front held_head left arcs) line (arc_line head_signals a) held.are read.line_is
+          ∙ append_assoc (head_of held_head) (count_line (codes "arcs") (length arcs + left) ∷ arc_lines head_signals arcs) (arc_line head_signals a ∷ [])
+          ∙ (λ i. head_of held_head ++ count_line (codes "arcs") (count i) ∷ own i);
     }
 
 next_held : (s next : Expected) (front : List (List ℕ)) (line : List ℕ) → Held s front → IsOtherLine line → admit s line ≡ Ok next → Held next (front ++ line ∷ [])
@@ -254,46 +254,46 @@ next_held Ratio next front line are other e =
 next_held Budget next front line held other e =
     by_line (front ++ line ∷ []) (count_in (codes "budget") 1 MOST_BUDGET line) (λ n. SystemLine n) next e (λ n is.
     let read = count_was (codes "budget") 1 MOST_BUDGET line n (omega arith) is in
-    let h = held.head in
+    let held_head = held.head in
     record {
-      head = with_budget h (record { value = n; is = (read.from, read.to) });
-      are = pushed front (track_form ∷ ratio_of h ∷ []) line (count_line (codes "budget") n) held.are read.line_is;
+      head = with_budget held_head (record { value = n; is = (read.from, read.to) });
+      are = pushed front (track_form ∷ ratio_of held_head ∷ []) line (count_line (codes "budget") n) held.are read.line_is;
     })
 next_held (SystemLine budget) next front line held other e =
     by_line (front ++ line ∷ []) (system_in line) (λ s. Base budget) next e (λ s is.
     let read = system_was line s is in
-    let h = held.head in
+    let held_head = held.head in
     record {
-      head = with_system h (record { value = s; is = (read.1, λ old. absurd (not_one old)) });
-      are = pushed front (track_form ∷ ratio_of h ∷ budget_of h ∷ []) line (system_line s) held.are read.0;
+      head = with_system held_head (record { value = s; is = (read.1, λ old. absurd (not_one old)) });
+      are = pushed front (track_form ∷ ratio_of held_head ∷ budget_of held_head ∷ []) line (system_line s) held.are read.0;
     })
 next_held (Base budget) next front line held other e =
     by_line (front ++ line ∷ []) (vector_in (codes "base") 3 COORDINATES line) (λ p. Letters budget) next e (λ p is.
     let read = point_was (codes "base") line p is in
-    let h = held.head in
+    let held_head = held.head in
     record {
-      head = with_base h (record { value = p; is = (read.point, read.three) });
-      are = pushed front (track_form ∷ ratio_of h ∷ budget_of h ∷ system_of h ∷ []) line (vector_line (codes "base") p) held.are read.line_is;
+      head = with_base held_head (record { value = p; is = (read.point, read.three) });
+      are = pushed front (track_form ∷ ratio_of held_head ∷ budget_of held_head ∷ system_of held_head ∷ []) line (vector_line (codes "base") p) held.are read.line_is;
     })
 next_held (Letters budget) next front line held other e =
     by_line (front ++ line ∷ []) (signals_in Two line) (λ (l : LettersOf). ArcCount (frame budget (signals_of l))) next e (λ l is.
     let read = signals_were Two line l is in
-    let h = held.head in
-    let s = read.signals in (
-      with_signals h (record { value = s; is = read.old }),
+    let head = held.head in
+    let signals = read.signals in (
+      with_signals head (record { value = signals; is = read.old }),
       ap (λ (x : LettersOf). signals_of x) (sym read.same),
-      pushed front (track_form ∷ ratio_of h ∷ budget_of h ∷ system_of h ∷ base_of h ∷ []) line (signals_line Two s.l1 s.l2 s.l5) held.are read.line_is,
+      pushed front (track_form ∷ ratio_of head ∷ budget_of head ∷ system_of head ∷ base_of head ∷ []) line (signals_line Two signals.l1 signals.l2 signals.l5) held.are read.line_is,
     ))
 next_held (ArcCount f) next front line held other e =
     by_line (front ++ line ∷ []) (count_in (codes "arcs") 2 200 line) (λ n. before_arcs f n []) next e (λ n is.
     let read = count_was (codes "arcs") 2 200 line n (omega arith) is in
-    let h = held.0 in
+    let held_head = held.0 in
     let none : n ≡ 0 + n = omega arith in
     arcs_next f n [] (front ++ line ∷ []) (record {
-      head = h;
+      head = held_head;
       signals = held.1;
-      begun = none_begun Two (signals_of_head h) n read.from read.to;
-      are = pushed front (head_of h) line (count_line (codes "arcs") n) held.2 read.line_is ∙ ap (λ (k : ℕ). head_of h ++ count_line (codes "arcs") k ∷ []) none;
+      begun = none_begun Two (signals_of_head held_head) n read.from read.to;
+      are = pushed front (head_of held_head) line (count_line (codes "arcs") n) held.2 read.line_is ∙ ap (λ (k : ℕ). head_of held_head ++ count_line (codes "arcs") k ∷ []) none;
     }))
 next_held (NextArc f left arcs) next front line held other e =
     by_line (front ++ line ∷ []) (arc_in Two f.ss (free_count arcs) left line) (λ (a : Arc). before_arcs f (left - 1) (arcs ++ a ∷ [])) next e (λ a is.

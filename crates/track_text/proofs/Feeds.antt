@@ -43,9 +43,9 @@ head_feed ratio budget t few_ratio few_budget =
     let signals = signals_feed Two t.signals (λ e. absurd (not_one e)) in
     let base = point_feed (codes "base") t.base refl t.base_in in
     let system = system_line_feed t.system t.system_is in
-    let r : ratio < 2 ^ 126 = omega arith in
-    let b : budget < 2 ^ 126 = omega arith in
-    (refl, (count_feed (codes "ratio") ratio refl r, (count_feed (codes "budget") budget refl b, (system, (base, (signals, tt))))))
+    let small_ratio : ratio < 2 ^ 126 = omega arith in
+    let small_budget : budget < 2 ^ 126 = omega arith in
+    (refl, (count_feed (codes "ratio") ratio refl small_ratio, (count_feed (codes "budget") budget refl small_budget, (system, (base, (signals, tt))))))
 
 moves_feed : (pairs : List PairRows) (moves : List (List ℤ)) → All IsMove moves → AreLines (move_lines pairs moves)
 moves_feed [] moves are = tt
@@ -55,10 +55,10 @@ moves_feed (p ∷ pairs) (m ∷ moves) are = (worded (codes "move") (pos p.numbe
 vectors_feed : (ss : List ℕ) (arcs : List Arc) (pairs : List PairRows) (h : ℕ) (moves : List (List ℤ)) (best : TwoBest) (top : ℤ) → AreTrackVectors ss arcs pairs h moves best top
     → AreLines (track_vectors_lines pairs h moves best top)
 vectors_feed ss arcs pairs h moves best top are =
-    let v = are.values in
-    let first = entries_feed (codes "z1") best.size best.first refl v.first_in in
-    let second = entries_feed (codes "z2") best.size best.second refl v.second_in in
-    let values = values_feed h best.p1 best.p2 top v.h_to v.p1_in v.p2_in v.top_in in
+    let values_fit = are.values in
+    let first = entries_feed (codes "z1") best.size best.first refl values_fit.first_in in
+    let second = entries_feed (codes "z2") best.size best.second refl values_fit.second_in in
+    let values = values_feed h best.p1 best.p2 top values_fit.h_to values_fit.p1_in values_fit.p2_in values_fit.top_in in
     (first, (second, lines-append (move_lines pairs moves) (values_line h best.p1 best.p2 top ∷ []) (moves_feed pairs moves are.moves_in) (values, tt)))
 
 tail_feed : (ss : List ℕ) (arcs : List Arc) (pairs : List PairRows) (budget : ℕ) (t : TrackTail) → budget ≤ MOST_BUDGET → IsTrackTailOf ss arcs pairs budget t → AreLines (track_tail_lines pairs t)
@@ -72,13 +72,13 @@ tail_feed ss arcs pairs budget (Spent spent) few fits = (count_feed (codes "decl
 
 pub track_feed : (c : TrackCert) → AreLines (lines_of_track c)
 track_feed c =
-    let t = c.track in
-    let ss = fine_signals t.signals in
-    let few : length t.pairs < 2 ^ 126 = omega (arith, t.pairs_in.few) in
-    let placed = pairs_feed ss t.arcs t.pairs t.points t.arcs_in.few t.pairs_in.rows_have_arcs t.points_in in
-    let pairs : AreLines (counted_placed_pairs ss t.pairs t.points) = (count_feed (codes "pairs") (length t.pairs) refl few, placed) in
-    let arcs = counted_arcs_feed ss t.arcs t.arcs_in in
-    let parts = lines-append (counted_arcs ss t.arcs) (counted_placed_pairs ss t.pairs t.points) arcs pairs in
-    let head = head_feed c.ratio c.budget t c.ratio_to c.budget_to in
-    let front = lines-append (track_head_lines c.ratio c.budget t.system t.base t.signals) (counted_arcs ss t.arcs ++ counted_placed_pairs ss t.pairs t.points) head parts in
-    lines-append (track_lines c.ratio c.budget t) (track_tail_lines t.pairs c.tail) front (tail_feed ss t.arcs t.pairs c.budget c.tail c.budget_to c.tail_fits)
+    let track = c.track in
+    let fine = fine_signals track.signals in
+    let few : length track.pairs < 2 ^ 126 = omega (arith, track.pairs_in.few) in
+    let placed = pairs_feed fine track.arcs track.pairs track.points track.arcs_in.few track.pairs_in.rows_have_arcs track.points_in in
+    let pairs : AreLines (counted_placed_pairs fine track.pairs track.points) = (count_feed (codes "pairs") (length track.pairs) refl few, placed) in
+    let arcs = counted_arcs_feed fine track.arcs track.arcs_in in
+    let parts = lines-append (counted_arcs fine track.arcs) (counted_placed_pairs fine track.pairs track.points) arcs pairs in
+    let head = head_feed c.ratio c.budget track c.ratio_to c.budget_to in
+    let front = lines-append (track_head_lines c.ratio c.budget track.system track.base track.signals) (counted_arcs fine track.arcs ++ counted_placed_pairs fine track.pairs track.points) head parts in
+    lines-append (track_lines c.ratio c.budget track) (track_tail_lines track.pairs c.tail) front (tail_feed fine track.arcs track.pairs c.budget c.tail c.budget_to c.tail_fits)

@@ -75,23 +75,23 @@ pairs_same l2 l5 arcs arcs' (p ∷ pairs) [] points points' rest rest' few few' 
 pairs_same l2 l5 arcs arcs' (p ∷ pairs) (q ∷ pairs') [] points' rest rest' few few' h h' l e = absurd (omega (arith, h.each))
 pairs_same l2 l5 arcs arcs' (p ∷ pairs) (q ∷ pairs') (x ∷ points) [] rest rest' few few' h h' l e = absurd (omega (arith, h'.each))
 pairs_same l2 l5 arcs arcs' (p ∷ pairs) (q ∷ pairs') (x ∷ points) (y ∷ points') rest rest' few few' h h' l e =
-    let ss = used_signals l2 l5 in
-    let lp = pair_line p.number p.tag.0 p.group (length p.rows) in
-    let lq = pair_line q.number q.tag.0 q.group (length q.rows) in
-    let ax = vector_line (codes "at") x in
-    let ay = vector_line (codes "at") y in
-    let mine = all_placed_pairs ss pairs points ++ rest in
-    let theirs = all_placed_pairs ss pairs' points' ++ rest' in
-    let lines : lp ∷ ax ∷ (row_lines ss p.rows ++ mine) ≡ lq ∷ ay ∷ (row_lines ss q.rows ++ theirs) =
-    sym (append_assoc (placed_pair_lines ss p x) (all_placed_pairs ss pairs points) rest) ∙ e ∙ append_assoc (placed_pair_lines ss q y) (all_placed_pairs ss pairs' points') rest' in
-    let heads = cons_same lp lq (ax ∷ (row_lines ss p.rows ++ mine)) (ay ∷ (row_lines ss q.rows ++ theirs)) lines in
-    let ats = cons_same ax ay (row_lines ss p.rows ++ mine) (row_lines ss q.rows ++ theirs) heads.1 in
+    let used_list = used_signals l2 l5 in
+    let left_line = pair_line p.number p.tag.0 p.group (length p.rows) in
+    let right_line = pair_line q.number q.tag.0 q.group (length q.rows) in
+    let left_point = vector_line (codes "at") x in
+    let right_point = vector_line (codes "at") y in
+    let mine = all_placed_pairs used_list pairs points ++ rest in
+    let theirs = all_placed_pairs used_list pairs' points' ++ rest' in
+    let lines : left_line ∷ left_point ∷ (row_lines used_list p.rows ++ mine) ≡ right_line ∷ right_point ∷ (row_lines used_list q.rows ++ theirs) =
+    sym (append_assoc (placed_pair_lines used_list p x) (all_placed_pairs used_list pairs points) rest) ∙ e ∙ append_assoc (placed_pair_lines used_list q y) (all_placed_pairs used_list pairs' points') rest' in
+    let heads = cons_same left_line right_line (left_point ∷ (row_lines used_list p.rows ++ mine)) (right_point ∷ (row_lines used_list q.rows ++ theirs)) lines in
+    let ats = cons_same left_point right_point (row_lines used_list p.rows ++ mine) (row_lines used_list q.rows ++ theirs) heads.1 in
     let head = pair_line_same p q heads.0 in
-    let point = points_same ss arcs arcs' p q pairs pairs' x y points points' h h' ats.0 in
+    let point = points_same used_list arcs arcs' p q pairs pairs' x y points points' h h' ats.0 in
     let rows = rows_same l2 l5 arcs arcs' p.number q.number p.rows q.rows mine theirs few few' (All-head (HasItsArcs arcs) p pairs h.has) (All-head (HasItsArcs arcs') q pairs' h'.has)
-    (All-head IsWholePair p pairs h.whole) (All-head IsWholePair q pairs' h'.whole) (All-head (HasUsedRows ss) p pairs h.used) (All-head (HasUsedRows ss) q pairs' h'.used) head.3 ats.1 in
+    (All-head IsWholePair p pairs h.whole) (All-head IsWholePair q pairs' h'.whole) (All-head (HasUsedRows used_list) p pairs h.used) (All-head (HasUsedRows used_list) q pairs' h'.used) head.3 ats.1 in
     let one = pair_same p q head.0 head.1 head.2 rows.0 in
-    let more = pairs_same l2 l5 arcs arcs' pairs pairs' points points' rest rest' few few' (placed_tail ss arcs p pairs x points h) (placed_tail ss arcs' q pairs' y points' h')
+    let more = pairs_same l2 l5 arcs arcs' pairs pairs' points points' rest rest' few few' (placed_tail used_list arcs p pairs x points h) (placed_tail used_list arcs' q pairs' y points' h')
     (omega (arith, l)) rows.1 in
     ((λ i. one i ∷ more.0 i), (λ i. point i ∷ more.1 i), more.2)
 
@@ -153,17 +153,17 @@ vectors_same : (ss : List ℕ) (arcs : List Arc) (pairs : List PairRows) (h h' :
 vectors_same ss arcs pairs h h' moves moves' best best' top top' last last' a b w w' e =
     let line = values_line h best.p1 best.p2 top in
     let line' = values_line h' best'.p1 best'.p2 top' in
-    let l1 = cons_same _ _ _ _ e in
-    let l2 = cons_same _ _ _ _ l1.1 in
+    let first_same = cons_same _ _ _ _ e in
+    let second_same = cons_same _ _ _ _ first_same.1 in
     let behind : move_lines pairs moves ++ (line ∷ last ∷ []) ≡ move_lines pairs moves' ++ (line' ∷ last' ∷ []) =
-    sym (append_assoc (move_lines pairs moves) (line ∷ []) (last ∷ [])) ∙ l2.1 ∙ append_assoc (move_lines pairs moves') (line' ∷ []) (last' ∷ []) in
+    sym (append_assoc (move_lines pairs moves) (line ∷ []) (last ∷ [])) ∙ second_same.1 ∙ append_assoc (move_lines pairs moves') (line' ∷ []) (last' ∷ []) in
     let mine : AreMoves pairs moves = record { each = a.move_each; are = a.moves_in; triples = w.move_each } in
     let theirs : AreMoves pairs moves' = record { each = b.move_each; are = b.moves_in; triples = w'.move_each } in
     let moved = moves_same pairs moves moves' (line ∷ last ∷ []) (line' ∷ last' ∷ []) mine theirs behind in
-    let l4 = cons_same line line' (last ∷ []) (last' ∷ []) moved.1 in
-    let l5 = cons_same last last' [] [] l4.1 in
-    let bests = bests_same ss arcs h h' best best' top top' a.values b.values w.first w.second w'.first w'.second l1.0 l2.0 l4.0 in
-    (bests.0, moved.0, bests.1, bests.2, l5.0)
+    let values_line_same = cons_same line line' (last ∷ []) (last' ∷ []) moved.1 in
+    let last_same = cons_same last last' [] [] values_line_same.1 in
+    let bests = bests_same ss arcs h h' best best' top top' a.values b.values w.first w.second w'.first w'.second first_same.0 second_same.0 values_line_same.0 in
+    (bests.0, moved.0, bests.1, bests.2, last_same.0)
 
 tails_same : (ss : List ℕ) (arcs : List Arc) (pairs : List PairRows) (budget : ℕ) (t u : TrackTail) → Shape ss arcs pairs budget t → Shape ss arcs pairs budget u
     → track_tail_lines pairs t ≡ track_tail_lines pairs u → t ≡ u
@@ -189,41 +189,41 @@ tails_same ss arcs pairs budget t u (single line one read) (single line' one' re
 
 lines_same : (c d : TrackCert) → IsWholeTrackCert c → IsWholeTrackCert d → lines_of_track c ≡ lines_of_track d → c ≡ d
 lines_same c d w v e =
-    let s = c.track in
-    let t = d.track in
-    let ss = fine_signals s.signals in
-    let l0 = cons_same _ _ _ _ (sym (regrouped c) ∙ e ∙ regrouped d) in
-    let l1 = cons_same _ _ _ _ l0.1 in
-    let l2 = cons_same _ _ _ _ l1.1 in
-    let l3 = cons_same _ _ _ _ l2.1 in
-    let l4 = cons_same _ _ _ _ l3.1 in
-    let l5 = cons_same _ _ _ _ l4.1 in
-    let ratio = count_same (codes "ratio") c.ratio d.ratio (omega (arith, c.ratio_to)) (omega (arith, d.ratio_to)) l1.0 in
-    let budget = count_same (codes "budget") c.budget d.budget (omega (arith, c.budget_to)) (omega (arith, d.budget_to)) l2.0 in
-    let system = system_line_same s.system t.system l3.0 in
-    let base = numbers_same (codes "base") 3 s.base t.base w.track.base v.track.base (point_small s.base s.base_in) (point_small t.base t.base_in) l4.0 in
-    let signals = signals_line_same Two s.signals t.signals (λ a. absurd (not_one a)) (λ a. absurd (not_one a)) l5.0 in
-    let counted : fine_signals t.signals ≡ ss = ap fine_signals (sym signals) in
-    let after = l5.1 ∙ ap (λ (us : List ℕ). counted_arcs us t.arcs ++ (counted_placed_pairs us t.pairs t.points ++ track_tail_lines t.pairs d.tail)) counted in
-    let shifts : All (HasUsedShifts ss) t.arcs = subst (λ (us : List ℕ). All (HasUsedShifts us) t.arcs) counted t.shifts_used in
-    let rows : All (HasUsedRows ss) t.pairs = subst (λ (us : List ℕ). All (HasUsedRows us) t.pairs) counted t.rows_used in
-    let arcs = counted_arcs_same s.signals.l2 s.signals.l5 s.arcs t.arcs (counted_placed_pairs ss s.pairs s.points ++ track_tail_lines s.pairs c.tail)
-    (counted_placed_pairs ss t.pairs t.points ++ track_tail_lines t.pairs d.tail) s.arcs_in t.arcs_in s.shifts_used shifts w.track.arcs v.track.arcs after in
-    let l6 = cons_same _ _ _ _ arcs.1 in
-    let pair_count = count_same (codes "pairs") (length s.pairs) (length t.pairs) (omega (arith, s.pairs_in.few)) (omega (arith, t.pairs_in.few)) l6.0 in
-    let mine : ArePlaced ss s.arcs s.pairs s.points =
-    record { each = s.point_each; has = s.pairs_in.rows_have_arcs; whole = w.track.pairs; used = s.rows_used; are = s.points_in; triples = w.track.points } in
-    let theirs : ArePlaced ss t.arcs t.pairs t.points =
-    record { each = t.point_each; has = t.pairs_in.rows_have_arcs; whole = v.track.pairs; used = rows; are = t.points_in; triples = v.track.points } in
-    let pairs = pairs_same s.signals.l2 s.signals.l5 s.arcs t.arcs s.pairs t.pairs s.points t.points (track_tail_lines s.pairs c.tail) (track_tail_lines t.pairs d.tail)
-    s.arcs_in.few t.arcs_in.few mine theirs pair_count l6.1 in
-    let track = track_same s t system base signals arcs.0 pairs.1 pairs.0 in
-    let fits : IsTrackTailOf ss s.arcs s.pairs c.budget d.tail = subst (λ (b : ℕ). IsTrackTailOf ss s.arcs s.pairs b d.tail) (sym budget)
-    (subst (λ (ps : List PairRows). IsTrackTailOf ss s.arcs ps d.budget d.tail) (sym pairs.0)
-    (subst (λ (a : List Arc). IsTrackTailOf ss a t.pairs d.budget d.tail) (sym arcs.0) (subst (λ (us : List ℕ). IsTrackTailOf us t.arcs t.pairs d.budget d.tail) counted d.tail_fits))) in
+    let left_track = c.track in
+    let right_track = d.track in
+    let fine = fine_signals left_track.signals in
+    let form_same = cons_same _ _ _ _ (sym (regrouped c) ∙ e ∙ regrouped d) in
+    let ratio_same = cons_same _ _ _ _ form_same.1 in
+    let budget_same = cons_same _ _ _ _ ratio_same.1 in
+    let system_same = cons_same _ _ _ _ budget_same.1 in
+    let base_same = cons_same _ _ _ _ system_same.1 in
+    let letters_same = cons_same _ _ _ _ base_same.1 in
+    let ratio = count_same (codes "ratio") c.ratio d.ratio (omega (arith, c.ratio_to)) (omega (arith, d.ratio_to)) ratio_same.0 in
+    let budget = count_same (codes "budget") c.budget d.budget (omega (arith, c.budget_to)) (omega (arith, d.budget_to)) budget_same.0 in
+    let system = system_line_same left_track.system right_track.system system_same.0 in
+    let base = numbers_same (codes "base") 3 left_track.base right_track.base w.track.base v.track.base (point_small left_track.base left_track.base_in) (point_small right_track.base right_track.base_in) base_same.0 in
+    let signals = signals_line_same Two left_track.signals right_track.signals (λ a. absurd (not_one a)) (λ a. absurd (not_one a)) letters_same.0 in
+    let counted : fine_signals right_track.signals ≡ fine = ap fine_signals (sym signals) in
+    let after = letters_same.1 ∙ ap (λ (us : List ℕ). counted_arcs us right_track.arcs ++ (counted_placed_pairs us right_track.pairs right_track.points ++ track_tail_lines right_track.pairs d.tail)) counted in
+    let shifts : All (HasUsedShifts fine) right_track.arcs = subst (λ (us : List ℕ). All (HasUsedShifts us) right_track.arcs) counted right_track.shifts_used in
+    let rows : All (HasUsedRows fine) right_track.pairs = subst (λ (us : List ℕ). All (HasUsedRows us) right_track.pairs) counted right_track.rows_used in
+    let arcs = counted_arcs_same left_track.signals.l2 left_track.signals.l5 left_track.arcs right_track.arcs (counted_placed_pairs fine left_track.pairs left_track.points ++ track_tail_lines left_track.pairs c.tail)
+    (counted_placed_pairs fine right_track.pairs right_track.points ++ track_tail_lines right_track.pairs d.tail) left_track.arcs_in right_track.arcs_in left_track.shifts_used shifts w.track.arcs v.track.arcs after in
+    let pair_count_same = cons_same _ _ _ _ arcs.1 in
+    let pair_count = count_same (codes "pairs") (length left_track.pairs) (length right_track.pairs) (omega (arith, left_track.pairs_in.few)) (omega (arith, right_track.pairs_in.few)) pair_count_same.0 in
+    let mine : ArePlaced fine left_track.arcs left_track.pairs left_track.points =
+    record { each = left_track.point_each; has = left_track.pairs_in.rows_have_arcs; whole = w.track.pairs; used = left_track.rows_used; are = left_track.points_in; triples = w.track.points } in
+    let theirs : ArePlaced fine right_track.arcs right_track.pairs right_track.points =
+    record { each = right_track.point_each; has = right_track.pairs_in.rows_have_arcs; whole = v.track.pairs; used = rows; are = right_track.points_in; triples = v.track.points } in
+    let pairs = pairs_same left_track.signals.l2 left_track.signals.l5 left_track.arcs right_track.arcs left_track.pairs right_track.pairs left_track.points right_track.points (track_tail_lines left_track.pairs c.tail) (track_tail_lines right_track.pairs d.tail)
+    left_track.arcs_in.few right_track.arcs_in.few mine theirs pair_count pair_count_same.1 in
+    let track = track_same left_track right_track system base signals arcs.0 pairs.1 pairs.0 in
+    let fits : IsTrackTailOf fine left_track.arcs left_track.pairs c.budget d.tail = subst (λ (b : ℕ). IsTrackTailOf fine left_track.arcs left_track.pairs b d.tail) (sym budget)
+    (subst (λ (ps : List PairRows). IsTrackTailOf fine left_track.arcs ps d.budget d.tail) (sym pairs.0)
+    (subst (λ (a : List Arc). IsTrackTailOf fine a right_track.pairs d.budget d.tail) (sym arcs.0) (subst (λ (us : List ℕ). IsTrackTailOf us right_track.arcs right_track.pairs d.budget d.tail) counted d.tail_fits))) in
     let ends = pairs.2 ∙ ap (λ (ps : List PairRows). track_tail_lines ps d.tail) (sym pairs.0) in
-    let tail = tails_same ss s.arcs s.pairs c.budget c.tail d.tail (shape ss s.arcs s.pairs c.budget c.tail c.budget_to c.tail_fits w.tail)
-    (shape ss s.arcs s.pairs c.budget d.tail c.budget_to fits v.tail) ends in
+    let tail = tails_same fine left_track.arcs left_track.pairs c.budget c.tail d.tail (shape fine left_track.arcs left_track.pairs c.budget c.tail c.budget_to c.tail_fits w.tail)
+    (shape fine left_track.arcs left_track.pairs c.budget d.tail c.budget_to fits v.tail) ends in
     certs_same c d ratio budget track tail
 
 -- two certificates of tracks with one spelling are the same

@@ -44,8 +44,8 @@ move_spells p m three is =
 
 pub weak_read : (budget column : ℕ) (pivot : ℤ) → IsWeak column pivot → declined_in budget (weak_line (codes "declined weak") column pivot) ≡ Ok (Weak column pivot)
 weak_read budget column pivot fits =
-    let to : column ≤ last_column Two = omega (arith, fits.column_to) in
-    let read = weak_spells (codes "declined weak") (last_column Two) column pivot (omega (arith, fits.column_to)) fits.pivot_in to in
+    let column_at_most : column ≤ last_column Two = omega (arith, fits.column_to) in
+    let read = weak_spells (codes "declined weak") (last_column Two) column pivot (omega (arith, fits.column_to)) fits.pivot_in column_at_most in
     ap (λ (r : Result WeakPivot Flaw). and_then r (λ w. Ok (Weak w.column w.pivot))) read
 
 pub spent_read : (budget spent : ℕ) → budget ≤ MOST_BUDGET → spent ≡ budget → declined_in budget (spent_line spent) ≡ Ok (Spent spent)

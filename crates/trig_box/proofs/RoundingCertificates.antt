@@ -14,9 +14,9 @@ pub sum_round_high : (z g q k p d a b n w : ℤ) → (q *ℤ pos 461168601842738
     → pos 9223372036854775808 ≤ℤ ((pos 2 *ℤ k) *ℤ p +ℤ p) → pos 0 ≤ℤ n → pos 0 ≤ℤ b → pos 0 ≤ℤ w → pos 0 ≤ℤ p → pos 0 ≤ℤ d → pos 0 ≤ℤ z → z ≤ℤ pos 1152921504606846976
     → (pos 4611686018427387904 *ℤ ((d *ℤ b) *ℤ w -ℤ a *ℤ n) -ℤ (p *ℤ (k -ℤ q)) *ℤ ((d *ℤ b) *ℤ w)) ≤ℤ (p *ℤ ((d *ℤ b) *ℤ w))
 sum_round_high z g q k p d a b n w h0 h1 h2 h3 n0 b0 w0 p0 d0 z0 z1 =
-    let bw : pos 0 ≤ℤ (b *ℤ w) = prod_nn b0 w0 in
-    let pd : pos 0 ≤ℤ (p *ℤ d) = prod_nn p0 d0 in
-    let pdbw : pos 0 ≤ℤ ((p *ℤ d) *ℤ (b *ℤ w)) = prod_nn pd bw in
+    let left_part_nonnegative : pos 0 ≤ℤ (b *ℤ w) = prod_nn b0 w0 in
+    let right_part_nonnegative : pos 0 ≤ℤ (p *ℤ d) = prod_nn p0 d0 in
+    let pdbw : pos 0 ≤ℤ ((p *ℤ d) *ℤ (b *ℤ w)) = prod_nn right_part_nonnegative left_part_nonnegative in
     cancel (pos 9223372036854775808) (pos 4611686018427387904 *ℤ ((d *ℤ b) *ℤ w -ℤ a *ℤ n) -ℤ (p *ℤ (k -ℤ q)) *ℤ ((d *ℤ b) *ℤ w)) (p *ℤ ((d *ℤ b) *ℤ w)) (lt_pos 0 9223372036854775808 (lit< tt))
     (le_by (z ∷ g ∷ q ∷ k ∷ p ∷ d ∷ a ∷ b ∷ n ∷ w ∷ []) (λ z g q k p d a b n w. (
       nat 9223372036854775808 ⊗ (nat 4611686018427387904 ⊗ ((d ⊗ b) ⊗ w ⊖ a ⊗ n) ⊖ (p ⊗ (k ⊖ q)) ⊗ ((d ⊗ b) ⊗ w)),
@@ -27,7 +27,7 @@ sum_round_high z g q k p d a b n w h0 h1 h2 h3 n0 b0 w0 p0 d0 z0 z1 =
           ⊕ (nat 1152921504606846976 ⊖ z) ⊗ (nat 4 ⊗ ((p ⊗ d) ⊗ (b ⊗ w)))
           ⊕ (nat 4611686018427387904 ⊗ a ⊖ z ⊗ b) ⊗ (nat 9223372036854775808 ⊗ n),
     )) refl
-    (both_nn (both_nn (both_nn (both_nn (prod_nn (less_nn h3) (prod_nn (prod_nn d0 bw) (pos_nn 4611686018427387904)))
+    (both_nn (both_nn (both_nn (both_nn (prod_nn (less_nn h3) (prod_nn (prod_nn d0 left_part_nonnegative) (pos_nn 4611686018427387904)))
     (prod_nn (less_nn h0) (prod_nn (pos_nn 2) pdbw)))
     (prod_nn (less_nn h2) (prod_nn (pos_nn 2) (prod_nn z0 b0))))
     (prod_nn (less_nn z1) (prod_nn (pos_nn 4) pdbw)))
@@ -37,9 +37,9 @@ pub sum_round_low : (z g q k p d a b n w : ℤ) → (z *ℤ g) ≤ℤ (q *ℤ po
     → (pos 4 *ℤ (k *ℤ (p *ℤ d)) +ℤ pos 4) ≤ℤ (pos 3 *ℤ (p *ℤ d) +ℤ pos 4 *ℤ (pos 4611686018427387904 *ℤ d)) → pos 0 ≤ℤ n → n ≤ℤ w → pos 0 ≤ℤ b → pos 0 ≤ℤ w → pos 0 ≤ℤ p → pos 0 ≤ℤ d → pos 0 ≤ℤ z → z ≤ℤ pos 1152921504606846976
     → ((p *ℤ (k -ℤ q)) *ℤ ((d *ℤ b) *ℤ w) -ℤ pos 4611686018427387904 *ℤ ((d *ℤ b) *ℤ w -ℤ a *ℤ n)) ≤ℤ ((pos 2 *ℤ p) *ℤ ((d *ℤ b) *ℤ w))
 sum_round_low z g q k p d a b n w h0 h1 h2 h3 n0 nw b0 w0 p0 d0 z0 z1 =
-    let bw : pos 0 ≤ℤ (b *ℤ w) = prod_nn b0 w0 in
-    let pd : pos 0 ≤ℤ (p *ℤ d) = prod_nn p0 d0 in
-    let pdbw : pos 0 ≤ℤ ((p *ℤ d) *ℤ (b *ℤ w)) = prod_nn pd bw in
+    let left_part_nonnegative : pos 0 ≤ℤ (b *ℤ w) = prod_nn b0 w0 in
+    let right_part_nonnegative : pos 0 ≤ℤ (p *ℤ d) = prod_nn p0 d0 in
+    let pdbw : pos 0 ≤ℤ ((p *ℤ d) *ℤ (b *ℤ w)) = prod_nn right_part_nonnegative left_part_nonnegative in
     cancel (pos 18446744073709551616) ((p *ℤ (k -ℤ q)) *ℤ ((d *ℤ b) *ℤ w) -ℤ pos 4611686018427387904 *ℤ ((d *ℤ b) *ℤ w -ℤ a *ℤ n)) ((pos 2 *ℤ p) *ℤ ((d *ℤ b) *ℤ w)) (lt_pos 0 18446744073709551616 (lit< tt))
     (le_by (z ∷ g ∷ q ∷ k ∷ p ∷ d ∷ a ∷ b ∷ n ∷ w ∷ []) (λ z g q k p d a b n w. (
       nat 18446744073709551616 ⊗ ((p ⊗ (k ⊖ q)) ⊗ ((d ⊗ b) ⊗ w) ⊖ nat 4611686018427387904 ⊗ ((d ⊗ b) ⊗ w ⊖ a ⊗ n)),
@@ -51,7 +51,7 @@ sum_round_low z g q k p d a b n w h0 h1 h2 h3 n0 nw b0 w0 p0 d0 z0 z1 =
           ⊕ (z ⊗ b ⊕ b ⊖ nat 4611686018427387904 ⊗ a) ⊗ (nat 18446744073709551616 ⊗ n)
           ⊕ (w ⊖ n) ⊗ (nat 18446744073709551616 ⊗ b),
     )) refl
-    (both_nn (both_nn (both_nn (both_nn (both_nn (prod_nn (less_nn h3) (prod_nn bw (pos_nn 4611686018427387904)))
+    (both_nn (both_nn (both_nn (both_nn (both_nn (prod_nn (less_nn h3) (prod_nn left_part_nonnegative (pos_nn 4611686018427387904)))
     (prod_nn (less_nn h0) (prod_nn (pos_nn 4) pdbw)))
     (prod_nn (less_nn h2) (prod_nn (pos_nn 4) (prod_nn z0 b0))))
     (prod_nn (less_nn z1) (prod_nn (pos_nn 4) pdbw)))

@@ -69,4 +69,4 @@ sine_5 z h = summed_cons 12708570377060 (115532457973 ∷ 740592679 ∷ 3526632 
 
 -- the square of a small angle's part
 pub small_argument : (n : ℤ) → unsigned_abs n ≤ 2 ^ 42 → argument n ≤ 2 ^ 20
-small_argument n h = let q : unsigned_abs n * unsigned_abs n ≤ 2 ^ 42 * 2 ^ 42 = mul-le-mul h h in omega arith
+small_argument n h = let square_at_most : unsigned_abs n * unsigned_abs n ≤ 2 ^ 42 * 2 ^ 42 = mul-le-mul h h in omega arith

@@ -15,9 +15,9 @@ abs_pos a h = omega (arith, ints)
 -- |a| s ≤ m gives a s ≤ m and -a s ≤ m
 pub abs_times_le : (a m : ℤ) (s : ℕ) → (pos (unsigned_abs a) *ℤ pos s) ≤ℤ m → ((a *ℤ pos s) ≤ℤ m) × ((neg_ℤ a *ℤ pos s) ≤ℤ m)
 abs_times_le a m s h =
-    let p : (a *ℤ pos s) ≤ℤ (pos (unsigned_abs a) *ℤ pos s) = mul_le_right (pos s) a (pos (unsigned_abs a)) (pos_nn s) (omega (arith, ints)) in
-    let q : (neg_ℤ a *ℤ pos s) ≤ℤ (pos (unsigned_abs a) *ℤ pos s) = mul_le_right (pos s) (neg_ℤ a) (pos (unsigned_abs a)) (pos_nn s) (omega (arith, ints)) in
-    (omega (arith, lins, p, h), omega (arith, lins, q, h))
+    let left_at_most : (a *ℤ pos s) ≤ℤ (pos (unsigned_abs a) *ℤ pos s) = mul_le_right (pos s) a (pos (unsigned_abs a)) (pos_nn s) (omega (arith, ints)) in
+    let right_at_most : (neg_ℤ a *ℤ pos s) ≤ℤ (pos (unsigned_abs a) *ℤ pos s) = mul_le_right (pos s) (neg_ℤ a) (pos (unsigned_abs a)) (pos_nn s) (omega (arith, ints)) in
+    (omega (arith, lins, left_at_most, h), omega (arith, lins, right_at_most, h))
 
 -- ---- squares
 pub abs_square : (a : ℤ) → pos (unsigned_abs a * unsigned_abs a) ≡ a *ℤ a

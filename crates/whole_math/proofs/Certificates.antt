@@ -60,11 +60,11 @@ cert r hs l u d e g = go (ev r l) (ev r u) (ev r (as_ex hs d)) (cert_nn r hs d g
 pub cancel : (c a b : ℤ) → pos 0 <ℤ c → (c *ℤ a) ≤ℤ (c *ℤ b) → a ≤ℤ b
 cancel c a b h k = by_lt_z b a
     (λ l.
-    let d : pos 1 ≤ℤ (a -ℤ b) = omega (arith, lins) in
-    let c0 : pos 0 ≤ℤ c = omega (arith, lins) in
-    let q : (c *ℤ pos 1) ≤ℤ (c *ℤ (a -ℤ b)) = mul_le_left c (pos 1) (a -ℤ b) c0 d in
-    let e : c *ℤ (a -ℤ b) ≡ (c *ℤ a) -ℤ (c *ℤ b) = ring (c ∷ a ∷ b ∷ []) (va 0 ⊗ (va 1 ⊖ va 2)) ((va 0 ⊗ va 1) ⊖ (va 0 ⊗ va 2)) refl in
-    let f : c *ℤ pos 1 ≡ c = ring (c ∷ []) (va 0 ⊗ ko (pos 1)) (va 0) refl in
+    let gap_positive : pos 1 ≤ℤ (a -ℤ b) = omega (arith, lins) in
+    let factor_nonnegative : pos 0 ≤ℤ c = omega (arith, lins) in
+    let factor_at_most : (c *ℤ pos 1) ≤ℤ (c *ℤ (a -ℤ b)) = mul_le_left c (pos 1) (a -ℤ b) factor_nonnegative gap_positive in
+    let product_spread_out : c *ℤ (a -ℤ b) ≡ (c *ℤ a) -ℤ (c *ℤ b) = ring (c ∷ a ∷ b ∷ []) (va 0 ⊗ (va 1 ⊖ va 2)) ((va 0 ⊗ va 1) ⊖ (va 0 ⊗ va 2)) refl in
+    let factor_times_one : c *ℤ pos 1 ≡ c = ring (c ∷ []) (va 0 ⊗ ko (pos 1)) (va 0) refl in
     absurd (omega (arith, lins)))
     (λ l. l)
 
@@ -85,9 +85,9 @@ square_mono a b h k = cert (a ∷ b ∷ []) ((ko (pos 0) ≼ (va 1 ⊕ va 0)) �
 pub square_root : (a b : ℤ) → pos 0 ≤ℤ b → (a *ℤ a) ≤ℤ (b *ℤ b) → a ≤ℤ b
 square_root a b h k = by_lt_z b a
     (λ l.
-    let b1 : (b +ℤ pos 1) ≤ℤ a = omega (arith, lins) in
-    let q : ((b *ℤ b) +ℤ pos 1) ≤ℤ (a *ℤ a) =
+    let next_at_most : (b +ℤ pos 1) ≤ℤ a = omega (arith, lins) in
+    let square_above : ((b *ℤ b) +ℤ pos 1) ≤ℤ (a *ℤ a) =
     cert (a ∷ b ∷ []) ((va 1 ⊕ ko (pos 1) ≼ va 0) ∷ (ko (pos 0) ≼ va 1) ∷ []) ((va 1 ⊗ va 1) ⊕ ko (pos 1)) (va 0 ⊗ va 0)
-    (hy 0 ⊠ hy 0 ⊞ nm 2 ⊠ hy 0 ⊠ hy 1 ⊞ nm 2 ⊠ hy 0 ⊞ nm 2 ⊠ hy 1) refl (b1, (h, tt)) in
+    (hy 0 ⊠ hy 0 ⊞ nm 2 ⊠ hy 0 ⊠ hy 1 ⊞ nm 2 ⊠ hy 0 ⊞ nm 2 ⊠ hy 1) refl (next_at_most, (h, tt)) in
     absurd (omega (arith, lins)))
     (λ l. l)

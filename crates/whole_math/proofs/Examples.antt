@@ -29,14 +29,14 @@ by_certificate a b c d h g = cert (a ∷ b ∷ c ∷ d ∷ []) ((va 0 ≼ va 1) 
 -- A linear consequence of facts about products: `omega` over monomials, with `norm_is` of each polynomial.
 pub three_squares : (a b c : ℤ) → (((a +ℤ b) +ℤ c) *ℤ ((a +ℤ b) +ℤ c)) ≤ℤ (pos 3 *ℤ (((a *ℤ a) +ℤ (b *ℤ b)) +ℤ (c *ℤ c)))
 three_squares a b c =
-    let r : List ℤ = a ∷ b ∷ c ∷ [] in
-    let s0 = square_nn (a -ℤ b) in let s1 = square_nn (a -ℤ c) in let s2 = square_nn (b -ℤ c) in
+    let values : List ℤ = a ∷ b ∷ c ∷ [] in
+    let first_nonnegative = square_nn (a -ℤ b) in let second_nonnegative = square_nn (a -ℤ c) in let third_nonnegative = square_nn (b -ℤ c) in
     omega (
       arith,
       polys,
-      norm_is r (((va 0 ⊕ va 1) ⊕ va 2) ⊗ ((va 0 ⊕ va 1) ⊕ va 2)),
-      norm_is r ((ko (pos 3)) ⊗ (((va 0 ⊗ va 0) ⊕ (va 1 ⊗ va 1)) ⊕ (va 2 ⊗ va 2))),
-      norm_is r ((va 0 ⊖ va 1) ⊗ (va 0 ⊖ va 1)),
-      norm_is r ((va 0 ⊖ va 2) ⊗ (va 0 ⊖ va 2)),
-      norm_is r ((va 1 ⊖ va 2) ⊗ (va 1 ⊖ va 2)),
+      norm_is values (((va 0 ⊕ va 1) ⊕ va 2) ⊗ ((va 0 ⊕ va 1) ⊕ va 2)),
+      norm_is values ((ko (pos 3)) ⊗ (((va 0 ⊗ va 0) ⊕ (va 1 ⊗ va 1)) ⊕ (va 2 ⊗ va 2))),
+      norm_is values ((va 0 ⊖ va 1) ⊗ (va 0 ⊖ va 1)),
+      norm_is values ((va 0 ⊖ va 2) ⊗ (va 0 ⊖ va 2)),
+      norm_is values ((va 1 ⊖ va 2) ⊗ (va 1 ⊖ va 2)),
     )

@@ -24,8 +24,8 @@ least_case P a b c d p q r s = min_case P (int_min a b) (int_min c d) (min_case 
 pub most_case : (P : ℤ → Type 0) (a b c d : ℤ) → P a → P b → P c → P d → P (int_max (int_max a b) (int_max c d))
 most_case P a b c d p q r s = max_case P (int_max a b) (int_max c d) (max_case P a b p q) (max_case P c d r s)
 
-pub least_le : (a b c d : ℤ) → let m : ℤ = int_min (int_min a b) (int_min c d) in (m ≤ℤ a) × (m ≤ℤ b) × (m ≤ℤ c) × (m ≤ℤ d)
+pub least_le : (a b c d : ℤ) → let least : ℤ = int_min (int_min a b) (int_min c d) in (least ≤ℤ a) × (least ≤ℤ b) × (least ≤ℤ c) × (least ≤ℤ d)
 least_le a b c d = omega (arith, lins, clamps)
 
-pub le_most : (a b c d : ℤ) → let m : ℤ = int_max (int_max a b) (int_max c d) in (a ≤ℤ m) × (b ≤ℤ m) × (c ≤ℤ m) × (d ≤ℤ m)
+pub le_most : (a b c d : ℤ) → let most : ℤ = int_max (int_max a b) (int_max c d) in (a ≤ℤ most) × (b ≤ℤ most) × (c ≤ℤ most) × (d ≤ℤ most)
 le_most a b c d = omega (arith, lins, clamps)

@@ -25,17 +25,17 @@ remainder_is (negsuc a) m h = subst (λ (k : ℤ). negsuc a ≡ (floor_div (negs
 pub floor_at : (z c q : ℤ) → pos 0 <ℤ c → q ≤ℤ floor_div z (unsigned_abs c) → (q *ℤ c) ≤ℤ z
 floor_at z c q h g =
     let n : ℕ = unsigned_abs c in
-    let p : (q *ℤ pos n) ≤ℤ (floor_div z n *ℤ pos n) = mul_le_right (pos n) q (floor_div z n) (pos_nn n) g in
-    let f : (floor_div z n *ℤ pos n) ≤ℤ z = floor_le z n (abs_pos c h) in
-    let e : q *ℤ pos n ≡ q *ℤ c = ap (λ x. q *ℤ x) (pos_abs c (weak_of c h)) in
+    let product_at_most : (q *ℤ pos n) ≤ℤ (floor_div z n *ℤ pos n) = mul_le_right (pos n) q (floor_div z n) (pos_nn n) g in
+    let floor_at_most : (floor_div z n *ℤ pos n) ≤ℤ z = floor_le z n (abs_pos c h) in
+    let same_product : q *ℤ pos n ≡ q *ℤ c = ap (λ x. q *ℤ x) (pos_abs c (weak_of c h)) in
     omega (arith, lins)
 
 pub ceil_at : (z c q : ℤ) → pos 0 <ℤ c → ceil_div z (unsigned_abs c) ≤ℤ q → z ≤ℤ (q *ℤ c)
 ceil_at z c q h g =
     let n : ℕ = unsigned_abs c in
-    let p : (ceil_div z n *ℤ pos n) ≤ℤ (q *ℤ pos n) = mul_le_right (pos n) (ceil_div z n) q (pos_nn n) g in
-    let f : z ≤ℤ (ceil_div z n *ℤ pos n) = ceil_le z n (abs_pos c h) in
-    let e : q *ℤ pos n ≡ q *ℤ c = ap (λ x. q *ℤ x) (pos_abs c (weak_of c h)) in
+    let product_at_most : (ceil_div z n *ℤ pos n) ≤ℤ (q *ℤ pos n) = mul_le_right (pos n) (ceil_div z n) q (pos_nn n) g in
+    let ceil_at_least : z ≤ℤ (ceil_div z n *ℤ pos n) = ceil_le z n (abs_pos c h) in
+    let same_product : q *ℤ pos n ≡ q *ℤ c = ap (λ x. q *ℤ x) (pos_abs c (weak_of c h)) in
     omega (arith, lins)
 
 -- past the quotient, q c is past z

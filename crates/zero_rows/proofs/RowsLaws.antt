@@ -113,14 +113,14 @@ took_diffs [] front z n whole few gives =
 took_diffs (line ∷ lines) front z n whole few gives =
     let took = walk-took rows_rules (Diff (rows z front)) line lines n whole gives in
     let diff = took_diff (rows z front) line took.next took.admits in
-    let d = diff.diff in
-    let longer = length-append front (d ∷ []) in
+    let difference = diff.diff in
+    let longer = length-append front (difference ∷ []) in
     let others = subst (λ (s : Expected). walk rows_rules lines (n + 1) s ≡ Ok whole) diff.next_is took.others in
-    let more = took_diffs lines (front ++ d ∷ []) z (n + 1) whole (omega (arith, longer, diff.room)) others in
+    let more = took_diffs lines (front ++ difference ∷ []) z (n + 1) whole (omega (arith, longer, diff.room)) others in
     record {
-      ds = d ∷ more.ds;
-      are = (took.short, behind-number_line (codes "diff ") 1000000000 line d diff.behind, more.are);
-      whole_is = more.whole_is ∙ ap (λ (l : List ℤ). rows z l) (append_assoc front (d ∷ []) more.ds);
+      ds = difference ∷ more.ds;
+      are = (took.short, behind-number_line (codes "diff ") 1000000000 line difference diff.behind, more.are);
+      whole_is = more.whole_is ∙ ap (λ (l : List ℤ). rows z l) (append_assoc front (difference ∷ []) more.ds);
       few = omega (arith, longer, more.few);
       some = omega arith;
     }
@@ -152,7 +152,7 @@ took_claim line next e = by_part (number_behind (codes "z ") 10000000 line) refl
     by_part (Err flaw) is gives = absurd cc
 
 no_more : (s : Expected) (n : ℕ) (whole : Rows) → finish s ≡ flawed 1 BadLine → walk rows_rules [] n s ≡ Ok whole → ⊥
-no_more s n whole is gives = let e = sym (walk-end rows_rules s n) ∙ gives in let f = ap (at_line (n + 1)) is in absurd (cc (e, f))
+no_more s n whole is gives = let end_is_ok = sym (walk-end rows_rules s n) ∙ gives in let same_at_line = ap (at_line (n + 1)) is in absurd (cc (end_is_ok, same_at_line))
 
 -- and what the lines give are rows of the form
 pub form-rows_of : (lines : List (List ℕ)) (whole : Rows) → rows_of lines ≡ Ok whole → AreRows lines whole.claim whole.diffs

@@ -35,35 +35,35 @@ slope_at-is (d ∷ ds) w =
 climbs : (ds : List ℤ) (m : ℤ) (k : ℕ) → pos 0 ≤ℤ slope_at ds m → sum_at ds m ≤ℤ sum_at ds (m +ℤ pos k)
 climbs ds m zero up =
     let here : m +ℤ pos 0 ≡ m = omega (arith, ints) in
-    let e = ap (sum_at ds) here in
-    omega (arith, ints, e)
+    let same_sum = ap (sum_at ds) here in
+    omega (arith, ints, same_sum)
 climbs ds m (suc k) up =
     let step : m +ℤ pos (suc k) ≡ (m +ℤ pos k) +ℤ pos 1 = omega (arith, ints) in
-    let e = ap (sum_at ds) step in
+    let same_sum = ap (sum_at ds) step in
     let later : m ≤ℤ (m +ℤ pos k) = omega (arith, ints) in
-    omega (arith, ints, e, sum_at-next ds (m +ℤ pos k), slope_at-le ds m (m +ℤ pos k) later, climbs ds m k up)
+    omega (arith, ints, same_sum, sum_at-next ds (m +ℤ pos k), slope_at-le ds m (m +ℤ pos k) later, climbs ds m k up)
 
 climbs_above : (ds : List ℤ) (m : ℤ) (k : ℕ) → pos 0 <ℤ slope_at ds m → sum_at ds m <ℤ sum_at ds (m +ℤ pos (suc k))
 climbs_above ds m k up =
     let step : m +ℤ pos (suc k) ≡ (m +ℤ pos 1) +ℤ pos k = omega (arith, ints) in
-    let e = ap (sum_at ds) step in
+    let same_sum = ap (sum_at ds) step in
     let later : m ≤ℤ (m +ℤ pos 1) = omega (arith, ints) in
     let rises = slope_at-le ds m (m +ℤ pos 1) later in
     let still : pos 0 ≤ℤ slope_at ds (m +ℤ pos 1) = omega (arith, ints, rises) in
-    omega (arith, ints, e, sum_at-next ds m, climbs ds (m +ℤ pos 1) k still)
+    omega (arith, ints, same_sum, sum_at-next ds m, climbs ds (m +ℤ pos 1) k still)
 
 -- below a number to which the sum still falls, every sum is greater
 falls : (ds : List ℤ) (m : ℤ) (k : ℕ) → slope_at ds (m -ℤ pos 1) <ℤ pos 0 → sum_at ds m <ℤ sum_at ds (m -ℤ pos (suc k))
 falls ds m zero down =
     let back : (m -ℤ pos 1) +ℤ pos 1 ≡ m = omega (arith, ints) in
-    let e = ap (sum_at ds) back in
-    omega (arith, ints, e, sum_at-next ds (m -ℤ pos 1))
+    let same_sum = ap (sum_at ds) back in
+    omega (arith, ints, same_sum, sum_at-next ds (m -ℤ pos 1))
 falls ds m (suc k) down =
     let w = m -ℤ pos (suc (suc k)) in
     let back : w +ℤ pos 1 ≡ m -ℤ pos (suc k) = omega (arith, ints) in
-    let e = ap (sum_at ds) back in
+    let same_sum = ap (sum_at ds) back in
     let earlier : w ≤ℤ (m -ℤ pos 1) = omega (arith, ints) in
-    omega (arith, ints, e, sum_at-next ds w, slope_at-le ds w (m -ℤ pos 1) earlier, falls ds m k down)
+    omega (arith, ints, same_sum, sum_at-next ds w, slope_at-le ds w (m -ℤ pos 1) earlier, falls ds m k down)
 
 -- another number stands above or below
 abbrev Apart : ℤ → ℤ → Type 0
@@ -79,23 +79,23 @@ apart m w ne = apart_by m w (w -ℤ m) refl ne
 
 pub least_all : (ds : List ℤ) (m w : ℤ) → IsLowest ds m → w ≢ m → sum_at ds m ≤ℤ sum_at ds w
 least_all ds m w low ne = elim (apart m w ne) [
-  | inl above ↦ let e = ap (sum_at ds) above.1 in omega (arith, ints, e, climbs ds m (suc above.0) low.stays)
-  | inr below ↦ let e = ap (sum_at ds) below.1 in omega (arith, ints, e, falls ds m below.0 low.fell)
+  | inl above ↦ let same_above = ap (sum_at ds) above.1 in omega (arith, ints, same_above, climbs ds m (suc above.0) low.stays)
+  | inr below ↦ let same_below = ap (sum_at ds) below.1 in omega (arith, ints, same_below, falls ds m below.0 low.fell)
 ]
 
 -- a lesser number has a greater sum
 pub less_greater : (ds : List ℤ) (m w : ℤ) → IsLowest ds m → w <ℤ m → sum_at ds m <ℤ sum_at ds w
 less_greater ds m w low lt = elim (apart m w (λ e. absurd (omega (arith, ints)))) [
   | inl above ↦ absurd (omega (arith, ints, above.1))
-  | inr below ↦ let e = ap (sum_at ds) below.1 in omega (arith, ints, e, falls ds m below.0 low.fell)
+  | inr below ↦ let same_below = ap (sum_at ds) below.1 in omega (arith, ints, same_below, falls ds m below.0 low.fell)
 ]
 
 pub best_where : (ds : List ℤ) (m : ℤ) → IsLowest ds m → sum_at ds m <ℤ sum_at ds (m +ℤ pos 1) → IsBest ds m
 best_where ds m low lt = λ w ne.
     let rises : pos 0 <ℤ slope_at ds m = omega (arith, ints, sum_at-next ds m) in
     elim (apart m w ne) [
-      | inl above ↦ let e = ap (sum_at ds) above.1 in omega (arith, ints, e, climbs_above ds m above.0 rises)
-      | inr below ↦ let e = ap (sum_at ds) below.1 in omega (arith, ints, e, falls ds m below.0 low.fell)
+      | inl above ↦ let same_above = ap (sum_at ds) above.1 in omega (arith, ints, same_above, climbs_above ds m above.0 rises)
+      | inr below ↦ let same_below = ap (sum_at ds) below.1 in omega (arith, ints, same_below, falls ds m below.0 low.fell)
     ]
 
 pub rival_next : (ds : List ℤ) (m : ℤ) → IsLowest ds m → sum_at ds (m +ℤ pos 1) ≤ℤ sum_at ds m → IsRival ds m (m +ℤ pos 1)
@@ -108,22 +108,22 @@ rival_next ds m low le = record {
     lesser_at : (w : ℤ) → w ≢ m → sum_at ds w ≡ sum_at ds (m +ℤ pos 1) → (m +ℤ pos 1) ≤ℤ w
     lesser_at w ne e = elim (apart m w ne) [
       | inl above ↦ omega (arith, ints, above.1)
-      | inr below ↦ let q = ap (sum_at ds) below.1 in absurd (omega (arith, ints, q, e, falls ds m below.0 low.fell))
+      | inr below ↦ let same_below = ap (sum_at ds) below.1 in absurd (omega (arith, ints, same_below, e, falls ds m below.0 low.fell))
     ]
 
 pub reaches_by : (ds : List ℤ) (m w d : ℤ) → IsLowest ds m → d ≡ w -ℤ m → sum_at ds m ≤ℤ sum_at ds w
 reaches_by ds m w (pos zero) low e =
     let here : w ≡ m = omega (arith, ints, e) in
-    let q = ap (sum_at ds) here in
-    omega (arith, ints, q)
+    let same_sum = ap (sum_at ds) here in
+    omega (arith, ints, same_sum)
 reaches_by ds m w (pos (suc k)) low e = least_all ds m w low (λ is. absurd (omega (arith, ints, is, e)))
 reaches_by ds m w (negsuc k) low e = least_all ds m w low (λ is. absurd (omega (arith, ints, is, e)))
 
 lesser_by : (ds : List ℤ) (m w d : ℤ) → IsLowest ds m → sum_at ds w ≡ sum_at ds m → d ≡ w -ℤ m → m ≤ℤ w
 lesser_by ds m w (pos k) low same e = omega (arith, ints, e)
 lesser_by ds m w (negsuc k) low same e =
-    let lt : w <ℤ m = omega (arith, ints, e) in
-    absurd (omega (arith, ints, same, less_greater ds m w low lt))
+    let is_below : w <ℤ m = omega (arith, ints, e) in
+    absurd (omega (arith, ints, same, less_greater ds m w low is_below))
 
 pub rival_lowest : (ds : List ℤ) (z m : ℤ) → IsLowest ds m → m ≢ z → IsRival ds z m
 rival_lowest ds z m low ne = record {

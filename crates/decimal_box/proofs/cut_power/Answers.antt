@@ -7,23 +7,23 @@ use Rattle.decimal_box.proofs.cut_power.Goals as goal
 
 pub pow-requires : goal.pow-requires
 pow-requires c =
-    let h = power_high c.args.exponent c.args.most c.min.result c.requires c.min.ensures in
-    omega (arith, ints, h.1)
+    let power_bounded = power_high c.args.exponent c.args.most c.min.result c.requires c.min.ensures in
+    omega (arith, ints, power_bounded.1)
 
 pub returns-clause-value : goal.returns-clause-value
 returns-clause-value c =
-    let h = power_high c.args.exponent c.args.most c.min.result c.requires c.min.ensures in
-    own_word c.pow.result (10 ^ c.min.result) c.pow.ensures h.1 ∙ ap (λ (n : ℕ). pos (10 ^ n)) c.min.ensures
+    let power_bounded = power_high c.args.exponent c.args.most c.min.result c.requires c.min.ensures in
+    own_word c.pow.result (10 ^ c.min.result) c.pow.ensures power_bounded.1 ∙ ap (λ (n : ℕ). pos (10 ^ n)) c.min.ensures
 
 pub returns-clause-positive : goal.returns-clause-positive
 returns-clause-positive c =
-    let h = power_high c.args.exponent c.args.most c.min.result c.requires c.min.ensures in
-    let own = own_word c.pow.result (10 ^ c.min.result) c.pow.ensures h.1 in
+    let power_bounded = power_high c.args.exponent c.args.most c.min.result c.requires c.min.ensures in
+    let own = own_word c.pow.result (10 ^ c.min.result) c.pow.ensures power_bounded.1 in
     let low = ten_to_pos c.min.result in
     omega (arith, ints, own, low)
 
 pub returns-clause-bound : goal.returns-clause-bound
 returns-clause-bound c =
-    let h = power_high c.args.exponent c.args.most c.min.result c.requires c.min.ensures in
-    let own = own_word c.pow.result (10 ^ c.min.result) c.pow.ensures h.1 in
-    omega (arith, ints, own, h.0)
+    let power_bounded = power_high c.args.exponent c.args.most c.min.result c.requires c.min.ensures in
+    let own = own_word c.pow.result (10 ^ c.min.result) c.pow.ensures power_bounded.1 in
+    omega (arith, ints, own, power_bounded.0)

@@ -11,36 +11,36 @@ use Rattle.decimal_box.proofs.decimal_box.Goals as goal
 
 pub exponent_box-held-requires : goal.exponent_box-held-requires
 exponent_box-held-requires g c =
-    let m : ℤ = to_z w64 (of_z w64 c.args.d.mant) in
-    let e : ℤ = to_z w64 (of_z w64 c.raised.result) in
-    let mant : m ≡ c.args.d.mant = omega (arith, ints) in
-    let own : e ≡ c.raised.result = omega (arith, ints) in
-    let exp : c.args.d.exp +ℤ pos g.row.UP ≡ e = omega (arith, ints, c.raised.ensures.sum) in
-    let same : times (10 ^ g.row.UP) (value_of c.args.d) ≈ with_exponent m e = scaled_value g.row.UP c.args.d.mant c.args.d.exp m e mant exp in
+    let mantissa : ℤ = to_z w64 (of_z w64 c.args.d.mant) in
+    let exponent : ℤ = to_z w64 (of_z w64 c.raised.result) in
+    let mant : mantissa ≡ c.args.d.mant = omega (arith, ints) in
+    let own : exponent ≡ c.raised.result = omega (arith, ints) in
+    let exp : c.args.d.exp +ℤ pos g.row.UP ≡ exponent = omega (arith, ints, c.raised.ensures.sum) in
+    let same : times (10 ^ g.row.UP) (value_of c.args.d) ≈ with_exponent mantissa exponent = scaled_value g.row.UP c.args.d.mant c.args.d.exp mantissa exponent mant exp in
     let small = small_enough g.row.BOUND g.row.PLACES g.row.UP g.row.K g.row.SIZE c.args.d c.requires.within c.requires.size in (
       omega arith,
       (
         c.requires.scale,
         (
           (omega (arith, ints, own, c.raised.ensures.range.0), omega (arith, ints, own, c.raised.ensures.range.1)),
-          in_reach g.row.K g.row.SIZE (times (10 ^ g.row.UP) (value_of c.args.d)) (with_exponent m e) c.requires.limit same small,
+          in_reach g.row.K g.row.SIZE (times (10 ^ g.row.UP) (value_of c.args.d)) (with_exponent mantissa exponent) c.requires.limit same small,
         ),
       ),
     )
 
 pub new-requires : goal.new-requires
 new-requires g c =
-    let m : ℤ = to_z w64 (of_z w64 c.args.d.mant) in
-    let e : ℤ = to_z w64 (of_z w64 c.raised.result) in
-    let mant : m ≡ c.args.d.mant = omega (arith, ints) in
-    let exp : c.args.d.exp +ℤ pos g.row.UP ≡ e = omega (arith, ints, c.raised.ensures.sum) in
-    let same : times (10 ^ g.row.UP) (value_of c.args.d) ≈ with_exponent m e = scaled_value g.row.UP c.args.d.mant c.args.d.exp m e mant exp in
+    let mantissa : ℤ = to_z w64 (of_z w64 c.args.d.mant) in
+    let exponent : ℤ = to_z w64 (of_z w64 c.raised.result) in
+    let mant : mantissa ≡ c.args.d.mant = omega (arith, ints) in
+    let exp : c.args.d.exp +ℤ pos g.row.UP ≡ exponent = omega (arith, ints, c.raised.ensures.sum) in
+    let same : times (10 ^ g.row.UP) (value_of c.args.d) ≈ with_exponent mantissa exponent = scaled_value g.row.UP c.args.d.mant c.args.d.exp mantissa exponent mant exp in
     let small = small_enough g.row.BOUND g.row.PLACES g.row.UP g.row.K g.row.SIZE c.args.d c.requires.within c.requires.size in (
       omega arith,
       (
         omega arith,
         (
-          ends_of g.row.K g.row.SIZE c.exponent_box-held.result (times (10 ^ g.row.UP) (value_of c.args.d)) (with_exponent m e)
+          ends_of g.row.K g.row.SIZE c.exponent_box-held.result (times (10 ^ g.row.UP) (value_of c.args.d)) (with_exponent mantissa exponent)
               same c.exponent_box-held.ensures.least small,
           c.exponent_box-held.ensures.narrow,
         ),
@@ -49,10 +49,10 @@ new-requires g c =
 
 pub returns : goal.returns
 returns g c =
-    let m : ℤ = to_z w64 (of_z w64 c.args.d.mant) in
-    let e : ℤ = to_z w64 (of_z w64 c.raised.result) in
-    let mant : m ≡ c.args.d.mant = omega (arith, ints) in
-    let exp : c.args.d.exp +ℤ pos g.row.UP ≡ e = omega (arith, ints, c.raised.ensures.sum) in
-    let same : times (10 ^ g.row.UP) (value_of c.args.d) ≈ with_exponent m e = scaled_value g.row.UP c.args.d.mant c.args.d.exp m e mant exp in
+    let mantissa : ℤ = to_z w64 (of_z w64 c.args.d.mant) in
+    let exponent : ℤ = to_z w64 (of_z w64 c.raised.result) in
+    let mant : mantissa ≡ c.args.d.mant = omega (arith, ints) in
+    let exp : c.args.d.exp +ℤ pos g.row.UP ≡ exponent = omega (arith, ints, c.raised.ensures.sum) in
+    let same : times (10 ^ g.row.UP) (value_of c.args.d) ≈ with_exponent mantissa exponent = scaled_value g.row.UP c.args.d.mant c.args.d.exp mantissa exponent mant exp in
     let value : Rational = times (10 ^ g.row.UP) (value_of c.args.d) in
-    subst (λ (b : Iv g.row.K). IsLeastBox b value) (sym c.new.ensures) (least_along g.row.K c.exponent_box-held.result (with_exponent m e) value same c.exponent_box-held.ensures.least)
+    subst (λ (b : Iv g.row.K). IsLeastBox b value) (sym c.new.ensures) (least_along g.row.K c.exponent_box-held.result (with_exponent mantissa exponent) value same c.exponent_box-held.ensures.least)

@@ -9,14 +9,14 @@ use Rattle.decimal_box.proofs.exponent_box.Goals as goal
 
 pub returns-then-exp-ge0-clause-least : goal.returns-then-exp-ge0-clause-least
 returns-then-exp-ge0-clause-least g c =
-    let n : ℤ = to_z w64 (of_z w64 c.args.mant) in
-    let is : c.args.exp ≡ pos c.size_of_exponent.result = omega (arith, ints, c.size_of_exponent.ensures, c.if-exp-ge0.true) in
-    subst (λ (v : Rational). IsLeastBox c.whole_box.result v) (whole_value c.args.mant n c.args.exp c.size_of_exponent.result (to_z-of_z w64 c.args.mant c.ranges.mant) is) c.whole_box.ensures.least
+    let mantissa : ℤ = to_z w64 (of_z w64 c.args.mant) in
+    let exponent_is : c.args.exp ≡ pos c.size_of_exponent.result = omega (arith, ints, c.size_of_exponent.ensures, c.if-exp-ge0.true) in
+    subst (λ (v : Rational). IsLeastBox c.whole_box.result v) (whole_value c.args.mant mantissa c.args.exp c.size_of_exponent.result (to_z-of_z w64 c.args.mant c.ranges.mant) exponent_is) c.whole_box.ensures.least
 
 pub returns-else-exp-ge0-clause-least : goal.returns-else-exp-ge0-clause-least
 returns-else-exp-ge0-clause-least g c =
-    let n : ℤ = to_z w64 (of_z w64 c.args.mant) in
-    let p : ℕ = c.size_of_exponent-else-exp-ge0.result in
-    let is : c.args.exp ≡ neg_ℤ (pos p) = omega (arith, ints, c.size_of_exponent-else-exp-ge0.ensures, c.if-exp-ge0.false) in
-    let some : 0 < p = omega (arith, ints, c.size_of_exponent-else-exp-ge0.ensures, c.if-exp-ge0.false) in
-    subst (λ (v : Rational). IsLeastBox c.part_box.result v) (part_value c.args.mant n c.args.exp p (to_z-of_z w64 c.args.mant c.ranges.mant) is some) c.part_box.ensures.least
+    let mantissa : ℤ = to_z w64 (of_z w64 c.args.mant) in
+    let places : ℕ = c.size_of_exponent-else-exp-ge0.result in
+    let exponent_is : c.args.exp ≡ neg_ℤ (pos places) = omega (arith, ints, c.size_of_exponent-else-exp-ge0.ensures, c.if-exp-ge0.false) in
+    let some : 0 < places = omega (arith, ints, c.size_of_exponent-else-exp-ge0.ensures, c.if-exp-ge0.false) in
+    subst (λ (v : Rational). IsLeastBox c.part_box.result v) (part_value c.args.mant mantissa c.args.exp places (to_z-of_z w64 c.args.mant c.ranges.mant) exponent_is some) c.part_box.ensures.least

@@ -24,10 +24,10 @@ unwrap-requires g c =
 
 pub returns-clause-least : goal.returns-clause-least
 returns-clause-least g c =
-    let n : ℤ = to_z w128 (of_z w128 (to_z w64 (of_z w64 c.args.mant))) in
-    let d : ℤ = to_z w128 (of_z w128 c.cut_power.result) in
-    let num : n ≡ c.args.mant = grind (arith, to_z-of_z) in
-    let den : d ≡ c.cut_power.result = to_z-of_z w128 c.cut_power.result (record { sfits = c.cut_power.type_inv }) in
-    let ends = part_ends g.row.K c.args.places c.args.mant n d c.requires.scale c.ranges.mant num (den ∙ c.cut_power.ensures.value) in
-    let at = IfOk-at_ok (λ r. (r.lo ≡ floor_div (n *ℤ pos (2 ^ g.row.K)) (unsigned_abs d)) × (r.hi ≡ ceil_div (n *ℤ pos (2 ^ g.row.K)) (unsigned_abs d))) c.unwrap.ensures c.ratio.ensures.ends in
-    as_box g.row.K c.unwrap.result _ _ (decimal c.args.mant c.args.places) at.0 at.1 ends
+    let mantissa : ℤ = to_z w128 (of_z w128 (to_z w64 (of_z w64 c.args.mant))) in
+    let divisor : ℤ = to_z w128 (of_z w128 c.cut_power.result) in
+    let num : mantissa ≡ c.args.mant = grind (arith, to_z-of_z) in
+    let den : divisor ≡ c.cut_power.result = to_z-of_z w128 c.cut_power.result (record { sfits = c.cut_power.type_inv }) in
+    let ends = part_ends g.row.K c.args.places c.args.mant mantissa divisor c.requires.scale c.ranges.mant num (den ∙ c.cut_power.ensures.value) in
+    let ends_are = IfOk-at_ok (λ r. (r.lo ≡ floor_div (mantissa *ℤ pos (2 ^ g.row.K)) (unsigned_abs divisor)) × (r.hi ≡ ceil_div (mantissa *ℤ pos (2 ^ g.row.K)) (unsigned_abs divisor))) c.unwrap.ensures c.ratio.ensures.ends in
+    as_box g.row.K c.unwrap.result _ _ (decimal c.args.mant c.args.places) ends_are.0 ends_are.1 ends

@@ -6,12 +6,12 @@ use Rattle.decimal_box.proofs.whole_number.Goals as goal
 
 pub overflow_mul-result : goal.overflow_mul-result
 overflow_mul-result c =
-    let m = to_z-of_z w64 c.args.mant c.ranges.mant in
-    let p = to_z-of_z w128 c.cut_power.result (record { sfits = c.cut_power.type_inv }) in
-    rw (m, p) (product_fits c.args.mant c.cut_power.result c.ranges.mant c.cut_power.ensures.positive c.cut_power.ensures.bound).0
+    let mantissa_kept = to_z-of_z w64 c.args.mant c.ranges.mant in
+    let power_kept = to_z-of_z w128 c.cut_power.result (record { sfits = c.cut_power.type_inv }) in
+    rw (mantissa_kept, power_kept) (product_fits c.args.mant c.cut_power.result c.ranges.mant c.cut_power.ensures.positive c.cut_power.ensures.bound).0
 
 pub returns : goal.returns
 returns c =
-    let m = to_z-of_z w64 c.args.mant c.ranges.mant in
-    let p = to_z-of_z w128 c.cut_power.result (record { sfits = c.cut_power.type_inv }) in
-    rw (m, p, ← c.cut_power.ensures.value) (product_fits c.args.mant c.cut_power.result c.ranges.mant c.cut_power.ensures.positive c.cut_power.ensures.bound).1
+    let mantissa_kept = to_z-of_z w64 c.args.mant c.ranges.mant in
+    let power_kept = to_z-of_z w128 c.cut_power.result (record { sfits = c.cut_power.type_inv }) in
+    rw (mantissa_kept, power_kept, ← c.cut_power.ensures.value) (product_fits c.args.mant c.cut_power.result c.ranges.mant c.cut_power.ensures.positive c.cut_power.ensures.bound).1

@@ -16,5 +16,5 @@ pub returns-clause-direction : goal.returns-clause-direction
 returns-clause-direction c = λ x y z sent seen move direction t e h s m d.
     let inside = c.sight_of-sight.ensures.place sent seen t (held c.args.sv.now.place c.sent_box-sent.result.place sent c.sent_box-sent.ensures h)
     (subst (λ (p : Place). IsSeenPlace sent p t seen) (sym (handed c x y z e)) s) in
-    let k = c.direction_of-direction.ensures seen move direction inside m (subst (λ (p : Place). IsMeanDirection seen p move direction) (sym (handed c x y z e)) d) in
-    (k.0, (k.1, (k.2, tt)))
+    let direction_holds = c.direction_of-direction.ensures seen move direction inside m (subst (λ (p : Place). IsMeanDirection seen p move direction) (sym (handed c x y z e)) d) in
+    (direction_holds.0, (direction_holds.1, (direction_holds.2, tt)))

@@ -11,8 +11,8 @@ seen_there c x y z sent seen t e s = subst (λ (p : Place). IsSeenPlace sent p t
 
 pub returns-clause-place : goal.returns-clause-place
 returns-clause-place c = λ x y z sent seen t e h s.
-    let k = c.sight_of-sight.ensures.place sent seen t (held c.args.sv.now.place c.sent_box.result.place sent c.sent_box.ensures h) (seen_there c x y z sent seen t e s) in
-    (k.0, (k.1, (k.2, tt)))
+    let holds_place = c.sight_of-sight.ensures.place sent seen t (held c.args.sv.now.place c.sent_box.result.place sent c.sent_box.ensures h) (seen_there c x y z sent seen t e s) in
+    (holds_place.0, (holds_place.1, (holds_place.2, tt)))
 
 pub returns-clause-range : goal.returns-clause-range
 returns-clause-range c = λ x y z sent seen t e h s.
@@ -24,12 +24,12 @@ returns-clause-time c = λ x y z sent seen t e h s.
 
 pub invariant_of-result : goal.invariant_of-result
 invariant_of-result c =
-    let s = c.sight_of-sight in
-    let p = s.result.place in
+    let sight = c.sight_of-sight in
+    let place = sight.result.place in
     record {
-      narrow = all_narrow p.x p.y p.z (pos (2 ^ 19)) s.ensures.narrow;
-      away = λ x y z e. all_between 18900000 38100000 p.x p.y p.z x y z e s.ensures.away;
-      range_narrow = s.ensures.range_narrow;
-      range_far = s.ensures.far;
-      travel_narrow = s.ensures.time_narrow;
+      narrow = all_narrow place.x place.y place.z (pos (2 ^ 19)) sight.ensures.narrow;
+      away = λ x y z e. all_between 18900000 38100000 place.x place.y place.z x y z e sight.ensures.away;
+      range_narrow = sight.ensures.range_narrow;
+      range_far = sight.ensures.far;
+      travel_narrow = sight.ensures.time_narrow;
     }

@@ -6,20 +6,20 @@ use Rattle.trig_box.proofs.cosine_sum.Goals as goal
 pub returns-clause-value : goal.returns-clause-value
 returns-clause-value c =
     let z = c.args.z in
-    let e1 : c.sum_step-inner.result ≡ summed (220414 ∷ 720 ∷ []) z =
+    let second_sum_is : c.sum_step-inner.result ≡ summed (220414 ∷ 720 ∷ []) z =
     summed_cons 220414 (720 ∷ []) z c.sum_step-inner.result 720 (summed_one 720 z) c.sum_step-inner.ensures.value in
-    let e2 : c.sum_step-inner-2.result ≡ summed (52899477 ∷ 220414 ∷ 720 ∷ []) z =
-    summed_cons 52899477 (220414 ∷ 720 ∷ []) z c.sum_step-inner-2.result c.sum_step-inner.result e1 c.sum_step-inner-2.ensures.value in
-    let e3 : c.sum_step-inner-3.result ≡ summed (9627704831 ∷ 52899477 ∷ 220414 ∷ 720 ∷ []) z =
-    summed_cons 9627704831 (52899477 ∷ 220414 ∷ 720 ∷ []) z c.sum_step-inner-3.result c.sum_step-inner-2.result e2 c.sum_step-inner-3.ensures.value in
-    let e4 : c.sum_step-inner-4.result ≡ summed (1270857037706 ∷ 9627704831 ∷ 52899477 ∷ 220414 ∷ 720 ∷ []) z =
-    summed_cons 1270857037706 (9627704831 ∷ 52899477 ∷ 220414 ∷ 720 ∷ []) z c.sum_step-inner-4.result c.sum_step-inner-3.result e3 c.sum_step-inner-4.ensures.value in
-    let e5 : c.sum_step-inner-5.result ≡ summed (114377133393536 ∷ 1270857037706 ∷ 9627704831 ∷ 52899477 ∷ 220414 ∷ 720 ∷ []) z =
-    summed_cons 114377133393536 (1270857037706 ∷ 9627704831 ∷ 52899477 ∷ 220414 ∷ 720 ∷ []) z c.sum_step-inner-5.result c.sum_step-inner-4.result e4 c.sum_step-inner-5.ensures.value in
-    let e6 : c.sum_step-inner-6.result ≡ summed (6405119470038039 ∷ 114377133393536 ∷ 1270857037706 ∷ 9627704831 ∷ 52899477 ∷ 220414 ∷ 720 ∷ []) z =
-    summed_cons 6405119470038039 (114377133393536 ∷ 1270857037706 ∷ 9627704831 ∷ 52899477 ∷ 220414 ∷ 720 ∷ []) z c.sum_step-inner-6.result c.sum_step-inner-5.result e5 c.sum_step-inner-6.ensures.value in
-    let e7 : c.sum_step-inner-7.result ≡ summed (192153584101141163 ∷ 6405119470038039 ∷ 114377133393536 ∷ 1270857037706 ∷ 9627704831 ∷ 52899477 ∷ 220414 ∷ 720 ∷ []) z =
-    summed_cons 192153584101141163 (6405119470038039 ∷ 114377133393536 ∷ 1270857037706 ∷ 9627704831 ∷ 52899477 ∷ 220414 ∷ 720 ∷ []) z c.sum_step-inner-7.result c.sum_step-inner-6.result e6 c.sum_step-inner-7.ensures.value in
-    let e8 : c.sum_step-inner-8.result ≡ summed (2305843009213693952 ∷ 192153584101141163 ∷ 6405119470038039 ∷ 114377133393536 ∷ 1270857037706 ∷ 9627704831 ∷ 52899477 ∷ 220414 ∷ 720 ∷ []) z =
-    summed_cons 2305843009213693952 (192153584101141163 ∷ 6405119470038039 ∷ 114377133393536 ∷ 1270857037706 ∷ 9627704831 ∷ 52899477 ∷ 220414 ∷ 720 ∷ []) z c.sum_step-inner-8.result c.sum_step-inner-7.result e7 c.sum_step-inner-8.ensures.value in
-    summed_cons 4611686018427387904 (2305843009213693952 ∷ 192153584101141163 ∷ 6405119470038039 ∷ 114377133393536 ∷ 1270857037706 ∷ 9627704831 ∷ 52899477 ∷ 220414 ∷ 720 ∷ []) z c.sum_step.result c.sum_step-inner-8.result e8 c.sum_step.ensures.value
+    let third_sum_is : c.sum_step-inner-2.result ≡ summed (52899477 ∷ 220414 ∷ 720 ∷ []) z =
+    summed_cons 52899477 (220414 ∷ 720 ∷ []) z c.sum_step-inner-2.result c.sum_step-inner.result second_sum_is c.sum_step-inner-2.ensures.value in
+    let fourth_sum_is : c.sum_step-inner-3.result ≡ summed (9627704831 ∷ 52899477 ∷ 220414 ∷ 720 ∷ []) z =
+    summed_cons 9627704831 (52899477 ∷ 220414 ∷ 720 ∷ []) z c.sum_step-inner-3.result c.sum_step-inner-2.result third_sum_is c.sum_step-inner-3.ensures.value in
+    let fifth_sum_is : c.sum_step-inner-4.result ≡ summed (1270857037706 ∷ 9627704831 ∷ 52899477 ∷ 220414 ∷ 720 ∷ []) z =
+    summed_cons 1270857037706 (9627704831 ∷ 52899477 ∷ 220414 ∷ 720 ∷ []) z c.sum_step-inner-4.result c.sum_step-inner-3.result fourth_sum_is c.sum_step-inner-4.ensures.value in
+    let sixth_sum_is : c.sum_step-inner-5.result ≡ summed (114377133393536 ∷ 1270857037706 ∷ 9627704831 ∷ 52899477 ∷ 220414 ∷ 720 ∷ []) z =
+    summed_cons 114377133393536 (1270857037706 ∷ 9627704831 ∷ 52899477 ∷ 220414 ∷ 720 ∷ []) z c.sum_step-inner-5.result c.sum_step-inner-4.result fifth_sum_is c.sum_step-inner-5.ensures.value in
+    let seventh_sum_is : c.sum_step-inner-6.result ≡ summed (6405119470038039 ∷ 114377133393536 ∷ 1270857037706 ∷ 9627704831 ∷ 52899477 ∷ 220414 ∷ 720 ∷ []) z =
+    summed_cons 6405119470038039 (114377133393536 ∷ 1270857037706 ∷ 9627704831 ∷ 52899477 ∷ 220414 ∷ 720 ∷ []) z c.sum_step-inner-6.result c.sum_step-inner-5.result sixth_sum_is c.sum_step-inner-6.ensures.value in
+    let eighth_sum_is : c.sum_step-inner-7.result ≡ summed (192153584101141163 ∷ 6405119470038039 ∷ 114377133393536 ∷ 1270857037706 ∷ 9627704831 ∷ 52899477 ∷ 220414 ∷ 720 ∷ []) z =
+    summed_cons 192153584101141163 (6405119470038039 ∷ 114377133393536 ∷ 1270857037706 ∷ 9627704831 ∷ 52899477 ∷ 220414 ∷ 720 ∷ []) z c.sum_step-inner-7.result c.sum_step-inner-6.result seventh_sum_is c.sum_step-inner-7.ensures.value in
+    let ninth_sum_is : c.sum_step-inner-8.result ≡ summed (2305843009213693952 ∷ 192153584101141163 ∷ 6405119470038039 ∷ 114377133393536 ∷ 1270857037706 ∷ 9627704831 ∷ 52899477 ∷ 220414 ∷ 720 ∷ []) z =
+    summed_cons 2305843009213693952 (192153584101141163 ∷ 6405119470038039 ∷ 114377133393536 ∷ 1270857037706 ∷ 9627704831 ∷ 52899477 ∷ 220414 ∷ 720 ∷ []) z c.sum_step-inner-8.result c.sum_step-inner-7.result eighth_sum_is c.sum_step-inner-8.ensures.value in
+    summed_cons 4611686018427387904 (2305843009213693952 ∷ 192153584101141163 ∷ 6405119470038039 ∷ 114377133393536 ∷ 1270857037706 ∷ 9627704831 ∷ 52899477 ∷ 220414 ∷ 720 ∷ []) z c.sum_step.result c.sum_step-inner-8.result ninth_sum_is c.sum_step.ensures.value

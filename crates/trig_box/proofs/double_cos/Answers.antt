@@ -17,13 +17,13 @@ squares c s = ring (c ∷ s ∷ []) ((va 0 ⊕ va 1) ⊗ (va 0 ⊖ va 1)) ((va 0
 
 value : (c : goal.After-floor_shift) → c.floor_shift.result ≡ floor_div ((c.args.c *ℤ c.args.c) -ℤ (c.args.s *ℤ c.args.s)) (2 ^ 62)
 value c =
-    let ec : to_z w64 (of_z w64 c.args.c) ≡ c.args.c = to_z-of_z w64 c.args.c c.ranges.c in
-    let es : to_z w64 (of_z w64 c.args.s) ≡ c.args.s = to_z-of_z w64 c.args.s c.ranges.s in
-    let a = sum_is _ _ c.args.c c.args.s ec es c.requires.sum_size in
-    let b = less_is _ _ c.args.c c.args.s ec es c.requires.difference_size in
-    let d = wide_is c.product.result ((c.args.c *ℤ c.args.c) -ℤ (c.args.s *ℤ c.args.s)) c.product.ensures.size
-    (c.product.ensures.value ∙ ap₂ (λ x y. x *ℤ y) a b ∙ squares c.args.c c.args.s) in
-    c.floor_shift.ensures.value ∙ ap (λ z. floor_div z (2 ^ 62)) d
+    let same_cosine : to_z w64 (of_z w64 c.args.c) ≡ c.args.c = to_z-of_z w64 c.args.c c.ranges.c in
+    let same_sine : to_z w64 (of_z w64 c.args.s) ≡ c.args.s = to_z-of_z w64 c.args.s c.ranges.s in
+    let sum_is_exact = sum_is _ _ c.args.c c.args.s same_cosine same_sine c.requires.sum_size in
+    let difference_is_exact = less_is _ _ c.args.c c.args.s same_cosine same_sine c.requires.difference_size in
+    let product_is_exact = wide_is c.product.result ((c.args.c *ℤ c.args.c) -ℤ (c.args.s *ℤ c.args.s)) c.product.ensures.size
+    (c.product.ensures.value ∙ ap₂ (λ x y. x *ℤ y) sum_is_exact difference_is_exact ∙ squares c.args.c c.args.s) in
+    c.floor_shift.ensures.value ∙ ap (λ z. floor_div z (2 ^ 62)) product_is_exact
 
 pub overflow_cast-result : goal.overflow_cast-result
 overflow_cast-result c = narrow_fits c.floor_shift.result (floor_div ((c.args.c *ℤ c.args.c) -ℤ (c.args.s *ℤ c.args.s)) (2 ^ 62)) (value c) c.requires.size

@@ -7,14 +7,14 @@ use Rattle.trig_box.proofs.double_sin.Goals as goal
 
 pub overflow_cast-result : goal.overflow_cast-result
 overflow_cast-result c =
-    let ec : to_z w64 (of_z w64 c.args.c) ≡ c.args.c = to_z-of_z w64 c.args.c c.ranges.c in
-    let es : to_z w64 (of_z w64 c.args.s) ≡ c.args.s = to_z-of_z w64 c.args.s c.ranges.s in
-    let d = wide_is c.product.result (c.args.c *ℤ c.args.s) c.product.ensures.size (c.product.ensures.value ∙ ap₂ (λ x y. x *ℤ y) ec es) in
-    narrow_fits c.floor_shift.result (floor_div (c.args.c *ℤ c.args.s) (2 ^ 61)) (c.floor_shift.ensures.value ∙ ap (λ z. floor_div z (2 ^ 61)) d) c.requires.size
+    let same_cosine : to_z w64 (of_z w64 c.args.c) ≡ c.args.c = to_z-of_z w64 c.args.c c.ranges.c in
+    let same_sine : to_z w64 (of_z w64 c.args.s) ≡ c.args.s = to_z-of_z w64 c.args.s c.ranges.s in
+    let product_is_exact = wide_is c.product.result (c.args.c *ℤ c.args.s) c.product.ensures.size (c.product.ensures.value ∙ ap₂ (λ x y. x *ℤ y) same_cosine same_sine) in
+    narrow_fits c.floor_shift.result (floor_div (c.args.c *ℤ c.args.s) (2 ^ 61)) (c.floor_shift.ensures.value ∙ ap (λ z. floor_div z (2 ^ 61)) product_is_exact) c.requires.size
 
 pub returns : goal.returns
 returns c =
-    let ec : to_z w64 (of_z w64 c.args.c) ≡ c.args.c = to_z-of_z w64 c.args.c c.ranges.c in
-    let es : to_z w64 (of_z w64 c.args.s) ≡ c.args.s = to_z-of_z w64 c.args.s c.ranges.s in
-    let d = wide_is c.product.result (c.args.c *ℤ c.args.s) c.product.ensures.size (c.product.ensures.value ∙ ap₂ (λ x y. x *ℤ y) ec es) in
-    narrow_is c.floor_shift.result (floor_div (c.args.c *ℤ c.args.s) (2 ^ 61)) (c.floor_shift.ensures.value ∙ ap (λ z. floor_div z (2 ^ 61)) d) c.requires.size
+    let same_cosine : to_z w64 (of_z w64 c.args.c) ≡ c.args.c = to_z-of_z w64 c.args.c c.ranges.c in
+    let same_sine : to_z w64 (of_z w64 c.args.s) ≡ c.args.s = to_z-of_z w64 c.args.s c.ranges.s in
+    let product_is_exact = wide_is c.product.result (c.args.c *ℤ c.args.s) c.product.ensures.size (c.product.ensures.value ∙ ap₂ (λ x y. x *ℤ y) same_cosine same_sine) in
+    narrow_is c.floor_shift.result (floor_div (c.args.c *ℤ c.args.s) (2 ^ 61)) (c.floor_shift.ensures.value ∙ ap (λ z. floor_div z (2 ^ 61)) product_is_exact) c.requires.size

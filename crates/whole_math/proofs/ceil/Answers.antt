@@ -9,12 +9,12 @@ use Rattle.whole_math.proofs.ceil.Goals as goal
 
 pub returns-then-rest-eq0-clause-value : goal.returns-then-rest-eq0-clause-value
 returns-then-rest-eq0-clause-value c =
-    let n : to_z w128 (of_z w128 c.args.n) ≡ c.args.n = to_z-of_z w128 c.args.n c.ranges.n in
-    let m : to_z w128 (of_z w128 c.args.m) ≡ c.args.m = to_z-of_z w128 c.args.m c.ranges.m in
-    let d : to_z w128 (of_z w128 c.floor-down.result) ≡ c.floor-down.result = grind (arith, to_z-of_z) in
-    let r : c.left_of-rest.result ≡ pos 0 = omega (arith, ints, c.if-rest-eq0.true) in
-    d ∙ ceil_exact c.args.n c.args.m c.floor-down.result c.left_of-rest.result c.requires.positive
-    (taken_apart _ _ _ _ _ _ c.left_of-rest.result n d m c.left_of-rest.ensures.value) r
+    let dividend_is : to_z w128 (of_z w128 c.args.n) ≡ c.args.n = to_z-of_z w128 c.args.n c.ranges.n in
+    let divisor_is : to_z w128 (of_z w128 c.args.m) ≡ c.args.m = to_z-of_z w128 c.args.m c.ranges.m in
+    let floor_is : to_z w128 (of_z w128 c.floor-down.result) ≡ c.floor-down.result = grind (arith, to_z-of_z) in
+    let rest_is_zero : c.left_of-rest.result ≡ pos 0 = omega (arith, ints, c.if-rest-eq0.true) in
+    floor_is ∙ ceil_exact c.args.n c.args.m c.floor-down.result c.left_of-rest.result c.requires.positive
+    (taken_apart _ _ _ _ _ _ c.left_of-rest.result dividend_is floor_is divisor_is c.left_of-rest.ensures.value) rest_is_zero
 
 pub returns-then-rest-eq0-clause-bounds : goal.returns-then-rest-eq0-clause-bounds
 returns-then-rest-eq0-clause-bounds c = subst (λ (q : ℤ). IsCeil c.args.n (unsigned_abs c.args.m) q) (sym (returns-then-rest-eq0-clause-value c))
@@ -22,14 +22,14 @@ returns-then-rest-eq0-clause-bounds c = subst (λ (q : ℤ). IsCeil c.args.n (un
 
 pub returns-else-rest-eq0-clause-value : goal.returns-else-rest-eq0-clause-value
 returns-else-rest-eq0-clause-value c =
-    let n : to_z w128 (of_z w128 c.args.n) ≡ c.args.n = to_z-of_z w128 c.args.n c.ranges.n in
-    let m : to_z w128 (of_z w128 c.args.m) ≡ c.args.m = to_z-of_z w128 c.args.m c.ranges.m in
-    let d : to_z w128 (of_z w128 c.floor-down.result) ≡ c.floor-down.result = grind (arith, to_z-of_z) in
-    let q : to_z w128 (of_z w128 (to_z w128 (of_z w128 c.floor-down.result) +ℤ pos 1)) ≡ c.floor-down.result +ℤ pos 1 = grind (arith, to_z-of_z) in
-    let r : pos 0 <ℤ c.left_of-rest.result = omega (arith, ints, c.if-rest-eq0.false, c.left_of-rest.ensures.low) in
-    let l : c.left_of-rest.result <ℤ c.args.m = subst (λ (k : ℤ). c.left_of-rest.result <ℤ k) m c.left_of-rest.ensures.high in
-    q ∙ ceil_next c.args.n c.args.m c.floor-down.result c.left_of-rest.result c.requires.positive
-    (taken_apart _ _ _ _ _ _ c.left_of-rest.result n d m c.left_of-rest.ensures.value) r l
+    let dividend_is : to_z w128 (of_z w128 c.args.n) ≡ c.args.n = to_z-of_z w128 c.args.n c.ranges.n in
+    let divisor_is : to_z w128 (of_z w128 c.args.m) ≡ c.args.m = to_z-of_z w128 c.args.m c.ranges.m in
+    let floor_is : to_z w128 (of_z w128 c.floor-down.result) ≡ c.floor-down.result = grind (arith, to_z-of_z) in
+    let next_is : to_z w128 (of_z w128 (to_z w128 (of_z w128 c.floor-down.result) +ℤ pos 1)) ≡ c.floor-down.result +ℤ pos 1 = grind (arith, to_z-of_z) in
+    let rest_positive : pos 0 <ℤ c.left_of-rest.result = omega (arith, ints, c.if-rest-eq0.false, c.left_of-rest.ensures.low) in
+    let rest_below : c.left_of-rest.result <ℤ c.args.m = subst (λ (k : ℤ). c.left_of-rest.result <ℤ k) divisor_is c.left_of-rest.ensures.high in
+    next_is ∙ ceil_next c.args.n c.args.m c.floor-down.result c.left_of-rest.result c.requires.positive
+    (taken_apart _ _ _ _ _ _ c.left_of-rest.result dividend_is floor_is divisor_is c.left_of-rest.ensures.value) rest_positive rest_below
 
 pub returns-else-rest-eq0-clause-bounds : goal.returns-else-rest-eq0-clause-bounds
 returns-else-rest-eq0-clause-bounds c = subst (λ (q : ℤ). IsCeil c.args.n (unsigned_abs c.args.m) q) (sym (returns-else-rest-eq0-clause-value c))

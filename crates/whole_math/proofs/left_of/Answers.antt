@@ -20,16 +20,16 @@ from_floor : (n p m k : ℤ) → k ≡ m → p ≤ℤ n → n <ℤ (p +ℤ k) �
 from_floor n p m k e l h = (omega (arith, lins), omega (arith, lins), omega (arith, lins))
 
 left : (n d m : ℤ) → FitsSigned w128 n → FitsSigned w128 d → FitsSigned w128 m → pos 0 <ℤ m → IsFloor n (unsigned_abs m) d →
-    let r : ℤ = to_z w128 ((of_z w128 n + (2 ^ 128 - of_z w128 d * of_z w128 m % 2 ^ 128)) % 2 ^ 128) in
-    (n ≡ (d *ℤ m) +ℤ r) × (pos 0 ≤ℤ r) × (r <ℤ m)
+    let rest : ℤ = to_z w128 ((of_z w128 n + (2 ^ 128 - of_z w128 d * of_z w128 m % 2 ^ 128)) % 2 ^ 128) in
+    (n ≡ (d *ℤ m) +ℤ rest) × (pos 0 ≤ℤ rest) × (rest <ℤ m)
 left n d m fn fd fm h b =
-    let e : pos (unsigned_abs m) ≡ m = pos_abs m (omega (arith, lins)) in
-    let f : d *ℤ pos (unsigned_abs m) ≡ d *ℤ m = ap (λ x. d *ℤ x) e in
-    let l : (d *ℤ m) ≤ℤ n = omega (arith, lins, b.0) in
-    let u : n <ℤ (d *ℤ m +ℤ pos (unsigned_abs m)) = omega (arith, lins, b.1) in
-    let k = from_floor n (d *ℤ m) m (pos (unsigned_abs m)) e l u in
-    let fr : FitsSigned w128 (n -ℤ (d *ℤ m)) = fits_between (n -ℤ (d *ℤ m)) m k.1 k.2 fm in
-    subst (λ (r : ℤ). (n ≡ (d *ℤ m) +ℤ r) × (pos 0 ≤ℤ r) × (r <ℤ m)) (sym (difference n d m fn fd fm fr)) k
+    let divisor_is_size : pos (unsigned_abs m) ≡ m = pos_abs m (omega (arith, lins)) in
+    let same_product : d *ℤ pos (unsigned_abs m) ≡ d *ℤ m = ap (λ x. d *ℤ x) divisor_is_size in
+    let product_at_most : (d *ℤ m) ≤ℤ n = omega (arith, lins, b.0) in
+    let below_next_product : n <ℤ (d *ℤ m +ℤ pos (unsigned_abs m)) = omega (arith, lins, b.1) in
+    let rest_within = from_floor n (d *ℤ m) m (pos (unsigned_abs m)) divisor_is_size product_at_most below_next_product in
+    let rest_fits : FitsSigned w128 (n -ℤ (d *ℤ m)) = fits_between (n -ℤ (d *ℤ m)) m rest_within.1 rest_within.2 fm in
+    subst (λ (r : ℤ). (n ≡ (d *ℤ m) +ℤ r) × (pos 0 ≤ℤ r) × (r <ℤ m)) (sym (difference n d m fn fd fm rest_fits)) rest_within
   where
     fits_between : (r m : ℤ) → pos 0 ≤ℤ r → r <ℤ m → FitsSigned w128 m → FitsSigned w128 r
     fits_between r m l h f = omega (arith, ints)

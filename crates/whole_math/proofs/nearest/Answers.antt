@@ -9,12 +9,12 @@ use Rattle.whole_math.proofs.nearest.Goals as goal
 
 pub returns-then-rest-m-clause-value : goal.returns-then-rest-m-clause-value
 returns-then-rest-m-clause-value c =
-    let n : to_z w128 (of_z w128 c.args.n) ≡ c.args.n = to_z-of_z w128 c.args.n c.ranges.n in
-    let m : to_z w128 (of_z w128 c.args.m) ≡ c.args.m = to_z-of_z w128 c.args.m c.ranges.m in
-    let d : to_z w128 (of_z w128 c.floor-down.result) ≡ c.floor-down.result = grind (arith, to_z-of_z) in
-    let r : c.left_of-rest.result <ℤ (c.args.m -ℤ c.left_of-rest.result) = omega (arith, ints, c.if-rest-m.true, c.left_of-rest.ensures.low, c.left_of-rest.ensures.high) in
-    d ∙ nearest_down c.args.n c.args.m c.floor-down.result c.left_of-rest.result c.requires.positive
-    (taken_apart _ _ _ _ _ _ c.left_of-rest.result n d m c.left_of-rest.ensures.value) c.left_of-rest.ensures.low r
+    let dividend_is : to_z w128 (of_z w128 c.args.n) ≡ c.args.n = to_z-of_z w128 c.args.n c.ranges.n in
+    let divisor_is : to_z w128 (of_z w128 c.args.m) ≡ c.args.m = to_z-of_z w128 c.args.m c.ranges.m in
+    let floor_is : to_z w128 (of_z w128 c.floor-down.result) ≡ c.floor-down.result = grind (arith, to_z-of_z) in
+    let rest_lower_half : c.left_of-rest.result <ℤ (c.args.m -ℤ c.left_of-rest.result) = omega (arith, ints, c.if-rest-m.true, c.left_of-rest.ensures.low, c.left_of-rest.ensures.high) in
+    floor_is ∙ nearest_down c.args.n c.args.m c.floor-down.result c.left_of-rest.result c.requires.positive
+    (taken_apart _ _ _ _ _ _ c.left_of-rest.result dividend_is floor_is divisor_is c.left_of-rest.ensures.value) c.left_of-rest.ensures.low rest_lower_half
 
 pub returns-then-rest-m-clause-bounds : goal.returns-then-rest-m-clause-bounds
 returns-then-rest-m-clause-bounds c = subst (λ (q : ℤ). IsNearest c.args.n (unsigned_abs c.args.m) q) (sym (returns-then-rest-m-clause-value c))
@@ -22,14 +22,14 @@ returns-then-rest-m-clause-bounds c = subst (λ (q : ℤ). IsNearest c.args.n (u
 
 pub returns-else-rest-m-clause-value : goal.returns-else-rest-m-clause-value
 returns-else-rest-m-clause-value c =
-    let n : to_z w128 (of_z w128 c.args.n) ≡ c.args.n = to_z-of_z w128 c.args.n c.ranges.n in
-    let m : to_z w128 (of_z w128 c.args.m) ≡ c.args.m = to_z-of_z w128 c.args.m c.ranges.m in
-    let d : to_z w128 (of_z w128 c.floor-down.result) ≡ c.floor-down.result = grind (arith, to_z-of_z) in
-    let q : to_z w128 (of_z w128 (to_z w128 (of_z w128 c.floor-down.result) +ℤ pos 1)) ≡ c.floor-down.result +ℤ pos 1 = grind (arith, to_z-of_z) in
-    let r : (c.args.m -ℤ c.left_of-rest.result) ≤ℤ c.left_of-rest.result = omega (arith, ints, c.if-rest-m.false, c.left_of-rest.ensures.low, c.left_of-rest.ensures.high) in
-    let l : c.left_of-rest.result <ℤ c.args.m = subst (λ (k : ℤ). c.left_of-rest.result <ℤ k) m c.left_of-rest.ensures.high in
-    q ∙ nearest_up c.args.n c.args.m c.floor-down.result c.left_of-rest.result c.requires.positive
-    (taken_apart _ _ _ _ _ _ c.left_of-rest.result n d m c.left_of-rest.ensures.value) l r
+    let dividend_is : to_z w128 (of_z w128 c.args.n) ≡ c.args.n = to_z-of_z w128 c.args.n c.ranges.n in
+    let divisor_is : to_z w128 (of_z w128 c.args.m) ≡ c.args.m = to_z-of_z w128 c.args.m c.ranges.m in
+    let floor_is : to_z w128 (of_z w128 c.floor-down.result) ≡ c.floor-down.result = grind (arith, to_z-of_z) in
+    let next_is : to_z w128 (of_z w128 (to_z w128 (of_z w128 c.floor-down.result) +ℤ pos 1)) ≡ c.floor-down.result +ℤ pos 1 = grind (arith, to_z-of_z) in
+    let rest_upper_half : (c.args.m -ℤ c.left_of-rest.result) ≤ℤ c.left_of-rest.result = omega (arith, ints, c.if-rest-m.false, c.left_of-rest.ensures.low, c.left_of-rest.ensures.high) in
+    let rest_below : c.left_of-rest.result <ℤ c.args.m = subst (λ (k : ℤ). c.left_of-rest.result <ℤ k) divisor_is c.left_of-rest.ensures.high in
+    next_is ∙ nearest_up c.args.n c.args.m c.floor-down.result c.left_of-rest.result c.requires.positive
+    (taken_apart _ _ _ _ _ _ c.left_of-rest.result dividend_is floor_is divisor_is c.left_of-rest.ensures.value) rest_below rest_upper_half
 
 pub returns-else-rest-m-clause-bounds : goal.returns-else-rest-m-clause-bounds
 returns-else-rest-m-clause-bounds c = subst (λ (q : ℤ). IsNearest c.args.n (unsigned_abs c.args.m) q) (sym (returns-else-rest-m-clause-value c))

@@ -7,5 +7,5 @@ use Rattle.whole_math.proofs.remainder.Goals as goal
 
 pub returns-clause-value : goal.returns-clause-value
 returns-clause-value c =
-    let e : to_z w128 (of_z w128 c.rem_euclid.result) ≡ int_rem_euclid c.args.n c.args.m = grind (arith, to_z-of_z) in
-    remainder_is c.args.n c.args.m c.requires.positive ∙ ap (λ x. (floor_div c.args.n (unsigned_abs c.args.m) *ℤ c.args.m) +ℤ x) (sym e)
+    let same_remainder : to_z w128 (of_z w128 c.rem_euclid.result) ≡ int_rem_euclid c.args.n c.args.m = grind (arith, to_z-of_z) in
+    remainder_is c.args.n c.args.m c.requires.positive ∙ ap (λ x. (floor_div c.args.n (unsigned_abs c.args.m) *ℤ c.args.m) +ℤ x) (sym same_remainder)

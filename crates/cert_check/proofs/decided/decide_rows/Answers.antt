@@ -29,6 +29,6 @@ returns-in-Err-clause-decision c = inl (record {
 
 pub returns-in-Err-clause-fits : goal.returns-in-Err-clause-fits
 returns-in-Err-clause-fits c =
-    let s : Session = c.args.session.now in
-    subst (λ (t : Tail). IsTailOf (fine_signals s.signals) s.arcs c.args.budget t) (sym c.tail_of.ensures)
-    (fault_fits s (fine_signals s.signals) c.args.budget c.in-Err.fault c.in-Err.ensures.refused)
+    let session : Session = c.args.session.now in
+    subst (λ (t : Tail). IsTailOf (fine_signals session.signals) session.arcs c.args.budget t) (sym c.tail_of.ensures)
+    (fault_fits session (fine_signals session.signals) c.args.budget c.in-Err.fault c.in-Err.ensures.refused)

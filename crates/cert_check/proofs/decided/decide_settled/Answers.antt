@@ -33,41 +33,41 @@ found_of s f budget d b same moved narrow two kept upper bounded = record {
 
 pub returns-in-Ok-decide-clause-decision : goal.returns-in-Ok-decide-clause-decision
 returns-in-Ok-decide-clause-decision c =
-    let s = c.args.session.now in
-    let f = c.args.form.now in
-    let d = c.in-Ok-decide.decision in
-    let b = c.in-Ok.best in
-    let same : d.best ≡ b = c.in-Ok-decide.ensures.best in
-    let narrow : HasWide (move_of f (first_of b)) → ⊥ = c.in-Ok-decide.ensures.float.1 in
-    let found : AreFound s f c.args.budget f.h d.moved d.best d.top =
-    found_of s f c.args.budget d b same c.in-Ok-decide.ensures.moved narrow c.in-Ok.ensures.found c.in-Ok.ensures.visits
+    let session = c.args.session.now in
+    let form = c.args.form.now in
+    let decision = c.in-Ok-decide.decision in
+    let best = c.in-Ok.best in
+    let same : decision.best ≡ best = c.in-Ok-decide.ensures.best in
+    let narrow : HasWide (move_of form (first_of best)) → ⊥ = c.in-Ok-decide.ensures.float.1 in
+    let found : AreFound session form c.args.budget form.h decision.moved decision.best decision.top =
+    found_of session form c.args.budget decision best same c.in-Ok-decide.ensures.moved narrow c.in-Ok.ensures.found c.in-Ok.ensures.visits
     c.in-Ok-decide.ensures.top (λ w. c.in-Ok-decide.ensures.sum.1 (narrow, w)) in
-    let word : to_z w128 (of_z w128 d.top) ≡ d.top = top_word d.top c.in-Ok-decide.ensures.top_from c.in-Ok-decide.ensures.top_to in
-    told_decision s f c.args.ratio c.args.budget f.h d.moved d.best d.top d.fixed c.of_vectors.result
-    (subst (λ (t : ℤ). c.of_vectors.result ≡ tail_of_vectors d.fixed f.h d.moved d.best t) word c.of_vectors.ensures.value) found
-    (λ h. subst (λ (x : TwoBest). IsSeparated (pos c.args.ratio) d.top x.p2) (sym same) (c.in-Ok-decide.ensures.fixed.0 h))
-    (λ h. c.in-Ok-decide.ensures.fixed.1 (subst (λ (x : TwoBest). IsSeparated (pos c.args.ratio) d.top x.p2) same h))
+    let word : to_z w128 (of_z w128 decision.top) ≡ decision.top = top_word decision.top c.in-Ok-decide.ensures.top_from c.in-Ok-decide.ensures.top_to in
+    told_decision session form c.args.ratio c.args.budget form.h decision.moved decision.best decision.top decision.fixed c.of_vectors.result
+    (subst (λ (t : ℤ). c.of_vectors.result ≡ tail_of_vectors decision.fixed form.h decision.moved decision.best t) word c.of_vectors.ensures.value) found
+    (λ h. subst (λ (x : TwoBest). IsSeparated (pos c.args.ratio) decision.top x.p2) (sym same) (c.in-Ok-decide.ensures.fixed.0 h))
+    (λ h. c.in-Ok-decide.ensures.fixed.1 (subst (λ (x : TwoBest). IsSeparated (pos c.args.ratio) decision.top x.p2) same h))
 
 pub returns-in-Ok-decide-clause-strictly_best : goal.returns-in-Ok-decide-clause-strictly_best
 returns-in-Ok-decide-clause-strictly_best c =
-    let d = c.in-Ok-decide.decision in
-    told_best c.args.session.now c.args.form.now.h d.moved d.best c.in-Ok.best (to_z w128 (of_z w128 d.top)) d.fixed c.of_vectors.result
+    let decision = c.in-Ok-decide.decision in
+    told_best c.args.session.now c.args.form.now.h decision.moved decision.best c.in-Ok.best (to_z w128 (of_z w128 decision.top)) decision.fixed c.of_vectors.result
     c.of_vectors.ensures.value c.in-Ok-decide.ensures.best c.in-Ok-decide.ensures.strictly_best
 
 pub returns-in-Ok-decide-clause-fits : goal.returns-in-Ok-decide-clause-fits
 returns-in-Ok-decide-clause-fits c =
-    let s = c.args.session.now in
-    let f = c.args.form.now in
-    let d = c.in-Ok-decide.decision in
-    let b = c.in-Ok.best in
-    let narrow : HasWide (move_of f (first_of b)) → ⊥ = c.in-Ok-decide.ensures.float.1 in
-    let found : AreFound s f c.args.budget f.h d.moved d.best d.top =
-    found_of s f c.args.budget d b c.in-Ok-decide.ensures.best c.in-Ok-decide.ensures.moved narrow c.in-Ok.ensures.found c.in-Ok.ensures.visits
+    let session = c.args.session.now in
+    let form = c.args.form.now in
+    let decision = c.in-Ok-decide.decision in
+    let best = c.in-Ok.best in
+    let narrow : HasWide (move_of form (first_of best)) → ⊥ = c.in-Ok-decide.ensures.float.1 in
+    let found : AreFound session form c.args.budget form.h decision.moved decision.best decision.top =
+    found_of session form c.args.budget decision best c.in-Ok-decide.ensures.best c.in-Ok-decide.ensures.moved narrow c.in-Ok.ensures.found c.in-Ok.ensures.visits
     c.in-Ok-decide.ensures.top (λ w. c.in-Ok-decide.ensures.sum.1 (narrow, w)) in
-    let word : to_z w128 (of_z w128 d.top) ≡ d.top = top_word d.top c.in-Ok-decide.ensures.top_from c.in-Ok-decide.ensures.top_to in
-    c.of_vectors.ensures.fits (fine_signals s.signals) s.arcs c.args.budget
-    (subst (λ (t : ℤ). AreVectors (fine_signals s.signals) s.arcs f.h d.moved d.best t) (sym word)
-    (vectors_fit s f c.args.budget f.h d.moved d.best d.top c.requires.form c.requires.fine found c.values_from.ensures c.in-Ok-decide.ensures.top_from c.in-Ok-decide.ensures.top_to))
+    let word : to_z w128 (of_z w128 decision.top) ≡ decision.top = top_word decision.top c.in-Ok-decide.ensures.top_from c.in-Ok-decide.ensures.top_to in
+    c.of_vectors.ensures.fits (fine_signals session.signals) session.arcs c.args.budget
+    (subst (λ (t : ℤ). AreVectors (fine_signals session.signals) session.arcs form.h decision.moved decision.best t) (sym word)
+    (vectors_fit session form c.args.budget form.h decision.moved decision.best decision.top c.requires.form c.requires.fine found c.values_from.ensures c.in-Ok-decide.ensures.top_from c.in-Ok-decide.ensures.top_to))
 
 pub returns-in-Err-clause-decision : goal.returns-in-Err-clause-decision
 returns-in-Err-clause-decision c = refused_decision c.args.session.now c.args.form.now c.args.budget c.in-Ok.best c.in-Err.fault.place c.in-Ok.ensures.found c.in-Ok.ensures.visits

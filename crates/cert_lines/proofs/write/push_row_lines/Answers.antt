@@ -11,17 +11,17 @@ use Rattle.cert_lines.proofs.write.push_row_lines.Goals as goal
 
 pub loop-row-preserved : goal.loop-row-preserved
 loop-row-preserved c =
-    let ss = fine_signals c.args.signals in
+    let signals = fine_signals c.args.signals in
     let out = c.loop-row.out.items in
     let rows = c.args.rows.now in
     let i = c.loop-row.row-index in
-    let r = c.row-item.result in
+    let row = c.row-item.result in
     let later = drop (i + 1) rows in
-    let split = drop_more rows i r c.loop-row-test.true ∙ ap (λ (q : Row). q ∷ later) (sym c.row-item.is) in
-    let so_far = ap (λ (rs : List Row). out ++ text_of_lines (row_lines ss rs)) (sym split) ∙ c.loop-row.invariant.text in
+    let split = drop_more rows i row c.loop-row-test.true ∙ ap (λ (q : Row). q ∷ later) (sym c.row-item.is) in
+    let so_far = ap (λ (rs : List Row). out ++ text_of_lines (row_lines signals rs)) (sym split) ∙ c.loop-row.invariant.text in
     record {
-      text = line_pushed out c.push_row_line.new.out.items _ (row_line ss r) (row_lines ss later) c.in_ok-push_row_line.ensures.text so_far;
-      whole = All-more IsWholeRow rows i r c.loop-row-test.true c.loop-row.invariant.whole (subst IsWholeRow c.row-item.is c.in_ok-push_row_line.ensures.whole);
+      text = line_pushed out c.push_row_line.new.out.items _ (row_line signals row) (row_lines signals later) c.in_ok-push_row_line.ensures.text so_far;
+      whole = All-more IsWholeRow rows i row c.loop-row-test.true c.loop-row.invariant.whole (subst IsWholeRow c.row-item.is c.in_ok-push_row_line.ensures.whole);
     }
 
 pub returns-clause-whole : goal.returns-clause-whole

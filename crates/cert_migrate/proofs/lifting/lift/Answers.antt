@@ -17,9 +17,9 @@ returns-clause-best c = best_where_fixed c.args.old.now.session c.in_ok-session.
 pub returns-clause-by_ratio : goal.returns-clause-by_ratio
 returns-clause-by_ratio c =
     let old = c.args.old.now in
-    let s = c.in_ok-session.session in
-    ratio_where_fixed old.session s old.ratio c.decide_rows-tail.result c.in_ok-session.ensures
-    (decided_by_ratio s old.ratio old.budget c.decide_rows-tail.result c.in_ok-session.ensures.scale c.decide_rows-tail.ensures.decision)
+    let session = c.in_ok-session.session in
+    ratio_where_fixed old.session session old.ratio c.decide_rows-tail.result c.in_ok-session.ensures
+    (decided_by_ratio session old.ratio old.budget c.decide_rows-tail.result c.in_ok-session.ensures.scale c.decide_rows-tail.ensures.decision)
 
 pub returns-clause-only : goal.returns-clause-only
 returns-clause-only c = λ t other. one_decision c.in_ok-session.session c.args.old.now.ratio c.args.old.now.budget t c.decide_rows-tail.result other c.decide_rows-tail.ensures.decision

@@ -17,21 +17,21 @@ old_pairs-requires c = subst (λ (ps : List PairRows). All (λ p. unsigned_abs p
 
 pub invariant_of-signals : goal.invariant_of-signals
 invariant_of-signals c =
-    let s : Session = c.args.cert.now.session in
-    record { on_l1 = s.signals.on_l1; on_l2 = second_letter s.signals.l2 s.signals.l5 (c.requires.bands refl) s.signals.on_l2 s.signals.two_bands }
+    let session : Session = c.args.cert.now.session in
+    record { on_l1 = session.signals.on_l1; on_l2 = second_letter session.signals.l2 session.signals.l5 (c.requires.bands refl) session.signals.on_l2 session.signals.two_bands }
 
 pub invariant_of-result : goal.invariant_of-result
 invariant_of-result c =
-    let s : Session = c.args.cert.now.session in
-    let arcs : c.new.result ≡ map old_arc s.arcs = c.new.ensures ∙ c.in_ok-arcs.ensures ∙ ap (λ (l : List Arc). map old_arc l) c.as_slice.ensures in
-    let zip : AllZip IsPairOf s.pairs c.new-2.result =
-    subst (λ (os : List OldPair). AllZip IsPairOf s.pairs os) (sym c.new-2.ensures)
+    let session : Session = c.args.cert.now.session in
+    let arcs : c.new.result ≡ map old_arc session.arcs = c.new.ensures ∙ c.in_ok-arcs.ensures ∙ ap (λ (l : List Arc). map old_arc l) c.as_slice.ensures in
+    let zip : AllZip IsPairOf session.pairs c.new-2.result =
+    subst (λ (os : List OldPair). AllZip IsPairOf session.pairs os) (sym c.new-2.ensures)
     (subst (λ (ps : List PairRows). AllZip IsPairOf ps c.in_ok-pairs.pairs.items) c.as_slice-2.ensures c.in_ok-pairs.ensures) in
     record {
       fine = refl;
-      base_in = s.base_in;
-      point_in = s.point_in;
-      arcs_in = subst AreOldArcs (sym arcs) (arcs_moved s.arcs s.arcs_in c.requires.sats);
-      some_pairs = subst (λ (n : ℕ). 1 ≤ n) (sym (AllZip-long IsPairOf s.pairs c.new-2.result zip)) s.some_pairs;
-      pairs_in = subst (λ (l : List OldArc). AreOldPairs l c.new-2.result) (sym arcs) (pairs_moved s.arcs s.pairs c.new-2.result zip s.pairs_in);
+      base_in = session.base_in;
+      point_in = session.point_in;
+      arcs_in = subst AreOldArcs (sym arcs) (arcs_moved session.arcs session.arcs_in c.requires.sats);
+      some_pairs = subst (λ (n : ℕ). 1 ≤ n) (sym (AllZip-long IsPairOf session.pairs c.new-2.result zip)) session.some_pairs;
+      pairs_in = subst (λ (l : List OldArc). AreOldPairs l c.new-2.result) (sym arcs) (pairs_moved session.arcs session.pairs c.new-2.result zip session.pairs_in);
     }

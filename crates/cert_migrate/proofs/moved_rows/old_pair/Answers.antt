@@ -11,14 +11,14 @@ use Rattle.cert_migrate.proofs.moved_rows.old_pair.Goals as goal
 
 pub invariant_of-result : goal.invariant_of-result
 invariant_of-result c =
-    let p : PairRows = c.args.pair.now in
-    let zip : AllZip IsRowOf p.rows c.new.result =
-    subst (λ (os : List OldRow). AllZip IsRowOf p.rows os) (sym c.new.ensures) (subst (λ (rs : List Row). AllZip IsRowOf rs c.in_ok-rows.rows.items) c.as_slice.ensures c.in_ok-rows.ensures) in
+    let pair : PairRows = c.args.pair.now in
+    let zip : AllZip IsRowOf pair.rows c.new.result =
+    subst (λ (os : List OldRow). AllZip IsRowOf pair.rows os) (sym c.new.ensures) (subst (λ (rs : List Row). AllZip IsRowOf rs c.in_ok-rows.rows.items) c.as_slice.ensures c.in_ok-rows.ensures) in
     record {
-      number_in = p.number_in;
-      tag_in = p.tag_in;
-      group_in = group_kept p.group c.requires;
-      some_rows = subst (λ (n : ℕ). 1 ≤ n) (sym (AllZip-long IsRowOf p.rows c.new.result zip)) p.some_rows;
-      few_rows = subst (λ (n : ℕ). n ≤ 15) (sym (AllZip-long IsRowOf p.rows c.new.result zip)) p.few_rows;
-      arcs_rise = rows_rise_moved p.rows c.new.result zip p.arcs_rise;
+      number_in = pair.number_in;
+      tag_in = pair.tag_in;
+      group_in = group_kept pair.group c.requires;
+      some_rows = subst (λ (n : ℕ). 1 ≤ n) (sym (AllZip-long IsRowOf pair.rows c.new.result zip)) pair.some_rows;
+      few_rows = subst (λ (n : ℕ). n ≤ 15) (sym (AllZip-long IsRowOf pair.rows c.new.result zip)) pair.few_rows;
+      arcs_rise = rows_rise_moved pair.rows c.new.result zip pair.arcs_rise;
     }

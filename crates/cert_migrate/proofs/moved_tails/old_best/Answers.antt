@@ -6,9 +6,9 @@ use Rattle.cert_migrate.proofs.moved_tails.old_best.Goals as goal
 
 pub invariant_of-result : goal.invariant_of-result
 invariant_of-result c =
-    let b : TwoBest = c.args.best.now in
+    let best : TwoBest = c.args.best.now in
     record {
       size_to = c.requires;
-      first_rest = subst (IsZeroFrom b.size) (sym c.first_entries.ensures) (front_zero 40 b.size b.first b.first_rest);
-      second_rest = subst (IsZeroFrom b.size) (sym c.first_entries-2.ensures) (front_zero 40 b.size b.second b.second_rest);
+      first_rest = subst (IsZeroFrom best.size) (sym c.first_entries.ensures) (front_zero 40 best.size best.first best.first_rest);
+      second_rest = subst (IsZeroFrom best.size) (sym c.first_entries-2.ensures) (front_zero 40 best.size best.second best.second_rest);
     }

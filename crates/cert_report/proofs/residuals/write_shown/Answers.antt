@@ -7,12 +7,12 @@ use Rattle.cert_report.proofs.residuals.write_shown.Goals as goal
 
 pub write_session-requires : goal.write_session-requires
 write_session-requires c =
-    let b = c.args.best.now in
-    let room : b.size ≤ length b.first = search rules in
+    let best = c.args.best.now in
+    let room : best.size ≤ length best.first = search rules in
     record {
       free = c.args.session.now.arcs_in.few_free;
       counted = counted_are c.args.session.now.signals 0;
-      entries = length-take-le b.size b.first room ∙ c.requires.size;
-      z_size = first_small b.size b.first c.requires.small;
+      entries = length-take-le best.size best.first room ∙ c.requires.size;
+      z_size = first_small best.size best.first c.requires.small;
       m_size = at_most _ c.args.moved.now c.requires.moved;
     }

@@ -9,14 +9,14 @@ use Rattle.cert_spelling.proofs.parts.push_all_pair_lines.Goals as goal
 
 pub loop-pair-preserved : goal.loop-pair-preserved
 loop-pair-preserved c =
-    let ss = fine_signals c.args.signals in
+    let signals = fine_signals c.args.signals in
     let pairs = c.args.pairs.now in
     let i = c.loop-pair.pair-index in
-    let p = c.pair-item.result in
+    let pair = c.pair-item.result in
     let inside = c.loop-pair-test.true in
     record {
-      text = pair_pushed ss c.loop-pair.out.items c.push_pair_lines.new.out.items _ pairs i p inside c.pair-item.is c.in_ok-push_pair_lines.ensures.text c.loop-pair.invariant.text;
-      whole = All-more IsWholePair pairs i p inside c.loop-pair.invariant.whole (subst IsWholePair c.pair-item.is c.in_ok-push_pair_lines.ensures.whole);
+      text = pair_pushed signals c.loop-pair.out.items c.push_pair_lines.new.out.items _ pairs i pair inside c.pair-item.is c.in_ok-push_pair_lines.ensures.text c.loop-pair.invariant.text;
+      whole = All-more IsWholePair pairs i pair inside c.loop-pair.invariant.whole (subst IsWholePair c.pair-item.is c.in_ok-push_pair_lines.ensures.whole);
     }
 
 pub returns-clause-whole : goal.returns-clause-whole

@@ -7,16 +7,16 @@ use Rattle.cert_spelling.proofs.parts.push_head.Goals as goal
 
 pub returns-clause-text : goal.returns-clause-text
 returns-clause-text c =
-    let o = c.args.out.now.items in
+    let before = c.args.out.now.items in
     let form = form_line Two in
     let ratio = count_line (codes "ratio") c.args.ratio in
     let budget = count_line (codes "budget") c.args.budget in
     let system = system_line c.args.system in
     let base = vector_line (codes "base") c.args.base.now in
     let point = vector_line (codes "point") c.args.point.now in
-    let two = then_lines o _ _ (form ∷ []) (ratio ∷ []) c.in_ok-push_form.ensures c.in_ok-push_count_line.ensures in
-    let three = then_lines o _ _ (form ∷ ratio ∷ []) (budget ∷ []) two c.in_ok-push_count_line-2.ensures in
-    let four = then_lines o _ _ (form ∷ ratio ∷ budget ∷ []) (system ∷ []) three c.in_ok-push_system_line.ensures in
-    let five = then_lines o _ _ (form ∷ ratio ∷ budget ∷ system ∷ []) (base ∷ []) four c.in_ok-push_vector_line.ensures in
-    let six = then_lines o _ _ (form ∷ ratio ∷ budget ∷ system ∷ base ∷ []) (point ∷ []) five c.in_ok-push_vector_line-2.ensures in
-    then_written o _ _ (form ∷ ratio ∷ budget ∷ system ∷ base ∷ point ∷ []) (signals_line Two c.args.signals.l1 c.args.signals.l2 c.args.signals.l5 ∷ []) _ six c.push_signals_line.ensures
+    let two = then_lines before _ _ (form ∷ []) (ratio ∷ []) c.in_ok-push_form.ensures c.in_ok-push_count_line.ensures in
+    let three = then_lines before _ _ (form ∷ ratio ∷ []) (budget ∷ []) two c.in_ok-push_count_line-2.ensures in
+    let four = then_lines before _ _ (form ∷ ratio ∷ budget ∷ []) (system ∷ []) three c.in_ok-push_system_line.ensures in
+    let five = then_lines before _ _ (form ∷ ratio ∷ budget ∷ system ∷ []) (base ∷ []) four c.in_ok-push_vector_line.ensures in
+    let six = then_lines before _ _ (form ∷ ratio ∷ budget ∷ system ∷ base ∷ []) (point ∷ []) five c.in_ok-push_vector_line-2.ensures in
+    then_written before _ _ (form ∷ ratio ∷ budget ∷ system ∷ base ∷ point ∷ []) (signals_line Two c.args.signals.l1 c.args.signals.l2 c.args.signals.l5 ∷ []) _ six c.push_signals_line.ensures

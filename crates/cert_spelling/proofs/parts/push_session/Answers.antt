@@ -9,17 +9,17 @@ use Rattle.cert_spelling.proofs.parts.push_session.Goals as goal
 
 pub returns-clause-text : goal.returns-clause-text
 returns-clause-text c =
-    let s = c.args.session.now in
-    let ss = fine_signals s.signals in
+    let session = c.args.session.now in
+    let signals = fine_signals session.signals in
     let arcs = rw c.as_slice.ensures at c.in_ok-push_arcs.ensures.text in
     let pairs = rw c.as_slice-2.ensures at c.push_pairs.ensures.text in
-    let behind = then_written c.push_head.new.out.items _ _ (counted_arcs ss s.arcs) (counted_pairs ss s.pairs) _ arcs pairs in
-    let head = head_lines Two c.args.ratio c.args.budget s.system s.base s.point s.signals in
-    then_written c.args.out.now.items _ _ head (counted_arcs ss s.arcs ++ counted_pairs ss s.pairs) _ c.in_ok-push_head.ensures.text behind
+    let behind = then_written c.push_head.new.out.items _ _ (counted_arcs signals session.arcs) (counted_pairs signals session.pairs) _ arcs pairs in
+    let head = head_lines Two c.args.ratio c.args.budget session.system session.base session.point session.signals in
+    then_written c.args.out.now.items _ _ head (counted_arcs signals session.arcs ++ counted_pairs signals session.pairs) _ c.in_ok-push_head.ensures.text behind
 
 pub returns-clause-whole : goal.returns-clause-whole
 returns-clause-whole c =
-    let s = c.args.session.now in
+    let session = c.args.session.now in
     let arcs = rw c.as_slice.ensures at c.in_ok-push_arcs.ensures.whole in
     let pairs = rw c.as_slice-2.ensures at c.push_pairs.ensures.whole in
     let head = c.in_ok-push_head.ensures in

@@ -8,21 +8,21 @@ use Rattle.cert_text.proofs.pairs.read_pairs.Goals as goal
 
 pub returns-in_err-count-clause-reads : goal.returns-in_err-count-clause-reads
 returns-in_err-count-clause-reads c = λ budget.
-    let p = err_from_is_err_and c.from_residual.result c.from_residual.ensures.1 in
-    let s = c.args.session in
-    let f = frame c.args.version budget (fine_signals s.signals) in
-    rw (p.1, p.2) (c.in_err-count.ensures.reads (PairCount f s.arcs) (λ n. before_pairs f s.arcs n 0) (pair_count_taken f s.arcs))
+    let refusal = err_from_is_err_and c.from_residual.result c.from_residual.ensures.1 in
+    let session = c.args.session in
+    let its_frame = frame c.args.version budget (fine_signals session.signals) in
+    rw (refusal.1, refusal.2) (c.in_err-count.ensures.reads (PairCount its_frame session.arcs) (λ n. before_pairs its_frame session.arcs n 0) (pair_count_taken its_frame session.arcs))
 
 pub returns-in_err-whole-clause-reads : goal.returns-in_err-whole-clause-reads
 returns-in_err-whole-clause-reads c = λ budget.
-    let p = err_from_is_err_and c.from_residual-in_err-whole.result c.from_residual-in_err-whole.ensures.1 in
-    let s = c.args.session in
-    let f = frame c.args.version budget (fine_signals s.signals) in
-    let count = c.in_ok-count.ensures.reads (PairCount f s.arcs) (λ n. before_pairs f s.arcs n 0) (pair_count_taken f s.arcs) in
-    rw (p.1, p.2) (handed_on _ _ c.in_err-whole.field-0.0 count (c.in_err-whole.ensures.reads budget))
+    let refusal = err_from_is_err_and c.from_residual-in_err-whole.result c.from_residual-in_err-whole.ensures.1 in
+    let session = c.args.session in
+    let its_frame = frame c.args.version budget (fine_signals session.signals) in
+    let count = c.in_ok-count.ensures.reads (PairCount its_frame session.arcs) (λ n. before_pairs its_frame session.arcs n 0) (pair_count_taken its_frame session.arcs) in
+    rw (refusal.1, refusal.2) (handed_on _ _ c.in_err-whole.field-0.0 count (c.in_err-whole.ensures.reads budget))
 
 pub returns-clause-reads : goal.returns-clause-reads
 returns-clause-reads c = λ budget.
-    let s = c.args.session in
-    let f = frame c.args.version budget (fine_signals s.signals) in
-    c.in_ok-count.ensures.reads (PairCount f s.arcs) (λ n. before_pairs f s.arcs n 0) (pair_count_taken f s.arcs) ∙ c.in_ok-whole.ensures.reads budget
+    let session = c.args.session in
+    let its_frame = frame c.args.version budget (fine_signals session.signals) in
+    c.in_ok-count.ensures.reads (PairCount its_frame session.arcs) (λ n. before_pairs its_frame session.arcs n 0) (pair_count_taken its_frame session.arcs) ∙ c.in_ok-whole.ensures.reads budget

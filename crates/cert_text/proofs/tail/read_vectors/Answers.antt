@@ -10,45 +10,45 @@ use Rattle.cert_text.proofs.tail.read_vectors.Goals as goal
 
 pub returns-in_err-second-clause-reads : goal.returns-in_err-second-clause-reads
 returns-in_err-second-clause-reads c =
-    let n = c.args.count in
-    let p = err_from_is_err_and c.from_residual.result c.from_residual.ensures.1 in
-    rw (p.1, p.2) (c.in_err-second.ensures.reads (Second n) (λ z. Move) (second_taken n))
+    let count = c.args.count in
+    let refusal = err_from_is_err_and c.from_residual.result c.from_residual.ensures.1 in
+    rw (refusal.1, refusal.2) (c.in_err-second.ensures.reads (Second count) (λ z. Move) (second_taken count))
 
 pub returns-in_err-moved-clause-reads : goal.returns-in_err-moved-clause-reads
 returns-in_err-moved-clause-reads c =
-    let n = c.args.count in
-    let p = err_from_is_err_and c.from_residual-in_err-moved.result c.from_residual-in_err-moved.ensures.1 in
-    rw (p.1, p.2) (c.in_ok-second.ensures.reads (Second n) (λ z. Move) (second_taken n)
+    let count = c.args.count in
+    let refusal = err_from_is_err_and c.from_residual-in_err-moved.result c.from_residual-in_err-moved.ensures.1 in
+    rw (refusal.1, refusal.2) (c.in_ok-second.ensures.reads (Second count) (λ z. Move) (second_taken count)
     ∙ c.in_err-moved.ensures.reads Move (λ m. Values) move_taken)
 
 pub returns-in_err-values-clause-reads : goal.returns-in_err-values-clause-reads
 returns-in_err-values-clause-reads c =
-    let n = c.args.count in
-    let p = err_from_is_err_and c.from_residual-in_err-values.result c.from_residual-in_err-values.ensures.1 in
-    rw (p.1, p.2) (c.in_ok-second.ensures.reads (Second n) (λ z. Move) (second_taken n)
+    let count = c.args.count in
+    let refusal = err_from_is_err_and c.from_residual-in_err-values.result c.from_residual-in_err-values.ensures.1 in
+    rw (refusal.1, refusal.2) (c.in_ok-second.ensures.reads (Second count) (λ z. Move) (second_taken count)
     ∙ c.in_ok-moved.ensures.reads Move (λ m. Values) move_taken
     ∙ c.in_err-values.ensures.reads Values (λ v. Last) values_taken)
 
 pub returns-in_err-fixed-clause-reads : goal.returns-in_err-fixed-clause-reads
 returns-in_err-fixed-clause-reads c =
-    let n = c.args.count in
-    let p = err_from_is_err_and c.from_residual-in_err-fixed.result c.from_residual-in_err-fixed.ensures.1 in
-    rw (p.1, p.2) (c.in_ok-second.ensures.reads (Second n) (λ z. Move) (second_taken n)
+    let count = c.args.count in
+    let refusal = err_from_is_err_and c.from_residual-in_err-fixed.result c.from_residual-in_err-fixed.ensures.1 in
+    rw (refusal.1, refusal.2) (c.in_ok-second.ensures.reads (Second count) (λ z. Move) (second_taken count)
     ∙ c.in_ok-moved.ensures.reads Move (λ m. Values) move_taken
     ∙ c.in_ok-values.ensures.reads Values (λ v. Last) values_taken
     ∙ c.in_err-fixed.ensures.reads Last (λ f. End) last_taken)
 
 pub returns-clause-reads : goal.returns-clause-reads
 returns-clause-reads c =
-    let n = c.args.count in
-    c.in_ok-second.ensures.reads (Second n) (λ z. Move) (second_taken n)
+    let count = c.args.count in
+    c.in_ok-second.ensures.reads (Second count) (λ z. Move) (second_taken count)
     ∙ c.in_ok-moved.ensures.reads Move (λ m. Values) move_taken
     ∙ c.in_ok-values.ensures.reads Values (λ v. Last) values_taken
     ∙ c.in_ok-fixed.ensures.reads Last (λ f. End) last_taken
 
 pub returns-clause-fits : goal.returns-clause-fits
 returns-clause-fits c = λ ss arcs budget is.
-    let v = c.in_ok-values.values in
+    let read_values = c.in_ok-values.values in
     let moved : IsMove c.in_ok-moved.moved = search rules in
     c.of_vectors.ensures.fits ss arcs budget (record {
       moved_in = moved;
@@ -57,9 +57,9 @@ returns-clause-fits c = λ ss arcs budget is.
         size = is;
         first_in = c.requires.small;
         second_in = c.in_ok-second.ensures.small;
-        p1_in = rw (word126 v.p1 c.in_ok-values.ensures.p1) c.in_ok-values.ensures.p1;
-        p2_in = rw (word126 v.p2 c.in_ok-values.ensures.p2) c.in_ok-values.ensures.p2;
-        top_in = rw (word126 v.top c.in_ok-values.ensures.top) c.in_ok-values.ensures.top;
+        p1_in = rw (word126 read_values.p1 c.in_ok-values.ensures.p1) c.in_ok-values.ensures.p1;
+        p2_in = rw (word126 read_values.p2 c.in_ok-values.ensures.p2) c.in_ok-values.ensures.p2;
+        top_in = rw (word126 read_values.top c.in_ok-values.ensures.top) c.in_ok-values.ensures.top;
       };
     })
 

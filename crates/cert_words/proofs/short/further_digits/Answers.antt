@@ -10,16 +10,16 @@ pub loop-k-preserved : goal.loop-k-preserved
 loop-k-preserved g c =
     let text = c.args.text.now in
     let k = c.loop-k.k in
-    let n = c.loop-k.number in
-    let b = get_or text k 0 in
-    let is : is_digit b ≡ true = sym c.is_digit_byte.ensures ∙ c.if-not-is_digit_byte.false in
-    let digit = digit_from b is in
+    let number = c.loop-k.number in
+    let byte = get_or text k 0 in
+    let byte_is_digit : is_digit byte ≡ true = sym c.is_digit_byte.ensures ∙ c.if-not-is_digit_byte.false in
+    let digit = digit_from byte byte_is_digit in
     let before : k < 7 = omega (arith, c.loop-k-test.true, c.requires.few) in
     let inside : k < length text = omega (arith, c.loop-k-test.true, c.requires.there) in
-    let room : n < 10 ^ 7 = seven_room k n before c.loop-k.invariant.small in
+    let room : number < 10 ^ 7 = seven_room k number before c.loop-k.invariant.small in
     record {
-      spelled = c.loop-k.invariant.spelled ∙ ap (λ (l : List ℕ). decimal n ++ l) (drop_more text k 0 inside)
-          ∙ sym (next_digit n b (drop (k + 1) text) c.loop-k.invariant.some (omega (arith, room)) is);
+      spelled = c.loop-k.invariant.spelled ∙ ap (λ (l : List ℕ). decimal number ++ l) (drop_more text k 0 inside)
+          ∙ sym (next_digit number byte (drop (k + 1) text) c.loop-k.invariant.some (omega (arith, room)) byte_is_digit);
       some = omega (arith, c.loop-k.invariant.some);
-      small = digit_more k n (b - 48) c.loop-k.invariant.small (omega (arith, digit.1));
+      small = digit_more k number (byte - 48) c.loop-k.invariant.small (omega (arith, digit.1));
     }

@@ -8,6 +8,6 @@ use Rattle.command_words.proofs.program.command_with.Goals as goal
 
 pub loop-setting-preserved : goal.loop-setting-preserved
 loop-setting-preserved c =
-    let lt : c.loop-setting.setting-index < length c.args.settings.now = search rules in
-    option_added c.args.name.now c.args.settings.now c.loop-setting.setting-index Ratio (app_of c.loop-setting.command) (app_of c.in_ok-command.command) lt c.loop-setting.invariant
+    let index_below : c.loop-setting.setting-index < length c.args.settings.now = search rules in
+    option_added c.args.name.now c.args.settings.now c.loop-setting.setting-index Ratio (app_of c.loop-setting.command) (app_of c.in_ok-command.command) index_below c.loop-setting.invariant
     (c.in_ok-command.ensures ∙ ap (λ (t : Text). with_rule (app_of c.loop-setting.command) (option_rule t)) c.name.ensures)

@@ -21,7 +21,7 @@ returns-then-not-is_small-clause-wide c =
     let k_word : to_z w64 (of_z w64 c.args.k) ≡ c.args.k = to_z-of_z w64 c.args.k c.ranges.k in
     let word : to_z w128 (of_z w128 c.raised-x.result) ≡ c.raised-x.result = as_w128 c.raised-x.result (omega (arith, c.raised-x.ensures.size)) in
     let wide : 2 ^ 30 ≤ unsigned_abs c.raised-x.result = rw word at (c.if-not-is_small.ensures.wide refl) in
-    let is : c.raised-x.result ≡ entry c.args.back.now c.args.row j +ℤ (c.args.k *ℤ entry c.args.back.now c.args.from j) = rw k_word at c.raised-x.ensures.value in
+    let raised_is : c.raised-x.result ≡ entry c.args.back.now c.args.row j +ℤ (c.args.k *ℤ entry c.args.back.now c.args.from j) = rw k_word at c.raised-x.ensures.value in
     λ e small. let below : unsigned_abs (entry c.args.back.now c.args.row j +ℤ (c.args.k *ℤ entry c.args.back.now c.args.from j)) < 2 ^ 30 = small j (omega arith) in
-    let above : 2 ^ 30 ≤ unsigned_abs (entry c.args.back.now c.args.row j +ℤ (c.args.k *ℤ entry c.args.back.now c.args.from j)) = subst (λ (z : ℤ). 2 ^ 30 ≤ unsigned_abs z) is wide in
+    let above : 2 ^ 30 ≤ unsigned_abs (entry c.args.back.now c.args.row j +ℤ (c.args.k *ℤ entry c.args.back.now c.args.from j)) = subst (λ (z : ℤ). 2 ^ 30 ≤ unsigned_abs z) raised_is wide in
     omega arith

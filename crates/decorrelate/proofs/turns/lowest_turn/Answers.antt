@@ -16,16 +16,16 @@ turn-requires c = record {
 pub returns-then-turn-clause-next : goal.returns-then-turn-clause-next
 returns-then-turn-clause-next c =
     let n : ℕ = c.args.now.now.change.size in
-    let s : State = state_of c.args.now.now in
-    let u : State = state_of c.turn.new.now in
+    let state : State = state_of c.args.now.now in
+    let next_state : State = state_of c.turn.new.now in
     let j : ℕ = c.loop-next.next - 1 in
-    let t = c.if-turn.ensures.turned refl in
-    let possible : IsPossible n j s = subst (λ (k : ℕ). IsPossible k j s) c.loop-next.invariant.size
-    (subst (λ (x : State). IsPossible c.loop-next.now.change.size j x) c.loop-next.invariant.same t.possible) in
-    let turned : IsTurned n j s u = subst (λ (k : ℕ). IsTurned k j s u) c.loop-next.invariant.size
-    (subst (λ (x : State). IsTurned c.loop-next.now.change.size j x u) c.loop-next.invariant.same t.turned) in
+    let is_turned = c.if-turn.ensures.turned refl in
+    let possible : IsPossible n j state = subst (λ (k : ℕ). IsPossible k j state) c.loop-next.invariant.size
+    (subst (λ (x : State). IsPossible c.loop-next.now.change.size j x) c.loop-next.invariant.same is_turned.possible) in
+    let turned : IsTurned n j state next_state = subst (λ (k : ℕ). IsTurned k j state next_state) c.loop-next.invariant.size
+    (subst (λ (x : State). IsTurned c.loop-next.now.change.size j x next_state) c.loop-next.invariant.same is_turned.turned) in
     λ e. record {
-      size = t.size ∙ c.loop-next.invariant.size;
+      size = is_turned.size ∙ c.loop-next.invariant.size;
       next = record {
         place = j;
         next = record {
@@ -40,12 +40,12 @@ returns-then-turn-clause-next c =
 pub loop-next-preserved : goal.loop-next-preserved
 loop-next-preserved c =
     let n : ℕ = c.args.now.now.change.size in
-    let s : State = state_of c.args.now.now in
+    let state : State = state_of c.args.now.now in
     let j : ℕ = c.loop-next.next - 1 in
-    let not : IsPossible n j s → ⊥ = λ p. c.if-turn.ensures.impossible refl (subst (λ (k : ℕ). IsPossible k j (state_of c.loop-next.now)) (sym c.loop-next.invariant.size)
+    let not : IsPossible n j state → ⊥ = λ p. c.if-turn.ensures.impossible refl (subst (λ (k : ℕ). IsPossible k j (state_of c.loop-next.now)) (sym c.loop-next.invariant.size)
     (subst (λ (x : State). IsPossible n j x) (sym c.loop-next.invariant.same) p)) in
     record {
       size = c.if-turn.ensures.size ∙ c.loop-next.invariant.size;
       same = c.if-turn.ensures.stays refl ∙ c.loop-next.invariant.same;
-      none = none_up_to n c.loop-next.next s c.loop-next.invariant.none not;
+      none = none_up_to n c.loop-next.next state c.loop-next.invariant.none not;
     }

@@ -18,20 +18,20 @@ size_three e s n l h i j k = omega (arith, size_sub ((e -ℤ s) -ℤ n) l, size_
 
 pub returns-clause-value : goal.returns-clause-value
 returns-clause-value c =
-    let ee : to_z w128 (of_z w128 c.args.entry) ≡ c.args.entry = to_z-of_z w128 c.args.entry c.ranges.entry in
-    let es : to_z w128 (of_z w128 c.args.square) ≡ c.args.square = to_z-of_z w128 c.args.square c.ranges.square in
-    let en : to_z w128 (of_z w128 c.args.count) ≡ c.args.count = to_z-of_z w128 c.args.count c.ranges.count in
-    let el : to_z w128 (of_z w128 c.args.loss) ≡ c.args.loss = to_z-of_z w128 c.args.loss c.ranges.loss in
-    let h1 : unsigned_abs (c.args.entry -ℤ c.args.square) ≤ 2 ^ 106 = omega (arith, size_sub c.args.entry c.args.square, c.requires.entry_size, c.requires.square_size) in
-    let h2 : unsigned_abs ((c.args.entry -ℤ c.args.square) -ℤ c.args.count) ≤ 2 ^ 106 =
+    let entry_kept : to_z w128 (of_z w128 c.args.entry) ≡ c.args.entry = to_z-of_z w128 c.args.entry c.ranges.entry in
+    let square_kept : to_z w128 (of_z w128 c.args.square) ≡ c.args.square = to_z-of_z w128 c.args.square c.ranges.square in
+    let count_kept : to_z w128 (of_z w128 c.args.count) ≡ c.args.count = to_z-of_z w128 c.args.count c.ranges.count in
+    let loss_kept : to_z w128 (of_z w128 c.args.loss) ≡ c.args.loss = to_z-of_z w128 c.args.loss c.ranges.loss in
+    let less_square_small : unsigned_abs (c.args.entry -ℤ c.args.square) ≤ 2 ^ 106 = omega (arith, size_sub c.args.entry c.args.square, c.requires.entry_size, c.requires.square_size) in
+    let less_count_small : unsigned_abs ((c.args.entry -ℤ c.args.square) -ℤ c.args.count) ≤ 2 ^ 106 =
     size_two c.args.entry c.args.square c.args.count c.requires.entry_size c.requires.square_size c.requires.count_size in
-    let h3 : unsigned_abs (((c.args.entry -ℤ c.args.square) -ℤ c.args.count) -ℤ c.args.loss) ≤ 2 ^ 107 =
+    let less_loss_small : unsigned_abs (((c.args.entry -ℤ c.args.square) -ℤ c.args.count) -ℤ c.args.loss) ≤ 2 ^ 107 =
     size_three c.args.entry c.args.square c.args.count c.args.loss c.requires.entry_size c.requires.square_size c.requires.count_size c.requires.loss_size in
     rw (
-      ee,
-      es,
-      en,
-      el,
+      entry_kept,
+      square_kept,
+      count_kept,
+      loss_kept,
       as_w128 (c.args.entry -ℤ c.args.square) (omega arith),
       as_w128 ((c.args.entry -ℤ c.args.square) -ℤ c.args.count) (omega arith),
       as_w128 (((c.args.entry -ℤ c.args.square) -ℤ c.args.count) -ℤ c.args.loss) (omega arith),
@@ -43,14 +43,14 @@ returns-clause-size c = rw (returns-clause-value c)
 
 pub overflow_sub-result : goal.overflow_sub-result
 overflow_sub-result c =
-    let ee : to_z w128 (of_z w128 c.args.entry) ≡ c.args.entry = to_z-of_z w128 c.args.entry c.ranges.entry in
-    let es : to_z w128 (of_z w128 c.args.square) ≡ c.args.square = to_z-of_z w128 c.args.square c.ranges.square in
-    let en : to_z w128 (of_z w128 c.args.count) ≡ c.args.count = to_z-of_z w128 c.args.count c.ranges.count in
-    let el : to_z w128 (of_z w128 c.args.loss) ≡ c.args.loss = to_z-of_z w128 c.args.loss c.ranges.loss in
-    let h1 : unsigned_abs (c.args.entry -ℤ c.args.square) ≤ 2 ^ 106 = omega (arith, size_sub c.args.entry c.args.square, c.requires.entry_size, c.requires.square_size) in
-    let h2 : unsigned_abs ((c.args.entry -ℤ c.args.square) -ℤ c.args.count) ≤ 2 ^ 106 =
+    let entry_kept : to_z w128 (of_z w128 c.args.entry) ≡ c.args.entry = to_z-of_z w128 c.args.entry c.ranges.entry in
+    let square_kept : to_z w128 (of_z w128 c.args.square) ≡ c.args.square = to_z-of_z w128 c.args.square c.ranges.square in
+    let count_kept : to_z w128 (of_z w128 c.args.count) ≡ c.args.count = to_z-of_z w128 c.args.count c.ranges.count in
+    let loss_kept : to_z w128 (of_z w128 c.args.loss) ≡ c.args.loss = to_z-of_z w128 c.args.loss c.ranges.loss in
+    let less_square_small : unsigned_abs (c.args.entry -ℤ c.args.square) ≤ 2 ^ 106 = omega (arith, size_sub c.args.entry c.args.square, c.requires.entry_size, c.requires.square_size) in
+    let less_count_small : unsigned_abs ((c.args.entry -ℤ c.args.square) -ℤ c.args.count) ≤ 2 ^ 106 =
     size_two c.args.entry c.args.square c.args.count c.requires.entry_size c.requires.square_size c.requires.count_size in
-    let h3 : unsigned_abs (((c.args.entry -ℤ c.args.square) -ℤ c.args.count) -ℤ c.args.loss) ≤ 2 ^ 107 =
+    let less_loss_small : unsigned_abs (((c.args.entry -ℤ c.args.square) -ℤ c.args.count) -ℤ c.args.loss) ≤ 2 ^ 107 =
     size_three c.args.entry c.args.square c.args.count c.args.loss c.requires.entry_size c.requires.square_size c.requires.count_size c.requires.loss_size in
-    rw (ee, es, en, el, as_w128 (c.args.entry -ℤ c.args.square) (omega arith), as_w128 ((c.args.entry -ℤ c.args.square) -ℤ c.args.count) (omega arith))
+    rw (entry_kept, square_kept, count_kept, loss_kept, as_w128 (c.args.entry -ℤ c.args.square) (omega arith), as_w128 ((c.args.entry -ℤ c.args.square) -ℤ c.args.count) (omega arith))
     (fits (((c.args.entry -ℤ c.args.square) -ℤ c.args.count) -ℤ c.args.loss) (omega arith))

@@ -9,11 +9,11 @@ difference_size x y h g = omega (arith, ints)
 
 pub returns-clause-value : goal.returns-clause-value
 returns-clause-value c =
-    let er : to_z w64 (of_z w64 c.args.ratio) ≡ c.args.ratio = to_z-of_z w64 c.args.ratio c.ranges.ratio in
-    let ea : to_z w64 (of_z w64 c.args.a) ≡ c.args.a = to_z-of_z w64 c.args.a c.ranges.a in
-    let ep : to_z w64 (of_z w64 c.args.p) ≡ c.args.p = to_z-of_z w64 c.args.p c.ranges.p in
-    let first : c.long_product.result ≡ c.args.ratio *ℤ c.args.a = rw (er, ea) at c.long_product.ensures.value in
-    let second : c.long_product-2.result ≡ pos (2 ^ 52) *ℤ c.args.p = rw ep at c.long_product-2.ensures.value in
+    let ratio_kept : to_z w64 (of_z w64 c.args.ratio) ≡ c.args.ratio = to_z-of_z w64 c.args.ratio c.ranges.ratio in
+    let divisor_kept : to_z w64 (of_z w64 c.args.a) ≡ c.args.a = to_z-of_z w64 c.args.a c.ranges.a in
+    let pivot_kept : to_z w64 (of_z w64 c.args.p) ≡ c.args.p = to_z-of_z w64 c.args.p c.ranges.p in
+    let first : c.long_product.result ≡ c.args.ratio *ℤ c.args.a = rw (ratio_kept, divisor_kept) at c.long_product.ensures.value in
+    let second : c.long_product-2.result ≡ pos (2 ^ 52) *ℤ c.args.p = rw pivot_kept at c.long_product-2.ensures.value in
     ap₂ (λ x y. to_z w128 (of_z w128 (x -ℤ y))) (as_w128 c.long_product.result (omega (arith, c.long_product.ensures.size))) (as_w128 c.long_product-2.result (omega (arith, c.long_product-2.ensures.size)))
     ∙ as_w128 (c.long_product.result -ℤ c.long_product-2.result) (difference_size c.long_product.result c.long_product-2.result c.long_product.ensures.size c.long_product-2.ensures.size)
     ∙ ap₂ (λ x y. x -ℤ y) first second

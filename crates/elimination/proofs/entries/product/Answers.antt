@@ -6,12 +6,12 @@ use Rattle.elimination.proofs.entries.product.Goals as goal
 
 pub returns-clause-value : goal.returns-clause-value
 returns-clause-value c =
-    let ep : to_z w128 (of_z w128 c.args.p) ≡ c.args.p = to_z-of_z w128 c.args.p c.ranges.p in
-    let eq : to_z w128 (of_z w128 c.args.q) ≡ c.args.q = to_z-of_z w128 c.args.q c.ranges.q in
-    let p : c.narrow.result ≡ c.args.p = rw ep at c.narrow.ensures.value in
-    let q : c.narrow-2.result ≡ c.args.q = rw eq at c.narrow-2.ensures.value in
-    let wp : to_z w64 (of_z w64 c.narrow.result) ≡ c.narrow.result = as_w64 c.narrow.result (omega (arith, c.narrow.ensures.size)) in
-    let wq : to_z w64 (of_z w64 c.narrow-2.result) ≡ c.narrow-2.result = as_w64 c.narrow-2.result (omega (arith, c.narrow-2.ensures.size)) in
-    let s : c.short_product.result ≡ c.narrow.result *ℤ c.narrow-2.result = rw (wp, wq) at c.short_product.ensures.value in
-    let ws : to_z w128 (of_z w128 c.short_product.result) ≡ c.short_product.result = as_w128 c.short_product.result (omega (arith, c.short_product.ensures.size)) in
-    ws ∙ s ∙ ap₂ (λ x y. x *ℤ y) p q
+    let p_kept : to_z w128 (of_z w128 c.args.p) ≡ c.args.p = to_z-of_z w128 c.args.p c.ranges.p in
+    let q_kept : to_z w128 (of_z w128 c.args.q) ≡ c.args.q = to_z-of_z w128 c.args.q c.ranges.q in
+    let p_narrowed : c.narrow.result ≡ c.args.p = rw p_kept at c.narrow.ensures.value in
+    let q_narrowed : c.narrow-2.result ≡ c.args.q = rw q_kept at c.narrow-2.ensures.value in
+    let narrow_p_kept : to_z w64 (of_z w64 c.narrow.result) ≡ c.narrow.result = as_w64 c.narrow.result (omega (arith, c.narrow.ensures.size)) in
+    let narrow_q_kept : to_z w64 (of_z w64 c.narrow-2.result) ≡ c.narrow-2.result = as_w64 c.narrow-2.result (omega (arith, c.narrow-2.ensures.size)) in
+    let product_is : c.short_product.result ≡ c.narrow.result *ℤ c.narrow-2.result = rw (narrow_p_kept, narrow_q_kept) at c.short_product.ensures.value in
+    let product_kept : to_z w128 (of_z w128 c.short_product.result) ≡ c.short_product.result = as_w128 c.short_product.result (omega (arith, c.short_product.ensures.size)) in
+    product_kept ∙ product_is ∙ ap₂ (λ x y. x *ℤ y) p_narrowed q_narrowed

@@ -37,47 +37,47 @@ word x h = ap (λ z. to_z w64 (of_z w64 z)) (as_w128 x (omega (arith, h))) ∙ a
 
 pub overflow_cast-result : goal.overflow_cast-result
 overflow_cast-result c =
-    let f : Finished c.args.front.now.columns c.args.front.now.d c.args.front.now.l c.args.front.now.p c.take_steps.new.kept c.take_steps.new.factors c.at.result =
+    let is_finished : Finished c.args.front.now.columns c.args.front.now.d c.args.front.now.l c.args.front.now.p c.take_steps.new.kept c.take_steps.new.factors c.at.result =
     facts c.args.front.now c.kept_list-d.result c.take_steps.new.kept c.put_factors.new.factors c.take_steps.new.factors c.put_form.new.table c.take_steps.new.table c.at.result
     c.put_factors.ensures.same (outside c.zeros-l.result c.put_factors.new.factors c.zeros-l.ensures.zeros c.put_factors.ensures.others)
     c.kept_list-d.ensures.same c.kept_list-d.ensures.outside c.take_steps.ensures.factors_outside
     c.take_steps.ensures.kept_outside c.put_form.ensures.form c.in-Ok.ensures.taken c.at.ensures.value in
-    let w : to_z w128 (of_z w128 c.at.result) ≡ c.at.result = as_w128 c.at.result (omega (arith, f.last)) in
-    rw w (omega (arith, ints, f.last))
+    let last_kept : to_z w128 (of_z w128 c.at.result) ≡ c.at.result = as_w128 c.at.result (omega (arith, is_finished.last)) in
+    rw last_kept (omega (arith, ints, is_finished.last))
 
 pub invariant_of-result : goal.invariant_of-result
 invariant_of-result c =
-    let r : FrontForm = c.args.front.now in
-    let f : Finished c.args.front.now.columns c.args.front.now.d c.args.front.now.l c.args.front.now.p c.take_steps.new.kept c.take_steps.new.factors c.at.result =
+    let front : FrontForm = c.args.front.now in
+    let is_finished : Finished c.args.front.now.columns c.args.front.now.d c.args.front.now.l c.args.front.now.p c.take_steps.new.kept c.take_steps.new.factors c.at.result =
     facts c.args.front.now c.kept_list-d.result c.take_steps.new.kept c.put_factors.new.factors c.take_steps.new.factors c.put_form.new.table c.take_steps.new.table c.at.result
     c.put_factors.ensures.same (outside c.zeros-l.result c.put_factors.new.factors c.zeros-l.ensures.zeros c.put_factors.ensures.others)
     c.kept_list-d.ensures.same c.kept_list-d.ensures.outside c.take_steps.ensures.factors_outside
     c.take_steps.ensures.kept_outside c.put_form.ensures.form c.in-Ok.ensures.taken c.at.ensures.value in
-    let g : Finished c.args.front.now.columns c.args.front.now.d c.args.front.now.l c.args.front.now.p c.take_steps.new.kept c.take_steps.new.factors
+    let finished_as_word : Finished c.args.front.now.columns c.args.front.now.d c.args.front.now.l c.args.front.now.p c.take_steps.new.kept c.take_steps.new.factors
     (to_z w64 (of_z w64 (to_z w128 (of_z w128 c.at.result)))) =
-    subst (λ (z : ℤ). Finished c.args.front.now.columns c.args.front.now.d c.args.front.now.l c.args.front.now.p c.take_steps.new.kept c.take_steps.new.factors z) (sym (word c.at.result f.last)) f in
+    subst (λ (z : ℤ). Finished c.args.front.now.columns c.args.front.now.d c.args.front.now.l c.args.front.now.p c.take_steps.new.kept c.take_steps.new.factors z) (sym (word c.at.result is_finished.last)) is_finished in
     record {
-      columns_from = r.columns_from;
-      columns_to = r.columns_to;
-      h_in = r.h_in;
-      kept_in = g.kept_in;
-      kept_outside = g.kept_outside;
-      factors_in = g.factors_in;
-      factors_outside = g.factors_outside;
-      symmetric = r.symmetric;
-      entries_in = r.entries_in;
-      nothing_outside = r.nothing_outside;
-      eliminated = g.eliminated;
+      columns_from = front.columns_from;
+      columns_to = front.columns_to;
+      h_in = front.h_in;
+      kept_in = finished_as_word.kept_in;
+      kept_outside = finished_as_word.kept_outside;
+      factors_in = finished_as_word.factors_in;
+      factors_outside = finished_as_word.factors_outside;
+      symmetric = front.symmetric;
+      entries_in = front.entries_in;
+      nothing_outside = front.nothing_outside;
+      eliminated = finished_as_word.eliminated;
     }
 
 pub returns-in-Ok-clause-finished : goal.returns-in-Ok-clause-finished
 returns-in-Ok-clause-finished c =
-    let f : Finished c.args.front.now.columns c.args.front.now.d c.args.front.now.l c.args.front.now.p c.take_steps.new.kept c.take_steps.new.factors c.at.result =
+    let is_finished : Finished c.args.front.now.columns c.args.front.now.d c.args.front.now.l c.args.front.now.p c.take_steps.new.kept c.take_steps.new.factors c.at.result =
     facts c.args.front.now c.kept_list-d.result c.take_steps.new.kept c.put_factors.new.factors c.take_steps.new.factors c.put_form.new.table c.take_steps.new.table c.at.result
     c.put_factors.ensures.same (outside c.zeros-l.result c.put_factors.new.factors c.zeros-l.ensures.zeros c.put_factors.ensures.others)
     c.kept_list-d.ensures.same c.kept_list-d.ensures.outside c.take_steps.ensures.factors_outside
     c.take_steps.ensures.kept_outside c.put_form.ensures.form c.in-Ok.ensures.taken c.at.ensures.value in
-    let g : Finished c.args.front.now.columns c.args.front.now.d c.args.front.now.l c.args.front.now.p c.take_steps.new.kept c.take_steps.new.factors
+    let finished_as_word : Finished c.args.front.now.columns c.args.front.now.d c.args.front.now.l c.args.front.now.p c.take_steps.new.kept c.take_steps.new.factors
     (to_z w64 (of_z w64 (to_z w128 (of_z w128 c.at.result)))) =
-    subst (λ (z : ℤ). Finished c.args.front.now.columns c.args.front.now.d c.args.front.now.l c.args.front.now.p c.take_steps.new.kept c.take_steps.new.factors z) (sym (word c.at.result f.last)) f in
-    record { columns = refl; h = refl; p = refl; baseline = g.baseline; taken = g.eliminated }
+    subst (λ (z : ℤ). Finished c.args.front.now.columns c.args.front.now.d c.args.front.now.l c.args.front.now.p c.take_steps.new.kept c.take_steps.new.factors z) (sym (word c.at.result is_finished.last)) is_finished in
+    record { columns = refl; h = refl; p = refl; baseline = finished_as_word.baseline; taken = finished_as_word.eliminated }

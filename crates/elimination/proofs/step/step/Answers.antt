@@ -19,75 +19,75 @@ pub returns-then-not-write_factors-clause-refused : goal.returns-then-not-write_
 returns-then-not-write_factors-clause-refused c =
     let j : ℕ = c.args.j in
     let n : ℕ = (c.args.columns - c.args.j) - 1 in
-    let o : ℤ = entry c.args.table.now c.args.j c.args.j in
-    let v : Pivot c.args.table.now j c.at-a.result =
+    let pivot : ℤ = entry c.args.table.now c.args.j c.args.j in
+    let is_pivot : Pivot c.args.table.now j c.at-a.result =
     pivot_is c.args.table.now j c.at-a.result c.at-a.ensures.value (c.requires.entries j j (omega arith) (omega arith) c.requires.column) c.if-a-lt-LEAST_PIVOT.false in
-    let ea : word c.at-a.result ≡ o = v.as_read in
-    let a : ℕ = unsigned_abs o in
+    let pivot_is_read : word c.at-a.result ≡ pivot = is_pivot.as_read in
+    let divisor : ℕ = unsigned_abs pivot in
     let whole : suc j + n ≡ c.args.columns = omega (arith, c.requires.column) in
-    let w = c.write_factors.ensures.refused c.if-not-write_factors.true in
-    let wide : all_small (factors a (list_from (entry c.args.table.now j) (suc j) n)) ≡ false =
-    subst (λ (l : List ℤ). all_small l ≡ false) (factors_are c.args.table.now j a n) (list_wide (factor_entry c.args.table.now j a) (suc j) n w.0 (omega (arith, w.1.0)) (omega (arith, w.1.1))
-    (subst (λ (z : ℤ). is_small (factor_entry c.args.table.now j (unsigned_abs z) w.0) ≡ false) ea w.1.2)) in
+    let not_written = c.write_factors.ensures.refused c.if-not-write_factors.true in
+    let wide : all_small (factors divisor (list_from (entry c.args.table.now j) (suc j) n)) ≡ false =
+    subst (λ (l : List ℤ). all_small l ≡ false) (factors_are c.args.table.now j divisor n) (list_wide (factor_entry c.args.table.now j divisor) (suc j) n not_written.0 (omega (arith, not_written.1.0)) (omega (arith, not_written.1.1))
+    (subst (λ (z : ℤ). is_small (factor_entry c.args.table.now j (unsigned_abs z) not_written.0) ≡ false) pivot_is_read not_written.1.2)) in
     step_tests j (column_at c.args.table.now j n) (form_after c.args.table.now j n) false
-    (form_small (next a (len (list_from (entry c.args.table.now j) (suc j) n)) (list_from (entry c.args.table.now j) (suc j) n) (form_after c.args.table.now j n))) v.strong wide refl
+    (form_small (next divisor (len (list_from (entry c.args.table.now j) (suc j) n)) (list_from (entry c.args.table.now j) (suc j) n) (form_after c.args.table.now j n))) is_pivot.strong wide refl
 
 pub returns-then-not-update-clause-refused : goal.returns-then-not-update-clause-refused
 returns-then-not-update-clause-refused c =
     let j : ℕ = c.args.j in
     let n : ℕ = (c.args.columns - c.args.j) - 1 in
-    let o : ℤ = entry c.args.table.now c.args.j c.args.j in
-    let v : Pivot c.args.table.now j c.at-a.result =
+    let pivot : ℤ = entry c.args.table.now c.args.j c.args.j in
+    let is_pivot : Pivot c.args.table.now j c.at-a.result =
     pivot_is c.args.table.now j c.at-a.result c.at-a.ensures.value (c.requires.entries j j (omega arith) (omega arith) c.requires.column) c.if-a-lt-LEAST_PIVOT.false in
-    let ea : word c.at-a.result ≡ o = v.as_read in
-    let a : ℕ = unsigned_abs o in
+    let pivot_is_read : word c.at-a.result ≡ pivot = is_pivot.as_read in
+    let divisor : ℕ = unsigned_abs pivot in
     let whole : suc j + n ≡ c.args.columns = omega (arith, c.requires.column) in
-    let fits : all_small (factors a (list_from (entry c.args.table.now j) (suc j) n)) ≡ true =
-    factors_small c.args.table.now j n c.at-a.result ea (λ k h g. c.write_factors.ensures.small c.if-not-write_factors.false k h (omega arith)) in
-    let w = c.update.ensures.refused c.if-not-update.true in
-    let wide : form_small (next a (len (list_from (entry c.args.table.now j) (suc j) n)) (list_from (entry c.args.table.now j) (suc j) n) (form_after c.args.table.now j n)) ≡ false =
-    subst (λ (l : List Column). form_small l ≡ false) (next_is c.args.table.now j a n)
-    (form_wide (new_entry c.args.table.now j a (pos n)) (suc j) n w.0 w.1 (omega (arith, w.2.0)) w.2.1 (omega (arith, w.2.2))
-    (subst (λ (z : ℤ). is_small (new_entry c.args.table.now j (unsigned_abs z) (pos n) w.0 w.1) ≡ false) ea w.2.3)) in
-    step_tests j (column_at c.args.table.now j n) (form_after c.args.table.now j n) true false v.strong fits wide
+    let fits : all_small (factors divisor (list_from (entry c.args.table.now j) (suc j) n)) ≡ true =
+    factors_small c.args.table.now j n c.at-a.result pivot_is_read (λ k h g. c.write_factors.ensures.small c.if-not-write_factors.false k h (omega arith)) in
+    let not_updated = c.update.ensures.refused c.if-not-update.true in
+    let wide : form_small (next divisor (len (list_from (entry c.args.table.now j) (suc j) n)) (list_from (entry c.args.table.now j) (suc j) n) (form_after c.args.table.now j n)) ≡ false =
+    subst (λ (l : List Column). form_small l ≡ false) (next_is c.args.table.now j divisor n)
+    (form_wide (new_entry c.args.table.now j divisor (pos n)) (suc j) n not_updated.0 not_updated.1 (omega (arith, not_updated.2.0)) not_updated.2.1 (omega (arith, not_updated.2.2))
+    (subst (λ (z : ℤ). is_small (new_entry c.args.table.now j (unsigned_abs z) (pos n) not_updated.0 not_updated.1) ≡ false) pivot_is_read not_updated.2.3)) in
+    step_tests j (column_at c.args.table.now j n) (form_after c.args.table.now j n) true false is_pivot.strong fits wide
 
 pub returns-clause-taken : goal.returns-clause-taken
 returns-clause-taken c =
     let j : ℕ = c.args.j in
     let n : ℕ = (c.args.columns - c.args.j) - 1 in
-    let o : ℤ = entry c.args.table.now c.args.j c.args.j in
-    let v : Pivot c.args.table.now j c.at-a.result =
+    let pivot : ℤ = entry c.args.table.now c.args.j c.args.j in
+    let is_pivot : Pivot c.args.table.now j c.at-a.result =
     pivot_is c.args.table.now j c.at-a.result c.at-a.ensures.value (c.requires.entries j j (omega arith) (omega arith) c.requires.column) c.if-a-lt-LEAST_PIVOT.false in
-    let ea : word c.at-a.result ≡ o = v.as_read in
-    let a : ℕ = unsigned_abs o in
+    let pivot_is_read : word c.at-a.result ≡ pivot = is_pivot.as_read in
+    let divisor : ℕ = unsigned_abs pivot in
     let whole : suc j + n ≡ c.args.columns = omega (arith, c.requires.column) in
-    let fits : all_small (factors a (list_from (entry c.args.table.now j) (suc j) n)) ≡ true =
-    factors_small c.args.table.now j n c.at-a.result ea (λ k h g. c.write_factors.ensures.small c.if-not-write_factors.false k h (omega arith)) in
-    let p : ℕ → ℤ = entry c.args.table.now j in
-    let fine : form_small (next a (len (list_from p (suc j) n)) (list_from p (suc j) n) (form_after c.args.table.now j n)) ≡ true =
-    subst (λ (l : List Column). form_small l ≡ true) (next_is c.args.table.now j a n)
-    (form_all_small (new_entry c.args.table.now j a (pos n)) (suc j) n
-    (λ r k h l g. subst (λ (z : ℤ). is_small (new_entry c.args.table.now j (unsigned_abs z) (pos n) r k) ≡ true) ea
+    let fits : all_small (factors divisor (list_from (entry c.args.table.now j) (suc j) n)) ≡ true =
+    factors_small c.args.table.now j n c.at-a.result pivot_is_read (λ k h g. c.write_factors.ensures.small c.if-not-write_factors.false k h (omega arith)) in
+    let row : ℕ → ℤ = entry c.args.table.now j in
+    let fine : form_small (next divisor (len (list_from row (suc j) n)) (list_from row (suc j) n) (form_after c.args.table.now j n)) ≡ true =
+    subst (λ (l : List Column). form_small l ≡ true) (next_is c.args.table.now j divisor n)
+    (form_all_small (new_entry c.args.table.now j divisor (pos n)) (suc j) n
+    (λ r k h l g. subst (λ (z : ℤ). is_small (new_entry c.args.table.now j (unsigned_abs z) (pos n) r k) ≡ true) pivot_is_read
     (c.update.ensures.small c.if-not-update.false r k (omega arith) l (omega arith)))) in
-    let po : o ≡ pos a = positive_is o (above o v.strong) in
-    let wk : word c.kept_of.result ≡ c.kept_of.result = as_w128 c.kept_of.result (omega (arith, c.kept_of.ensures.size)) in
-    let d : kept a ≡ word c.kept_of.result = sym (wk ∙ c.kept_of.ensures.value ∙ ap (λ z. z -ℤ ceil_div z (2 ^ 20)) (ea ∙ po)) in
-    let l : factors a (list_from p (suc j) n) ≡ list_from (λ i. entry c.write_factors.new.factors i j) (suc j) n =
-    sym (list_same (λ i. entry c.write_factors.new.factors i j) (factor_entry c.args.table.now j a) (suc j) n
-    (λ k h g. c.write_factors.ensures.value c.if-not-write_factors.false k (omega arith) (omega arith) ∙ ap (λ z. factor_entry c.args.table.now j (unsigned_abs z) k) ea)
-    ∙ factors_are c.args.table.now j a n) in
-    let m : next a (len (list_from p (suc j) n)) (list_from p (suc j) n) (form_after c.args.table.now j n) ≡ form_after c.update.new.table j n =
-    sym (form_same (entry c.update.new.table) (new_entry c.args.table.now j a (pos n)) (suc j) n
-    (λ r k h q g. c.update.ensures.value c.if-not-update.false r k (omega arith) q (omega arith) ∙ ap (λ z. new_entry c.args.table.now j (unsigned_abs z) (pos n) r k) ea)
-    ∙ next_is c.args.table.now j a n) in
-    step_tests j (column_at c.args.table.now j n) (form_after c.args.table.now j n) true true v.strong fits fine
-    ∙ answer (kept a) _ (factors a (list_from p (suc j) n)) _ (next a (len (list_from p (suc j) n)) (list_from p (suc j) n) (form_after c.args.table.now j n)) _ d l m
+    let pivot_positive : pivot ≡ pos divisor = positive_is pivot (above pivot is_pivot.strong) in
+    let kept_fits : word c.kept_of.result ≡ c.kept_of.result = as_w128 c.kept_of.result (omega (arith, c.kept_of.ensures.size)) in
+    let kept_is : kept divisor ≡ word c.kept_of.result = sym (kept_fits ∙ c.kept_of.ensures.value ∙ ap (λ z. z -ℤ ceil_div z (2 ^ 20)) (pivot_is_read ∙ pivot_positive)) in
+    let same_factors : factors divisor (list_from row (suc j) n) ≡ list_from (λ i. entry c.write_factors.new.factors i j) (suc j) n =
+    sym (list_same (λ i. entry c.write_factors.new.factors i j) (factor_entry c.args.table.now j divisor) (suc j) n
+    (λ k h g. c.write_factors.ensures.value c.if-not-write_factors.false k (omega arith) (omega arith) ∙ ap (λ z. factor_entry c.args.table.now j (unsigned_abs z) k) pivot_is_read)
+    ∙ factors_are c.args.table.now j divisor n) in
+    let form_is_next : next divisor (len (list_from row (suc j) n)) (list_from row (suc j) n) (form_after c.args.table.now j n) ≡ form_after c.update.new.table j n =
+    sym (form_same (entry c.update.new.table) (new_entry c.args.table.now j divisor (pos n)) (suc j) n
+    (λ r k h q g. c.update.ensures.value c.if-not-update.false r k (omega arith) q (omega arith) ∙ ap (λ z. new_entry c.args.table.now j (unsigned_abs z) (pos n) r k) pivot_is_read)
+    ∙ next_is c.args.table.now j divisor n) in
+    step_tests j (column_at c.args.table.now j n) (form_after c.args.table.now j n) true true is_pivot.strong fits fine
+    ∙ answer (kept divisor) _ (factors divisor (list_from row (suc j) n)) _ (next divisor (len (list_from row (suc j) n)) (list_from row (suc j) n) (form_after c.args.table.now j n)) _ kept_is same_factors form_is_next
   where
-    answer : (d e : ℤ) (s t : List ℤ) (a b : List Column) → d ≡ e → s ≡ t → a ≡ b → let x : Result (Factor × List Column) Refusal = Ok (record { d = d; l = s }, a) in
-        let y : Result (Factor × List Column) Refusal = Ok (record { d = e; l = t }, b) in x ≡ y
-    answer d e s t a b f g h = ap (λ (z : ℤ). let x : Result (Factor × List Column) Refusal = Ok (record { d = z; l = s }, a) in x) f
-        ∙ ap (λ (z : List ℤ). let x : Result (Factor × List Column) Refusal = Ok (record { d = e; l = z }, a) in x) g
-        ∙ ap (λ (z : List Column). let x : Result (Factor × List Column) Refusal = Ok (record { d = e; l = t }, z) in x) h
+    answer : (d e : ℤ) (s t : List ℤ) (a b : List Column) → d ≡ e → s ≡ t → a ≡ b → let first_answer : Result (Factor × List Column) Refusal = Ok (record { d = d; l = s }, a) in
+        let second_answer : Result (Factor × List Column) Refusal = Ok (record { d = e; l = t }, b) in first_answer ≡ second_answer
+    answer d e s t a b f g h = ap (λ (z : ℤ). let changed_answer : Result (Factor × List Column) Refusal = Ok (record { d = z; l = s }, a) in changed_answer) f
+        ∙ ap (λ (z : List ℤ). let changed_answer : Result (Factor × List Column) Refusal = Ok (record { d = e; l = z }, a) in changed_answer) g
+        ∙ ap (λ (z : List Column). let changed_answer : Result (Factor × List Column) Refusal = Ok (record { d = e; l = t }, z) in changed_answer) h
 
 pub returns-clause-small : goal.returns-clause-small
 returns-clause-small c = λ r k h l g. subst (λ (z : ℤ). unsigned_abs z ≤ 2 ^ 52) (sym (c.update.ensures.value c.if-not-update.false r k h l g))

@@ -17,16 +17,16 @@ pub loop-r-preserved : goal.loop-r-preserved
 loop-r-preserved c =
     let r : ℕ = c.loop-r.r in
     let j : ℕ = c.args.j in
-    let a : ℕ = unsigned_abs (to_z w128 (of_z w128 c.args.a)) in
+    let divisor : ℕ = unsigned_abs (to_z w128 (of_z w128 c.args.a)) in
     let n : ℤ = pos ((c.args.columns - c.args.j) - 1) in
-    let same : (k : ℕ) → new_entry c.loop-r.table j a n r k ≡ new_entry c.args.table.now j a n r k =
-    λ k. new_same c.args.table.now c.loop-r.table j a n r k (λ q. c.loop-r.invariant.rest r q (omega arith)) (λ q. c.loop-r.invariant.before j q (omega arith)) in
+    let same : (k : ℕ) → new_entry c.loop-r.table j divisor n r k ≡ new_entry c.args.table.now j divisor n r k =
+    λ k. new_same c.args.table.now c.loop-r.table j divisor n r k (λ q. c.loop-r.invariant.rest r q (omega arith)) (λ q. c.loop-r.invariant.before j q (omega arith)) in
     let done : c.update_row.result ≡ true = c.if-not-update_row.false in
     record {
       from = omega (arith, c.loop-r.invariant.from);
-      value = λ m q h g. below_more (λ (m : ℕ). j < m → m ≤ q → q < c.args.columns → entry c.update_row.new.table m q ≡ new_entry c.args.table.now j a n m q) r
+      value = λ m q h g. below_more (λ (m : ℕ). j < m → m ≤ q → q < c.args.columns → entry c.update_row.new.table m q ≡ new_entry c.args.table.now j divisor n m q) r
           (λ m h g l o. c.update_row.ensures.others m q (omega arith) ∙ c.loop-r.invariant.value m q h g l o) (λ g l o. c.update_row.ensures.value done q l o ∙ same q) m h g;
-      small = λ m q h g. below_more (λ (m : ℕ). j < m → m ≤ q → q < c.args.columns → is_small (new_entry c.args.table.now j a n m q) ≡ true) r
+      small = λ m q h g. below_more (λ (m : ℕ). j < m → m ≤ q → q < c.args.columns → is_small (new_entry c.args.table.now j divisor n m q) ≡ true) r
           (λ m h g l o. c.loop-r.invariant.small m q h g l o) (λ g l o. subst (λ (z : ℤ). is_small z ≡ true) (same q) (c.update_row.ensures.small done q l o)) m h g;
       rest = λ m q h. c.update_row.ensures.others m q (omega arith) ∙ c.loop-r.invariant.rest m q (omega arith);
       before = λ m q h. c.update_row.ensures.others m q (omega (arith, c.loop-r.invariant.from)) ∙ c.loop-r.invariant.before m q h;
@@ -37,15 +37,15 @@ returns-then-not-update_row-clause-refused c =
     let r : ℕ = c.loop-r.r in
     let j : ℕ = c.args.j in
     let n : ℤ = pos ((c.args.columns - c.args.j) - 1) in
-    let ea : to_z w128 (of_z w128 c.args.a) ≡ c.args.a = to_z-of_z w128 c.args.a c.ranges.a in
-    let w = c.update_row.ensures.refused c.if-not-update_row.true in
-    let same : new_entry c.loop-r.table j (unsigned_abs (to_z w128 (of_z w128 c.args.a))) n r w.0 ≡ new_entry c.args.table.now j (unsigned_abs c.args.a) n r w.0 =
-    new_same c.args.table.now c.loop-r.table j (unsigned_abs (to_z w128 (of_z w128 c.args.a))) n r w.0 (λ q. c.loop-r.invariant.rest r q (omega arith))
-    (λ q. c.loop-r.invariant.before j q (omega arith)) ∙ ap (λ z. new_entry c.args.table.now j (unsigned_abs z) n r w.0) ea in
-    λ e. (r, w.0, (c.loop-r.invariant.from, w.1.0, w.1.1, subst (λ (z : ℤ). is_small z ≡ false) same w.1.2))
+    let divisor_kept : to_z w128 (of_z w128 c.args.a) ≡ c.args.a = to_z-of_z w128 c.args.a c.ranges.a in
+    let not_updated = c.update_row.ensures.refused c.if-not-update_row.true in
+    let same : new_entry c.loop-r.table j (unsigned_abs (to_z w128 (of_z w128 c.args.a))) n r not_updated.0 ≡ new_entry c.args.table.now j (unsigned_abs c.args.a) n r not_updated.0 =
+    new_same c.args.table.now c.loop-r.table j (unsigned_abs (to_z w128 (of_z w128 c.args.a))) n r not_updated.0 (λ q. c.loop-r.invariant.rest r q (omega arith))
+    (λ q. c.loop-r.invariant.before j q (omega arith)) ∙ ap (λ z. new_entry c.args.table.now j (unsigned_abs z) n r not_updated.0) divisor_kept in
+    λ e. (r, not_updated.0, (c.loop-r.invariant.from, not_updated.1.0, not_updated.1.1, subst (λ (z : ℤ). is_small z ≡ false) same not_updated.1.2))
 
 pub returns-clause-value : goal.returns-clause-value
 returns-clause-value c =
-    let ea : to_z w128 (of_z w128 c.args.a) ≡ c.args.a = to_z-of_z w128 c.args.a c.ranges.a in
+    let divisor_kept : to_z w128 (of_z w128 c.args.a) ≡ c.args.a = to_z-of_z w128 c.args.a c.ranges.a in
     let last : c.args.columns ≤ c.loop-r.r = c.loop-r-test.false in
-    λ e r k h l g. c.loop-r.invariant.value r k (omega arith) h l g ∙ ap (λ z. new_entry c.args.table.now c.args.j (unsigned_abs z) (pos ((c.args.columns - c.args.j) - 1)) r k) ea
+    λ e r k h l g. c.loop-r.invariant.value r k (omega arith) h l g ∙ ap (λ z. new_entry c.args.table.now c.args.j (unsigned_abs z) (pos ((c.args.columns - c.args.j) - 1)) r k) divisor_kept

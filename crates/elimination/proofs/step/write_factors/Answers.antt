@@ -12,22 +12,22 @@ pub loop-c-preserved : goal.loop-c-preserved
 loop-c-preserved c =
     let k : ℕ = c.loop-c.c in
     let j : ℕ = c.args.j in
-    let f : ℤ = c.factor_of-factor.result in
-    let n : ℕ = unsigned_abs (to_z w128 (of_z w128 c.args.a)) in
-    let ea : to_z w128 (of_z w128 c.args.a) ≡ c.args.a = to_z-of_z w128 c.args.a c.ranges.a in
-    let wf : to_z w128 (of_z w128 f) ≡ f = as_w128 f (omega (arith, c.factor_of-factor.ensures.size)) in
+    let factor : ℤ = c.factor_of-factor.result in
+    let divisor : ℕ = unsigned_abs (to_z w128 (of_z w128 c.args.a)) in
+    let divisor_kept : to_z w128 (of_z w128 c.args.a) ≡ c.args.a = to_z-of_z w128 c.args.a c.ranges.a in
+    let factor_kept : to_z w128 (of_z w128 factor) ≡ factor = as_w128 factor (omega (arith, c.factor_of-factor.ensures.size)) in
     let size : unsigned_abs (entry c.args.table.now j k) ≤ 2 ^ 52 = c.requires.entries k c.loop-c.invariant.from c.loop-c-test.true in
-    let wt : to_z w128 (of_z w128 c.at.result) ≡ c.at.result = as_w128 c.at.result (omega (arith, subst (λ (z : ℤ). unsigned_abs z ≤ 2 ^ 52) (sym c.at.ensures.value) size)) in
-    let is : f ≡ factor_entry c.args.table.now j n k = c.factor_of-factor.ensures.value ∙ ap (λ z. nearest_div (z *ℤ pos (2 ^ 30)) n) (wt ∙ c.at.ensures.value) in
-    let s : is_small f ≡ true = ap (λ z. is_small z) (sym wf) ∙ sym c.is_small.ensures ∙ c.if-not-is_small.false in
-    let w : to_z w64 (of_z w64 (to_z w128 (of_z w128 f))) ≡ f = ap (λ z. to_z w64 (of_z w64 z)) wf ∙ as_w64 f (small_size f s) in
-    let there : entry c.set.new.self k j ≡ factor_entry c.args.table.now j n k = c.set.ensures.there ∙ w ∙ is in
+    let entry_kept : to_z w128 (of_z w128 c.at.result) ≡ c.at.result = as_w128 c.at.result (omega (arith, subst (λ (z : ℤ). unsigned_abs z ≤ 2 ^ 52) (sym c.at.ensures.value) size)) in
+    let is_factor : factor ≡ factor_entry c.args.table.now j divisor k = c.factor_of-factor.ensures.value ∙ ap (λ z. nearest_div (z *ℤ pos (2 ^ 30)) divisor) (entry_kept ∙ c.at.ensures.value) in
+    let factor_is_small : is_small factor ≡ true = ap (λ z. is_small z) (sym factor_kept) ∙ sym c.is_small.ensures ∙ c.if-not-is_small.false in
+    let factor_fits : to_z w64 (of_z w64 (to_z w128 (of_z w128 factor))) ≡ factor = ap (λ z. to_z w64 (of_z w64 z)) factor_kept ∙ as_w64 factor (small_size factor factor_is_small) in
+    let there : entry c.set.new.self k j ≡ factor_entry c.args.table.now j divisor k = c.set.ensures.there ∙ factor_fits ∙ is_factor in
     record {
       from = omega (arith, c.loop-c.invariant.from);
-      value = λ m h g. below_more (λ (m : ℕ). j < m → entry c.set.new.self m j ≡ factor_entry c.args.table.now j n m) k
+      value = λ m h g. below_more (λ (m : ℕ). j < m → entry c.set.new.self m j ≡ factor_entry c.args.table.now j divisor m) k
           (λ m g h. c.set.ensures.others m j (inl (omega arith)) ∙ c.loop-c.invariant.value m h g) (λ h. there) m g h;
-      small = λ m h g. below_more (λ (m : ℕ). j < m → is_small (factor_entry c.args.table.now j n m) ≡ true) k (λ m g h. c.loop-c.invariant.small m h g)
-          (λ h. subst (λ (z : ℤ). is_small z ≡ true) is s) m g h;
+      small = λ m h g. below_more (λ (m : ℕ). j < m → is_small (factor_entry c.args.table.now j divisor m) ≡ true) k (λ m g h. c.loop-c.invariant.small m h g)
+          (λ h. subst (λ (z : ℤ). is_small z ≡ true) is_factor factor_is_small) m g h;
       others = λ i m d. c.set.ensures.others i m (apart i m j k c.args.columns c.loop-c.invariant.from c.loop-c-test.true d) ∙ c.loop-c.invariant.others i m d;
     }
   where

@@ -11,9 +11,9 @@ pub returns-clause-entries : goal.returns-clause-entries
 returns-clause-entries c = λ r k a l h.
     let i : ℕ = r - 3 in
     let j : ℕ = k - 3 in
-    let er : 3 + i ≡ r = omega arith in
-    let ek : 3 + j ≡ k = omega arith in
+    let row_is : 3 + i ≡ r = omega arith in
+    let column_is : 3 + j ≡ k = omega arith in
     let small : unsigned_abs (entry c.args.p.now i j) < 2 ^ 52 = c.requires.entries i j in
-    let is : entry c.loop-r.table r k ≡ entry c.args.p.now i j = sym (ap₂ (λ p q. entry c.loop-r.table p q) er ek)
+    let is_stored : entry c.loop-r.table r k ≡ entry c.args.p.now i j = sym (ap₂ (λ p q. entry c.loop-r.table p q) row_is column_is)
     ∙ c.loop-r.invariant.done i j (omega (arith, c.loop-r-test.false)) (omega arith) (omega arith) in
-    subst (λ (z : ℤ). unsigned_abs z ≤ 2 ^ 52) (sym is) (omega arith)
+    subst (λ (z : ℤ). unsigned_abs z ≤ 2 ^ 52) (sym is_stored) (omega arith)

@@ -8,17 +8,17 @@ use Rattle.file_jobs.proofs.listing.list.Goals as goal
 pub returns-in_err-file : goal.returns-in_err-file
 returns-in_err-file g c =
     let answered = err_from_is_err_and c.from_residual.result c.from_residual.ensures.1 in
-    let f = c.args.files.now in
-    let n = c.obs_file.new.files in
-    let work = file_work g.F.Files f n in
+    let files = c.args.files.now in
+    let files_after = c.obs_file.new.files in
+    let work = file_work g.F.Files files files_after in
     let stopped = c.in_err-file.ensures in
     rw (answered.1, answered.2) (list_stop work c.args.name.now c.in_err-file.field-0.0 stopped.opened stopped.stopped stopped.refused stopped.fault stopped.sure)
 
 pub returns : goal.returns
 returns g c =
-    let f = c.args.files.now in
-    let n = c.obs_file.new.files in
-    let work = file_work g.F.Files f n in
+    let files = c.args.files.now in
+    let files_after = c.obs_file.new.files in
+    let work = file_work g.F.Files files files_after in
     let read = c.in_ok-file.ensures in
     text_done work c.args.name.now read.read.text list_job _ read.read.is read.whole read.opens
-    (listed read.read.text c.args.name.now c.in_ok-file.file (g.F.Files.text_of f) _ read.read c.in_ok-answer_file.ensures)
+    (listed read.read.text c.args.name.now c.in_ok-file.file (g.F.Files.text_of files) _ read.read c.in_ok-answer_file.ensures)

@@ -26,15 +26,15 @@ upper_sum-requires-clause-z_size c = first_small c.args.best.now.size c.args.bes
 
 pub upper_sum-requires-clause-moved_size : goal.upper_sum-requires-clause-moved_size
 upper_sum-requires-clause-moved_size c =
-    let m : List ℤ = move_of c.args.form.now (first_of c.args.best.now) in
-    subst (All (IsBelow (2 ^ 46))) (sym c.in_ok-moved.ensures.ok) (all_narrow m (λ w. false≢true (c.in_ok-moved.ensures.refused.1 w)))
+    let move : List ℤ = move_of c.args.form.now (first_of c.args.best.now) in
+    subst (All (IsBelow (2 ^ 46))) (sym c.in_ok-moved.ensures.ok) (all_narrow move (λ w. false≢true (c.in_ok-moved.ensures.refused.1 w)))
 
 pub returns-in_err-top-clause-sum : goal.returns-in_err-top-clause-sum
 returns-in_err-top-clause-sum c =
-    let W : List ℤ → Type 0 = AreWide c.args.session.now.arcs (fine_signals c.args.session.now.signals) c.args.session.now.pairs (first_of c.args.best.now) in
-    let wide : W (move_of c.args.form.now (first_of c.args.best.now)) = subst W c.in_ok-moved.ensures.ok (c.in_err-top.ensures.refused.0 refl) in
+    let are_wide : List ℤ → Type 0 = AreWide c.args.session.now.arcs (fine_signals c.args.session.now.signals) c.args.session.now.pairs (first_of c.args.best.now) in
+    let wide : are_wide (move_of c.args.form.now (first_of c.args.best.now)) = subst are_wide c.in_ok-moved.ensures.ok (c.in_err-top.ensures.refused.0 refl) in
     let told : IsErrAnd c.from_residual-in_err-top.result (λ (e : Overwidth). e.place ≡ Sum) =
-    let p = err_from_is_err_and c.from_residual-in_err-top.result c.from_residual-in_err-top.ensures.1 in rw (p.1, p.2) c.in_err-top.ensures.place in
+    let is_error = err_from_is_err_and c.from_residual-in_err-top.result c.from_residual-in_err-top.ensures.1 in rw (is_error.1, is_error.2) c.in_err-top.ensures.place in
     (λ e. (λ w. false≢true (c.in_ok-moved.ensures.refused.1 w), wide), λ w. told)
 
 pub is_separated-requires-clause-p2_to : goal.is_separated-requires-clause-p2_to
@@ -46,8 +46,8 @@ is_separated-requires-clause-p2_to c =
 pub returns-clause-fixed : goal.returns-clause-fixed
 returns-clause-fixed c =
     let fits : FitsSigned w128 c.args.best.now.p2 = search rules in
-    let t : ℤ = to_z w128 (of_z w128 c.in_ok-top.top) in
-    subst (λ (x : ℤ). (IsTrue c.is_separated.result → IsSeparated (pos c.args.ratio) t x) × (IsSeparated (pos c.args.ratio) t x → IsTrue c.is_separated.result))
+    let top : ℤ = to_z w128 (of_z w128 c.in_ok-top.top) in
+    subst (λ (x : ℤ). (IsTrue c.is_separated.result → IsSeparated (pos c.args.ratio) top x) × (IsSeparated (pos c.args.ratio) top x → IsTrue c.is_separated.result))
     (own_word c.args.best.now.p2 fits) c.is_separated.ensures
 
 -- the words that are compared are the numbers
@@ -75,5 +75,5 @@ returns-clause-float c = (λ e. absurd e, λ w. false≢true (c.in_ok-moved.ensu
 
 pub returns-clause-sum : goal.returns-clause-sum
 returns-clause-sum c =
-    let W : List ℤ → Type 0 = AreWide c.args.session.now.arcs (fine_signals c.args.session.now.signals) c.args.session.now.pairs (first_of c.args.best.now) in
-    (λ e. absurd e, λ w. false≢true (c.in_ok-top.ensures.refused.1 (subst W (sym c.in_ok-moved.ensures.ok) w.1)))
+    let are_wide : List ℤ → Type 0 = AreWide c.args.session.now.arcs (fine_signals c.args.session.now.signals) c.args.session.now.pairs (first_of c.args.best.now) in
+    (λ e. absurd e, λ w. false≢true (c.in_ok-top.ensures.refused.1 (subst are_wide (sym c.in_ok-moved.ensures.ok) w.1)))

@@ -33,9 +33,9 @@ pub returns-clause-value : goal.returns-clause-value
 returns-clause-value c =
     let p = c.args.p in
     let q = c.args.q in
-    let t : Parts p.centre q.centre p.rad q.rad = parts p.centre q.centre p.rad q.rad c.requires.p.rad_from c.requires.q.rad_from c.requires.p.below c.requires.q.below in
-    let x : c.size-apart.result ≡ size (p.centre -ℤ q.centre) = c.size-apart.ensures ∙ ap size (difference_word p.centre q.centre t.a_in t.b_in) in
-    gap_word c.size-apart.result (size (p.centre -ℤ q.centre)) p.rad q.rad x t.x_from t.x_to c.requires.p.rad_from t.r_to c.requires.q.rad_from t.s_to
+    let parts_fit : Parts p.centre q.centre p.rad q.rad = parts p.centre q.centre p.rad q.rad c.requires.p.rad_from c.requires.q.rad_from c.requires.p.below c.requires.q.below in
+    let apart_is : c.size-apart.result ≡ size (p.centre -ℤ q.centre) = c.size-apart.ensures ∙ ap size (difference_word p.centre q.centre parts_fit.a_in parts_fit.b_in) in
+    gap_word c.size-apart.result (size (p.centre -ℤ q.centre)) p.rad q.rad apart_is parts_fit.x_from parts_fit.x_to c.requires.p.rad_from parts_fit.r_to c.requires.q.rad_from parts_fit.s_to
 
 pub returns-clause-from : goal.returns-clause-from
 returns-clause-from c = omega (arith, ints)

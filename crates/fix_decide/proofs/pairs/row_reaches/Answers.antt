@@ -10,9 +10,9 @@ pub loop-row-preserved : goal.loop-row-preserved
 loop-row-preserved c =
     let f : Row → RowReach = row_reach c.args.moved.now in
     let inside : c.loop-row.row-index < length c.args.rows.now = search rules in
-    let x : c.row_reach.result ≡ f (get_or c.args.rows.now c.loop-row.row-index c.row-item.result) = c.row_reach.ensures.value ∙ ap f c.row-item.is in
+    let reach_is : c.row_reach.result ≡ f (get_or c.args.rows.now c.loop-row.row-index c.row-item.result) = c.row_reach.ensures.value ∙ ap f c.row-item.is in
     record {
-      value = c.push.ensures.items ∙ ap₂ (λ (a : List RowReach) (b : RowReach). a ++ b ∷ []) c.loop-row.invariant.value x
+      value = c.push.ensures.items ∙ ap₂ (λ (a : List RowReach) (b : RowReach). a ++ b ∷ []) c.loop-row.invariant.value reach_is
           ∙ sym (map_more f c.args.rows.now c.loop-row.row-index c.row-item.result inside);
       modest = subst (All IsModest) (sym c.push.ensures.items) (All-push IsModest c.loop-row.moves.items c.row_reach.result c.loop-row.invariant.modest c.row_reach.ensures.modest);
     }

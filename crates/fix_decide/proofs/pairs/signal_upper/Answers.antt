@@ -46,19 +46,19 @@ returns-clause-value c = λ arcs ss m seen.
 
 pub returns-clause-from : goal.returns-clause-from
 returns-clause-from c =
-    let w : Weighted c.share.result c.gaps.result =
+    let is_weighted : Weighted c.share.result c.gaps.result =
     weighted_rows c.as_slice-rows.result.now c.args.pair.now.rows c.as_slice.result.now c.share.result c.gaps.result c.as_slice-rows.ensures
     (ap length c.as_slice.ensures.value ∙ c.in_ok-put_reaches.ensures.length)
     c.args.pair.now.some_rows c.args.pair.now.few_rows c.share.ensures.from c.share.ensures.to c.gaps.ensures.from c.gaps.ensures.to in
-    subst (λ (x : ℤ). pos 0 ≤ℤ x) (sym (product_word c.share.result c.gaps.result w)) w.from
+    subst (λ (x : ℤ). pos 0 ≤ℤ x) (sym (product_word c.share.result c.gaps.result is_weighted)) is_weighted.from
 
 pub returns-clause-to : goal.returns-clause-to
 returns-clause-to c =
-    let w : Weighted c.share.result c.gaps.result =
+    let is_weighted : Weighted c.share.result c.gaps.result =
     weighted_rows c.as_slice-rows.result.now c.args.pair.now.rows c.as_slice.result.now c.share.result c.gaps.result c.as_slice-rows.ensures
     (ap length c.as_slice.ensures.value ∙ c.in_ok-put_reaches.ensures.length)
     c.args.pair.now.some_rows c.args.pair.now.few_rows c.share.ensures.from c.share.ensures.to c.gaps.ensures.from c.gaps.ensures.to in
-    subst (λ (x : ℤ). x ≤ℤ pos (2 ^ 104)) (sym (product_word c.share.result c.gaps.result w)) w.to
+    subst (λ (x : ℤ). x ≤ℤ pos (2 ^ 104)) (sym (product_word c.share.result c.gaps.result is_weighted)) is_weighted.to
 
 pub returns-clause-narrow : goal.returns-clause-narrow
 returns-clause-narrow c = λ arcs ss m seen.

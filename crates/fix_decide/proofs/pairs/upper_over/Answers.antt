@@ -46,25 +46,25 @@ signal_upper-requires-clause-moves c =
 pub signal_upper-requires-clause-places : goal.signal_upper-requires-clause-places
 signal_upper-requires-clause-places c =
     let ss : List ℕ = c.args.signals.now in
-    let s : ℕ = get_or ss c.loop-signal.signal-index 0 in
+    let signal : ℕ = get_or ss c.loop-signal.signal-index 0 in
     let rows : List Row = c.as_slice-rows.result.now in
-    let are : ArePlacesFrom c.args.arcs.now ss s rows c.first_places-firsts.result c.phase_place.result =
-    are_places c.args.arcs.now ss s rows c.first_places-firsts.result c.phase_place.result c.phase_place.ensures c.first_places-firsts.ensures.value in
+    let are : ArePlacesFrom c.args.arcs.now ss signal rows c.first_places-firsts.result c.phase_place.result =
+    are_places c.args.arcs.now ss signal rows c.first_places-firsts.result c.phase_place.result c.phase_place.ensures c.first_places-firsts.ensures.value in
     subst (λ (n : ℕ). (k : ℕ) → IfSome (slice_index_or c.places_of-places.result k None) (λ i. i < n)) (sym c.requires.entries)
     (λ k. subst (λ (p : Option ℕ). IfSome p (λ i. i < integer_count c.args.arcs.now ss)) (sym (c.places_of-places.ensures k))
-    (are_within c.args.arcs.now ss s rows c.first_places-firsts.result c.phase_place.result are c.first_places-firsts.ensures.none k))
+    (are_within c.args.arcs.now ss signal rows c.first_places-firsts.result c.phase_place.result are c.first_places-firsts.ensures.none k))
 
 pub returns-in_err-sum-clause-refused : goal.returns-in_err-sum-clause-refused
 returns-in_err-sum-clause-refused c =
     let k : ℕ = c.loop-signal.signal-index in
     let inside : k < length c.args.signals.now = search rules in
-    let x : ℕ = get_or c.args.signals.now k 0 in
+    let signal : ℕ = get_or c.args.signals.now k 0 in
     let told : AreSeen c.args.arcs.now c.args.signals.now c.args.moved.now (get_or c.args.signals.now c.loop-signal.signal-index 0) c.args.pair.now.rows
     c.places_of-places.result c.as_slice.result.now =
     seen c.args.arcs.now c.args.signals.now c.args.moved.now (get_or c.args.signals.now c.loop-signal.signal-index 0) c.as_slice-rows.result.now c.args.pair.now.rows
     c.first_places-firsts.result c.places_of-places.result c.phase_place.result c.row_reaches-moves.result.items c.as_slice.result.now c.as_slice-rows.ensures c.phase_place.ensures
     c.first_places-firsts.ensures.value c.places_of-places.ensures c.row_reaches-moves.ensures.value c.as_slice.ensures.value in
-    (λ e. (k, x, inside, get_or_default c.args.signals.now k x 0 inside, c.in_err-sum.ensures.wide c.args.arcs.now c.args.signals.now c.args.moved.now told), λ w. c.from_residual.ensures.0)
+    (λ e. (k, signal, inside, get_or_default c.args.signals.now k signal 0 inside, c.in_err-sum.ensures.wide c.args.arcs.now c.args.signals.now c.args.moved.now told), λ w. c.from_residual.ensures.0)
 
 pub loop-signal-preserved : goal.loop-signal-preserved
 loop-signal-preserved c =
@@ -78,17 +78,17 @@ loop-signal-preserved c =
     seen c.args.arcs.now c.args.signals.now c.args.moved.now (get_or c.args.signals.now c.loop-signal.signal-index 0) c.as_slice-rows.result.now c.args.pair.now.rows
     c.first_places-firsts.result c.places_of-places.result c.phase_place.result c.row_reaches-moves.result.items c.as_slice.result.now c.as_slice-rows.ensures c.phase_place.ensures
     c.first_places-firsts.ensures.value c.places_of-places.ensures c.row_reaches-moves.ensures.value c.as_slice.ensures.value in
-    let e : drop k signals ≡ get_or signals k 0 ∷ drop (k + 1) signals = drop_more signals k 0 inside in
-    let s : ℤ = to_z w128 c.loop-signal.sum-bits in
+    let rest_is : drop k signals ≡ get_or signals k 0 ∷ drop (k + 1) signals = drop_more signals k 0 inside in
+    let sum_so_far : ℤ = to_z w128 c.loop-signal.sum-bits in
     let q : ℤ = c.in_ok-sum.field-0 in
-    let t : Step (to_z w128 (of_z w128 (s +ℤ to_z w128 (of_z w128 q)))) s q k (2 ^ 104) =
-    step s q k (2 ^ 104) c.loop-signal.invariant.from c.loop-signal.invariant.to c.in_ok-sum.ensures.from c.in_ok-sum.ensures.to
+    let step_fits : Step (to_z w128 (of_z w128 (sum_so_far +ℤ to_z w128 (of_z w128 q)))) sum_so_far q k (2 ^ 104) =
+    step sum_so_far q k (2 ^ 104) c.loop-signal.invariant.from c.loop-signal.invariant.to c.in_ok-sum.ensures.from c.in_ok-sum.ensures.to
     (times_below (k + 1) (length signals) (2 ^ 104) (omega arith) (omega arith) (omega arith)) in
     record {
-      value = next s _ q (f (get_or signals k 0)) (sum (map f (drop (k + 1) signals))) (sum (map f signals))
-          (ap (λ (x : List ℕ). s +ℤ sum (map f x)) (sym e) ∙ c.loop-signal.invariant.value) (c.in_ok-sum.ensures.value c.args.arcs.now signals c.args.moved.now told) t.is;
-      from = t.from;
-      to = t.to;
+      value = next sum_so_far _ q (f (get_or signals k 0)) (sum (map f (drop (k + 1) signals))) (sum (map f signals))
+          (ap (λ (x : List ℕ). sum_so_far +ℤ sum (map f x)) (sym rest_is) ∙ c.loop-signal.invariant.value) (c.in_ok-sum.ensures.value c.args.arcs.now signals c.args.moved.now told) step_fits.is;
+      from = step_fits.from;
+      to = step_fits.to;
       narrow = below_more (λ j. IsWideFor c.args.arcs.now signals c.args.z.now c.args.moved.now c.args.pair.now.rows (get_or signals j 0) → ⊥) k
           c.loop-signal.invariant.narrow (c.in_ok-sum.ensures.narrow c.args.arcs.now signals c.args.moved.now told);
     }
@@ -98,15 +98,15 @@ returns-clause-above c =
     let signals : List ℕ = c.args.signals.now in
     let k : ℕ = c.loop-signal.signal-index in
     let f : ℕ → ℤ = signal_upper c.args.arcs.now signals c.args.z.now c.args.moved.now c.args.pair.now in
-    let s : ℤ = to_z w128 c.loop-signal.sum-bits in
+    let sum_so_far : ℤ = to_z w128 c.loop-signal.sum-bits in
     let past : drop k signals ≡ [] = drop_all k signals (omega arith) in
-    let all : s +ℤ pos 0 ≡ sum (map f signals) = ap (λ (x : List ℕ). s +ℤ sum (map f x)) (sym past) ∙ c.loop-signal.invariant.value in
+    let all : sum_so_far +ℤ pos 0 ≡ sum (map f signals) = ap (λ (x : List ℕ). sum_so_far +ℤ sum (map f x)) (sym past) ∙ c.loop-signal.invariant.value in
     let one : List PairRows = c.args.pair.now ∷ [] in
-    subst (StaysAtMost c.args.arcs.now signals one c.args.z.now c.args.moved.now) (sym (no_more s (sum (map f signals)) all))
+    subst (StaysAtMost c.args.arcs.now signals one c.args.z.now c.args.moved.now) (sym (no_more sum_so_far (sum (map f signals)) all))
     (stays_at_most c.args.arcs.now signals one c.args.z.now c.args.moved.now c.requires.entries)
 
 pub returns-clause-refused : goal.returns-clause-refused
 returns-clause-refused c =
     let signals : List ℕ = c.args.signals.now in
-    let P : ℕ → Type 0 = IsWideFor c.args.arcs.now signals c.args.z.now c.args.moved.now c.args.pair.now.rows in
-    (λ e. absurd (false≢true e), λ w. absurd (none_of P signals (λ j h p. c.loop-signal.invariant.narrow j (omega arith) p) w))
+    let is_wide : ℕ → Type 0 = IsWideFor c.args.arcs.now signals c.args.z.now c.args.moved.now c.args.pair.now.rows in
+    (λ e. absurd (false≢true e), λ w. absurd (none_of is_wide signals (λ j h p. c.loop-signal.invariant.narrow j (omega arith) p) w))

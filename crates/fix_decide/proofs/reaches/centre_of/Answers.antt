@@ -15,11 +15,11 @@ centre_at-requires-clause-integer_size c =
 
 pub returns-clause-value : goal.returns-clause-value
 returns-clause-value c =
-    let s = c.args.signal in
+    let signal = c.args.signal in
     let a : ℤ = c.rounded_product.result in
     let n : ℤ = c.integer_of-integer.result in
     let small : unsigned_abs n < 2 ^ 30 = c.integer_of-integer.ensures.size (2 ^ 30) c.requires.z_size (omega arith) in
-    let en : to_z w64 (of_z w64 n) ≡ integer c.args.arcs.now c.args.signals.now c.args.z.now c.args.row.now.arc s = as_w64 n (omega (arith, small)) ∙ c.integer_of-integer.ensures.value in
+    let same_integer : to_z w64 (of_z w64 n) ≡ integer c.args.arcs.now c.args.signals.now c.args.z.now c.args.row.now.arc signal = as_w64 n (omega (arith, small)) ∙ c.integer_of-integer.ensures.value in
     as_w64 c.centre_at.result (omega (arith, c.centre_at.ensures.size)) ∙ c.centre_at.ensures.value
-    ∙ ap₂ (λ x y. (number_at c.args.row.now.y s -ℤ x) -ℤ (cycle s *ℤ y)) (as_w64 a (omega (arith, c.rounded_product.ensures.size)) ∙ c.rounded_product.ensures.value) en
-    ∙ centre_is c.args.arcs.now c.args.signals.now c.args.z.now c.args.moved.now s c.args.row.now
+    ∙ ap₂ (λ x y. (number_at c.args.row.now.y signal -ℤ x) -ℤ (cycle signal *ℤ y)) (as_w64 a (omega (arith, c.rounded_product.ensures.size)) ∙ c.rounded_product.ensures.value) same_integer
+    ∙ centre_is c.args.arcs.now c.args.signals.now c.args.z.now c.args.moved.now signal c.args.row.now

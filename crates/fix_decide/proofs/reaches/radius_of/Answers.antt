@@ -16,8 +16,8 @@ at_most y u k h g = omega (arith, ints)
 
 pub overflow_add-result-2 : goal.overflow_add-result-2
 overflow_add-result-2 c =
-    let r0 = c.args.row.now.ry_in.0 in
-    let r1 = c.args.row.now.ry_in.1 in
+    let ry_not_negative = c.args.row.now.ry_in.0 in
+    let ry_at_most = c.args.row.now.ry_in.1 in
     omega (arith, ints, c.rounded_product.ensures.size)
 
 pub returns-clause-value : goal.returns-clause-value
@@ -29,16 +29,16 @@ returns-clause-value c =
 pub returns-clause-from : goal.returns-clause-from
 returns-clause-from c =
     let ru : List ℤ = c.args.row.now.ru in
-    let l0 : 0 < length c.args.row.now.ru = search rules in
-    let l1 : 1 < length c.args.row.now.ru = search rules in
-    let l2 : 2 < length c.args.row.now.ru = search rules in
-    let e : c.rounded_product.result ≡ ceil_div (scalar_product ru (map size c.args.moved.now)) (2 ^ move_exponent) =
+    let has_first : 0 < length c.args.row.now.ru = search rules in
+    let has_second : 1 < length c.args.row.now.ru = search rules in
+    let has_third : 2 < length c.args.row.now.ru = search rules in
+    let product_is : c.rounded_product.result ≡ ceil_div (scalar_product ru (map size c.args.moved.now)) (2 ^ move_exponent) =
     c.rounded_product.ensures.value ∙ ap (λ (l : List ℤ). ceil_div (scalar_product ru l) (2 ^ move_exponent)) c.sizes.ensures.value in
-    let p : pos 0 ≤ℤ scalar_product ru (map size c.args.moved.now) =
-    product_nonneg ru c.args.moved.now (c.args.row.now.ru_in 0 (pos 0) l0).0 (c.args.row.now.ru_in 1 (pos 0) l1).0 (c.args.row.now.ru_in 2 (pos 0) l2).0 in
-    let u : pos 0 ≤ℤ c.rounded_product.result = subst (λ (x : ℤ). pos 0 ≤ℤ x) (sym e) (ceil_nonneg (scalar_product ru (map size c.args.moved.now)) (2 ^ move_exponent) p) in
+    let sum_not_negative : pos 0 ≤ℤ scalar_product ru (map size c.args.moved.now) =
+    product_nonneg ru c.args.moved.now (c.args.row.now.ru_in 0 (pos 0) has_first).0 (c.args.row.now.ru_in 1 (pos 0) has_second).0 (c.args.row.now.ru_in 2 (pos 0) has_third).0 in
+    let result_not_negative : pos 0 ≤ℤ c.rounded_product.result = subst (λ (x : ℤ). pos 0 ≤ℤ x) (sym product_is) (ceil_nonneg (scalar_product ru (map size c.args.moved.now)) (2 ^ move_exponent) sum_not_negative) in
     subst (λ (x : ℤ). pos 0 ≤ℤ x) (sym (radius_word c.args.row.now.ry c.rounded_product.result c.args.row.now.ry_in.0 c.args.row.now.ry_in.1 c.rounded_product.ensures.size))
-    (at_least_one c.args.row.now.ry c.rounded_product.result c.args.row.now.ry_in.0 u)
+    (at_least_one c.args.row.now.ry c.rounded_product.result c.args.row.now.ry_in.0 result_not_negative)
 
 pub returns-clause-to : goal.returns-clause-to
 returns-clause-to c =

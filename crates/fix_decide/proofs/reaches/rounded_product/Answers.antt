@@ -6,6 +6,6 @@ use Rattle.obs_rows.specs.Best.{move_exponent}
 
 pub returns-clause-value : goal.returns-clause-value
 returns-clause-value c =
-    let s : ℤ = c.scalar_product.result in
+    let product : ℤ = c.scalar_product.result in
     as_w64 c.rounded_up.result (omega (arith, c.rounded_up.ensures.size)) ∙ c.rounded_up.ensures.value
-    ∙ ap (λ x. ceil_div x (2 ^ move_exponent)) (as_w128 s (omega (arith, c.scalar_product.ensures.size)) ∙ c.scalar_product.ensures.value)
+    ∙ ap (λ x. ceil_div x (2 ^ move_exponent)) (as_w128 product (omega (arith, c.scalar_product.ensures.size)) ∙ c.scalar_product.ensures.value)

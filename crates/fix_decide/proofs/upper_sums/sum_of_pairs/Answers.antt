@@ -19,22 +19,22 @@ pub loop-pair-preserved : goal.loop-pair-preserved
 loop-pair-preserved c =
     let pairs : List PairRows = c.args.pairs.now in
     let k : ℕ = c.loop-pair.pair-index in
-    let x : PairRows = c.pair-item.result in
+    let pair : PairRows = c.pair-item.result in
     let f : PairRows → ℤ = pair_upper c.args.arcs.now c.args.signals.now c.args.z.now c.args.moved.now in
     let inside : k < length pairs = search rules in
     let later : List PairRows = drop (k + 1) pairs in
-    let e : drop k pairs ≡ x ∷ later = drop_more pairs k x inside ∙ ap (λ (y : PairRows). y ∷ later) (sym c.pair-item.is) in
-    let s : ℤ = to_z w128 c.loop-pair.sum-bits in
+    let rest_is : drop k pairs ≡ pair ∷ later = drop_more pairs k pair inside ∙ ap (λ (y : PairRows). y ∷ later) (sym c.pair-item.is) in
+    let sum_so_far : ℤ = to_z w128 c.loop-pair.sum-bits in
     let q : ℤ = c.in_ok-sum.field-0 in
-    let t : Step (to_z w128 (of_z w128 (s +ℤ to_z w128 (of_z w128 q)))) s q k (2 ^ 107) =
-    step s q k (2 ^ 107) c.loop-pair.invariant.from c.loop-pair.invariant.to c.in_ok-sum.ensures.from c.in_ok-sum.ensures.to (few_pairs k (length pairs) inside c.requires.few) in
-    let W : PairRows → Type 0 = IsWide c.args.arcs.now c.args.signals.now c.args.z.now c.args.moved.now in
+    let step_fits : Step (to_z w128 (of_z w128 (sum_so_far +ℤ to_z w128 (of_z w128 q)))) sum_so_far q k (2 ^ 107) =
+    step sum_so_far q k (2 ^ 107) c.loop-pair.invariant.from c.loop-pair.invariant.to c.in_ok-sum.ensures.from c.in_ok-sum.ensures.to (few_pairs k (length pairs) inside c.requires.few) in
+    let is_wide : PairRows → Type 0 = IsWide c.args.arcs.now c.args.signals.now c.args.z.now c.args.moved.now in
     record {
-      value = next s _ q (f x) (sum (map f later)) (sum (map f pairs)) (ap (λ (l : List PairRows). s +ℤ sum (map f l)) (sym e) ∙ c.loop-pair.invariant.value) c.in_ok-sum.ensures.value t.is;
-      from = t.from;
-      to = t.to;
-      narrow = below_more (λ j. (d : PairRows) → W (get_or pairs j d) → ⊥) k c.loop-pair.invariant.narrow
-          (λ d w. false≢true (c.in_ok-sum.ensures.refused.1 (subst W (get_or_default pairs k d x inside ∙ sym c.pair-item.is) w)));
+      value = next sum_so_far _ q (f pair) (sum (map f later)) (sum (map f pairs)) (ap (λ (l : List PairRows). sum_so_far +ℤ sum (map f l)) (sym rest_is) ∙ c.loop-pair.invariant.value) c.in_ok-sum.ensures.value step_fits.is;
+      from = step_fits.from;
+      to = step_fits.to;
+      narrow = below_more (λ j. (d : PairRows) → is_wide (get_or pairs j d) → ⊥) k c.loop-pair.invariant.narrow
+          (λ d w. false≢true (c.in_ok-sum.ensures.refused.1 (subst is_wide (get_or_default pairs k d pair inside ∙ sym c.pair-item.is) w)));
     }
 
 pub returns-clause-refused : goal.returns-clause-refused

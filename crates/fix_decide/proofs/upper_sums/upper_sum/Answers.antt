@@ -19,17 +19,17 @@ smaller t u h g k = omega (arith, ints)
 
 pub returns-in_err-sum-clause-refused : goal.returns-in_err-sum-clause-refused
 returns-in_err-sum-clause-refused c =
-    let W : List Arc → List ℕ → List PairRows → Type 0 = λ a ss p. AreWide a ss p c.args.z.now c.args.moved.now in
-    let ss : List ℕ = c.fine_signals.result.now in
-    let wide : W c.as_slice.result.now ss c.as_slice-2.result.now = c.in_err-sum.ensures.refused.0 refl in
-    let of_arcs : W c.args.session.now.arcs ss c.as_slice-2.result.now = subst (λ (a : List Arc). W a ss c.as_slice-2.result.now) c.as_slice.ensures wide in
-    let of_pairs : W c.args.session.now.arcs ss c.args.session.now.pairs = subst (λ (p : List PairRows). W c.args.session.now.arcs ss p) c.as_slice-2.ensures of_arcs in
-    (λ e. subst (λ (x : List ℕ). W c.args.session.now.arcs x c.args.session.now.pairs) c.fine_signals.ensures.value of_pairs, λ w. c.from_residual.ensures.0)
+    let are_wide : List Arc → List ℕ → List PairRows → Type 0 = λ a ss p. AreWide a ss p c.args.z.now c.args.moved.now in
+    let fine : List ℕ = c.fine_signals.result.now in
+    let wide : are_wide c.as_slice.result.now fine c.as_slice-2.result.now = c.in_err-sum.ensures.refused.0 refl in
+    let of_arcs : are_wide c.args.session.now.arcs fine c.as_slice-2.result.now = subst (λ (a : List Arc). are_wide a fine c.as_slice-2.result.now) c.as_slice.ensures wide in
+    let of_pairs : are_wide c.args.session.now.arcs fine c.args.session.now.pairs = subst (λ (p : List PairRows). are_wide c.args.session.now.arcs fine p) c.as_slice-2.ensures of_arcs in
+    (λ e. subst (λ (x : List ℕ). are_wide c.args.session.now.arcs x c.args.session.now.pairs) c.fine_signals.ensures.value of_pairs, λ w. c.from_residual.ensures.0)
 
 pub returns-clause-above : goal.returns-clause-above
 returns-clause-above c =
     let arcs : List Arc = c.args.session.now.arcs in
-    let ss : List ℕ = fine_signals c.args.session.now.signals in
+    let fine : List ℕ = fine_signals c.args.session.now.signals in
     let pairs : List PairRows = c.args.session.now.pairs in
     let z : List ℤ = c.args.z.now in
     let m : List ℤ = c.args.moved.now in
@@ -37,24 +37,24 @@ returns-clause-above c =
     let u : ℤ = c.in_ok-sum.sum in
     let t : ℤ = c.ceil_shift.result in
     let u_word : to_z w128 (of_z w128 u) ≡ u = small_w128 u c.in_ok-sum.ensures.from (top_fits u c.in_ok-sum.ensures.to) in
-    let u_is : u ≡ upper_sum arcs ss pairs z m =
+    let u_is : u ≡ upper_sum arcs fine pairs z m =
     c.in_ok-sum.ensures.value ∙ ap₂ (λ (a : List Arc) (p : List PairRows). upper_sum a c.fine_signals.result.now p z m) c.as_slice.ensures c.as_slice-2.ensures
     ∙ ap (λ (x : List ℕ). upper_sum arcs x pairs z m) c.fine_signals.ensures.value in
-    let t_is : t ≡ top h arcs ss pairs z m = c.ceil_shift.ensures.value ∙ ap (λ x. ceil_div x (2 ^ h)) (u_word ∙ u_is) in
+    let t_is : t ≡ top h arcs fine pairs z m = c.ceil_shift.ensures.value ∙ ap (λ x. ceil_div x (2 ^ h)) (u_word ∙ u_is) in
     let t_word : to_z w128 (of_z w128 t) ≡ t =
     as_w128 t (smaller t u c.in_ok-sum.ensures.from c.in_ok-sum.ensures.to
     (subst (λ (x : ℤ). unsigned_abs t ≤ unsigned_abs x) u_word c.ceil_shift.ensures.size)) in
-    subst (λ (x : ℤ). StaysAtMost arcs ss pairs z m (pos (2 ^ h) *ℤ x)) (sym (t_word ∙ t_is)) (top_stays_at_most h arcs ss pairs z m c.requires.entries)
+    subst (λ (x : ℤ). StaysAtMost arcs fine pairs z m (pos (2 ^ h) *ℤ x)) (sym (t_word ∙ t_is)) (top_stays_at_most h arcs fine pairs z m c.requires.entries)
 
 pub returns-clause-refused : goal.returns-clause-refused
 returns-clause-refused c =
-    let W : List Arc → List ℕ → List PairRows → Type 0 = λ a ss p. AreWide a ss p c.args.z.now c.args.moved.now in
-    let ss : List ℕ = c.fine_signals.result.now in
+    let are_wide : List Arc → List ℕ → List PairRows → Type 0 = λ a ss p. AreWide a ss p c.args.z.now c.args.moved.now in
+    let fine : List ℕ = c.fine_signals.result.now in
     let arcs : List Arc = c.args.session.now.arcs in
     let pairs : List PairRows = c.args.session.now.pairs in (
       λ e. absurd (false≢true e),
       λ w.
-          let of_signals : W arcs ss pairs = subst (λ (x : List ℕ). W arcs x pairs) (sym c.fine_signals.ensures.value) w in
-          let of_arcs : W c.as_slice.result.now ss pairs = subst (λ (a : List Arc). W a ss pairs) (sym c.as_slice.ensures) of_signals in
-          c.in_ok-sum.ensures.refused.1 (subst (λ (p : List PairRows). W c.as_slice.result.now ss p) (sym c.as_slice-2.ensures) of_arcs),
+          let of_signals : are_wide arcs fine pairs = subst (λ (x : List ℕ). are_wide arcs x pairs) (sym c.fine_signals.ensures.value) w in
+          let of_arcs : are_wide c.as_slice.result.now fine pairs = subst (λ (a : List Arc). are_wide a fine pairs) (sym c.as_slice.ensures) of_signals in
+          c.in_ok-sum.ensures.refused.1 (subst (λ (p : List PairRows). are_wide c.as_slice.result.now fine p) (sym c.as_slice-2.ensures) of_arcs),
     )

@@ -6,8 +6,8 @@ use Rattle.grammar_lines.proofs.arcs.next_arc.Goals as goal
 
 pub returns-in_err-line-clause-reads : goal.returns-in_err-line-clause-reads
 returns-in_err-line-clause-reads g c = λ s next takes.
-    let p = err_from_is_err_and c.from_residual.result c.from_residual.ensures.1 in
-    rw (p.1, p.2) (line_wants g.G.Grammar.rules s (arc_in c.args.version (fine_signals c.args.signals) c.args.free c.args.left) next _ _ _ takes c.in_err-line.ensures)
+    let err_parts = err_from_is_err_and c.from_residual.result c.from_residual.ensures.1 in
+    rw (err_parts.1, err_parts.2) (line_wants g.G.Grammar.rules s (arc_in c.args.version (fine_signals c.args.signals) c.args.free c.args.left) next _ _ _ takes c.in_err-line.ensures)
 
 pub returns-in-Ok-clause-reads : goal.returns-in-Ok-clause-reads
 returns-in-Ok-clause-reads g c = λ s next takes.

@@ -4,8 +4,8 @@ use Rattle.grammar_lines.proofs.tails.read_end.Goals as goal
 
 pub returns-in_err-line : goal.returns-in_err-line
 returns-in_err-line g c = λ s is.
-    let p = err_from_is_err_and c.from_residual.result c.from_residual.ensures.1 in
-    rw (p.1, p.2) (has_long g.G.Grammar.rules s _ _ _ c.in_err-line.ensures)
+    let err_parts = err_from_is_err_and c.from_residual.result c.from_residual.ensures.1 in
+    rw (err_parts.1, err_parts.2) (has_long g.G.Grammar.rules s _ _ _ c.in_err-line.ensures)
 
 pub returns-in-Some : goal.returns-in-Some
 returns-in-Some g c = λ s is.

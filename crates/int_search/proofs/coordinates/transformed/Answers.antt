@@ -46,14 +46,14 @@ returns-clause-form c =
     let n : ℕ = c.args.change.now.size in
     let m : ℕ → ℕ → ℤ = entry c.args.change.now.map in
     let p : ℕ → ℕ → ℤ = entry c.args.form.now.p in
-    let e : n ≡ integers_of c.args.form.now = c.requires in
-    let f : 4 ≤ c.args.form.now.columns = c.args.form.now.columns_from in
-    let k : c.of.result.columns ≡ n + 4 = c.of.ensures.columns ∙ omega arith in
-    let w : c.of.result.columns - 3 ≡ n + 1 = omega arith in
-    subst (λ (k : ℕ). IsTransformed k c.args.change.now.map c.args.form.now.p c.of.result) e
+    let size_is : n ≡ integers_of c.args.form.now = c.requires in
+    let enough_columns : 4 ≤ c.args.form.now.columns = c.args.form.now.columns_from in
+    let column_count : c.of.result.columns ≡ n + 4 = c.of.ensures.columns ∙ omega arith in
+    let width_is : c.of.result.columns - 3 ≡ n + 1 = omega arith in
+    subst (λ (column_count : ℕ). IsTransformed column_count c.args.change.now.map c.args.form.now.p c.of.result) size_is
     (record {
-      columns = k;
+      columns = column_count;
       form = ap (λ (t : List (List ℤ)). form_of_table t (c.of.result.columns - 3)) c.of.ensures.p
-          ∙ table_form n (c.of.result.columns - 3) c.args.change.now.map c.args.form.now.p c.write_wholes.new.p w
+          ∙ table_form n (c.of.result.columns - 3) c.args.change.now.map c.args.form.now.p c.write_wholes.new.p width_is
           (λ i j h g. (c.if-not-write_wholes.ensures.done refl).same i j h g ∙ wholes_as n m (entry c.write_halves.new.halves) (half_entry n m p) c.write_halves.ensures.value i j g);
     })

@@ -13,18 +13,18 @@ use Rattle.int_search.proofs.coordinates.whole.Goals as goal
 pub loop-a-preserved : goal.loop-a-preserved
 loop-a-preserved c =
     let a : ℕ = c.loop-a.a in
-    let s : ℤ = to_z w128 c.loop-a.sum-bits in
-    let f : ℕ → ℤ = λ a. entry c.args.halves.now a c.args.j *ℤ with_constant c.args.n (entry c.args.map.now) a c.args.i in
-    let em : to_z w64 (of_z w64 c.map_entry.result) ≡ with_constant c.args.n (entry c.args.map.now) a c.args.i = rest_w64 c.map_entry.result c.map_entry.ensures.size ∙ c.map_entry.ensures.value in
-    let hs : unsigned_abs (entry c.args.halves.now a c.args.j) ≤ 2 ^ 88 = c.requires.halves a c.loop-a-test.true in
-    let eh : to_z w128 (of_z w128 c.at.result) ≡ entry c.args.halves.now a c.args.j = ap (λ z. to_z w128 (of_z w128 z)) c.at.ensures.value
-    ∙ as_w128 (entry c.args.halves.now a c.args.j) (omega (arith, hs)) in
-    let v : c.half_product-sum.result ≡ f a = c.half_product-sum.ensures.value ∙ ap₂ (λ x y. x *ℤ y) eh em in
-    let w : to_z w128 (of_z w128 c.half_product-sum.result) ≡ c.half_product-sum.result = as_w128 c.half_product-sum.result (omega (arith, c.half_product-sum.ensures.size)) in
-    let n : a < MOST_FORM_COLUMNS = omega (arith, c.requires.size, c.loop-a-test.true) in
-    let ws : to_z w128 (of_z w128 (s +ℤ to_z w128 (of_z w128 c.half_product-sum.result))) ≡ s +ℤ c.half_product-sum.result = ap (λ z. to_z w128 (of_z w128 (s +ℤ z))) w
-    ∙ wide_sum_word s c.half_product-sum.result a n c.loop-a.invariant.size c.half_product-sum.ensures.size in
+    let sum : ℤ = to_z w128 c.loop-a.sum-bits in
+    let term : ℕ → ℤ = λ a. entry c.args.halves.now a c.args.j *ℤ with_constant c.args.n (entry c.args.map.now) a c.args.i in
+    let map_entry_is : to_z w64 (of_z w64 c.map_entry.result) ≡ with_constant c.args.n (entry c.args.map.now) a c.args.i = rest_w64 c.map_entry.result c.map_entry.ensures.size ∙ c.map_entry.ensures.value in
+    let half_small : unsigned_abs (entry c.args.halves.now a c.args.j) ≤ 2 ^ 88 = c.requires.halves a c.loop-a-test.true in
+    let half_is : to_z w128 (of_z w128 c.at.result) ≡ entry c.args.halves.now a c.args.j = ap (λ z. to_z w128 (of_z w128 z)) c.at.ensures.value
+    ∙ as_w128 (entry c.args.halves.now a c.args.j) (omega (arith, half_small)) in
+    let product_is : c.half_product-sum.result ≡ term a = c.half_product-sum.ensures.value ∙ ap₂ (λ x y. x *ℤ y) half_is map_entry_is in
+    let product_kept : to_z w128 (of_z w128 c.half_product-sum.result) ≡ c.half_product-sum.result = as_w128 c.half_product-sum.result (omega (arith, c.half_product-sum.ensures.size)) in
+    let place_in_form : a < MOST_FORM_COLUMNS = omega (arith, c.requires.size, c.loop-a-test.true) in
+    let sum_kept : to_z w128 (of_z w128 (sum +ℤ to_z w128 (of_z w128 c.half_product-sum.result))) ≡ sum +ℤ c.half_product-sum.result = ap (λ z. to_z w128 (of_z w128 (sum +ℤ z))) product_kept
+    ∙ wide_sum_word sum c.half_product-sum.result a place_in_form c.loop-a.invariant.size c.half_product-sum.ensures.size in
     record {
-      value = ws ∙ ap₂ (λ x y. x +ℤ y) c.loop-a.invariant.value v ∙ sym (total_last f 0 a ∙ ap (λ (i : ℕ). total f 0 a +ℤ f i) (zero-add a));
-      size = subst (λ (z : ℤ). unsigned_abs z ≤ (a + 1) * 2 ^ 118) (sym ws) (wide_sum_size s c.half_product-sum.result a c.loop-a.invariant.size c.half_product-sum.ensures.size);
+      value = sum_kept ∙ ap₂ (λ x y. x +ℤ y) c.loop-a.invariant.value product_is ∙ sym (total_last term 0 a ∙ ap (λ (i : ℕ). total term 0 a +ℤ term i) (zero-add a));
+      size = subst (λ (z : ℤ). unsigned_abs z ≤ (a + 1) * 2 ^ 118) (sym sum_kept) (wide_sum_size sum c.half_product-sum.result a c.loop-a.invariant.size c.half_product-sum.ensures.size);
     }

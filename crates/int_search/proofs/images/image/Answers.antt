@@ -14,39 +14,39 @@ loop-i-init c = record { done = λ k h. absurd (omega arith); small = small_zero
 pub returns-then-is_large : goal.returns-then-is_large
 returns-then-is_large c =
     let m : List (List ℤ) = c.args.map.now in
-    let v : List ℤ = suffix c.args.z.now 0 c.args.size in
-    let b = c.is_large.ensures.yes (rw c.if-is_large.true (search rules)) in
-    let s = c.row_product-entry.ensures.size in
-    let r = c.requires.map.shape.rows in
-    let e : get_or (image_of m c.args.size v) c.loop-i.i (pos 0) ≡ c.row_product-entry.result = image_at m c.args.size c.loop-i.i v (omega arith) (omega arith)
+    let vector : List ℤ = suffix c.args.z.now 0 c.args.size in
+    let is_large_entry = c.is_large.ensures.yes (rw c.if-is_large.true (search rules)) in
+    let entry_small = c.row_product-entry.ensures.size in
+    let row_count = c.requires.map.shape.rows in
+    let entry_is : get_or (image_of m c.args.size vector) c.loop-i.i (pos 0) ≡ c.row_product-entry.result = image_at m c.args.size c.loop-i.i vector (omega arith) (omega arith)
     ∙ sym c.row_product-entry.ensures.value in
-    let w : 2 ^ 30 ≤ unsigned_abs c.row_product-entry.result = omega (arith, ints) in
-    (c.loop-i.i, rw e w)
+    let entry_too_large : 2 ^ 30 ≤ unsigned_abs c.row_product-entry.result = omega (arith, ints) in
+    (c.loop-i.i, rw entry_is entry_too_large)
 
 pub loop-i-preserved : goal.loop-i-preserved
 loop-i-preserved c =
-    let v : List ℤ = suffix c.args.z.now 0 c.args.size in
+    let vector : List ℤ = suffix c.args.z.now 0 c.args.size in
     let y : List ℤ = c.loop-i.y in
-    let b = c.is_large.ensures.no c.if-is_large.false in
-    let s = c.row_product-entry.ensures.size in
-    let g : unsigned_abs c.row_product-entry.result < 2 ^ 30 = omega (arith, ints) in
-    let t : to_z w64 (of_z w64 (to_z w128 (of_z w128 c.row_product-entry.result))) ≡ c.row_product-entry.result = omega (arith, ints) in
-    let r = c.loop-i.invariant.room in
+    let not_large = c.is_large.ensures.no c.if-is_large.false in
+    let entry_small = c.row_product-entry.ensures.size in
+    let entry_below : unsigned_abs c.row_product-entry.result < 2 ^ 30 = omega (arith, ints) in
+    let entry_kept : to_z w64 (of_z w64 (to_z w128 (of_z w128 c.row_product-entry.result))) ≡ c.row_product-entry.result = omega (arith, ints) in
+    let has_room = c.loop-i.invariant.room in
     record {
-      done = done_set c.args.map.now v y c.loop-i.i _ (omega arith) c.loop-i.invariant.done (t ∙ c.row_product-entry.ensures.value);
-      small = small_set y c.loop-i.i _ c.loop-i.invariant.small (rw t g);
+      done = done_set c.args.map.now vector y c.loop-i.i _ (omega arith) c.loop-i.invariant.done (entry_kept ∙ c.row_product-entry.ensures.value);
+      small = small_set y c.loop-i.i _ c.loop-i.invariant.small (rw entry_kept entry_below);
       zeros = zeros_set y c.args.size c.loop-i.i _ (omega arith) c.loop-i.invariant.zeros;
-      room = length-set y c.loop-i.i _ ∙ r;
+      room = length-set y c.loop-i.i _ ∙ has_room;
     }
 
 pub returns : goal.returns
 returns c =
-    let v : List ℤ = suffix c.args.z.now 0 c.args.size in
-    let r = c.loop-i.invariant.room in
-    let s = c.requires.map.shape.rows in
+    let vector : List ℤ = suffix c.args.z.now 0 c.args.size in
+    let has_room = c.loop-i.invariant.room in
+    let row_count = c.requires.map.shape.rows in
     record {
-      room = r;
+      room = has_room;
       small = c.loop-i.invariant.small;
       zeros = c.loop-i.invariant.zeros;
-      is = image_done c.args.map.now v c.loop-i.y c.args.size (omega arith) (omega arith) (λ k h. c.loop-i.invariant.done k (omega arith));
+      is = image_done c.args.map.now vector c.loop-i.y c.args.size (omega arith) (omega arith) (λ k h. c.loop-i.invariant.done k (omega arith));
     }

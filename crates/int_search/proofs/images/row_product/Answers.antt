@@ -10,27 +10,27 @@ use Rattle.int_search.proofs.images.row_product.Goals as goal
 
 pub loop-k-preserved : goal.loop-k-preserved
 loop-k-preserved c =
-    let r : List ℤ = get_or c.args.map.now c.args.row [] in
+    let row : List ℤ = get_or c.args.map.now c.args.row [] in
     let z : List ℤ = c.args.z.now in
     let k : ℕ = c.loop-k.k in
-    let a : length z ≡ MOST_INTEGERS = c.told-z in
-    let w : length r ≡ MOST_INTEGERS = c.requires.map.shape.columns c.args.row c.requires.row_in in
-    let s = product_step r z k c.args.size (omega arith) (omega arith) (omega arith) in
-    let v : SFits w64 (get_or z k (pos 0)) = search rules in
-    let e : c.at.result ≡ get_or r k (pos 0) = c.at.ensures.value in
-    let p : c.small_product-sum.result ≡ get_or r k (pos 0) *ℤ get_or z k (pos 0) = subst (λ (x : ℤ). c.small_product-sum.result ≡ x *ℤ get_or z k (pos 0)) e (grind (arith, to_z-of_z)) in
-    let q = c.small_product-sum.ensures.size in
-    let t = c.loop-k.invariant.total in
-    let b = c.loop-k.invariant.small in
-    record { total = omega (arith, lins, s, p); small = omega (arith, ints) }
+    let vector_full : length z ≡ MOST_INTEGERS = c.told-z in
+    let row_full : length row ≡ MOST_INTEGERS = c.requires.map.shape.columns c.args.row c.requires.row_in in
+    let product_opens = product_step row z k c.args.size (omega arith) (omega arith) (omega arith) in
+    let fits_word : SFits w64 (get_or z k (pos 0)) = search rules in
+    let entry_is : c.at.result ≡ get_or row k (pos 0) = c.at.ensures.value in
+    let product_is : c.small_product-sum.result ≡ get_or row k (pos 0) *ℤ get_or z k (pos 0) = subst (λ (x : ℤ). c.small_product-sum.result ≡ x *ℤ get_or z k (pos 0)) entry_is (grind (arith, to_z-of_z)) in
+    let product_small = c.small_product-sum.ensures.size in
+    let total_so_far = c.loop-k.invariant.total in
+    let sum_small = c.loop-k.invariant.small in
+    record { total = omega (arith, lins, product_opens, product_is); small = omega (arith, ints) }
 
 pub returns-clause-value : goal.returns-clause-value
 returns-clause-value c =
-    let r : List ℤ = get_or c.args.map.now c.args.row [] in
+    let row : List ℤ = get_or c.args.map.now c.args.row [] in
     let z : List ℤ = c.args.z.now in
     let n : ℕ = c.args.size in
-    let e : c.loop-k.k ≡ n = omega arith in
-    let P : ℕ → Type 0 = λ k. to_z w128 c.loop-k.sum-bits +ℤ dot (drop k r) (suffix z k n) ≡ dot r (suffix z 0 n) in
-    let u : to_z w128 c.loop-k.sum-bits +ℤ dot (drop n r) (suffix z n n) ≡ dot r (suffix z 0 n) = subst P e c.loop-k.invariant.total in
-    let q = product_end r z n in
-    omega (arith, lins, u, q)
+    let all_taken : c.loop-k.k ≡ n = omega arith in
+    let P : ℕ → Type 0 = λ k. to_z w128 c.loop-k.sum-bits +ℤ dot (drop k row) (suffix z k n) ≡ dot row (suffix z 0 n) in
+    let sum_is_dot : to_z w128 c.loop-k.sum-bits +ℤ dot (drop n row) (suffix z n n) ≡ dot row (suffix z 0 n) = subst P all_taken c.loop-k.invariant.total in
+    let none_left = product_end row z n in
+    omega (arith, lins, sum_is_dot, none_left)

@@ -17,35 +17,35 @@ further x z o p z_small o_small is o_is = (rw (as_w64 z (omega (arith, z_small))
 
 pub returns-then-is_large : goal.returns-then-is_large
 returns-then-is_large c =
-    let f : SearchForm = search_form c.args.form.now in
+    let form : SearchForm = search_form c.args.form.now in
     let z : List ℤ = c.args.z.now in
-    let z0 : ℤ = get_or z 0 (pos 0) in
-    let s : List ℤ = suffix z 1 f.size in
-    let k = searchable c.args.form.now c.requires.some in
-    let some : 0 < integers_of c.args.form.now = k.some in
+    let first : ℤ = get_or z 0 (pos 0) in
+    let further_entries : List ℤ = suffix z 1 form.size in
+    let is_searchable = searchable c.args.form.now c.requires.some in
+    let some : 0 < integers_of c.args.form.now = is_searchable.some in
     let most = c.args.form.now.columns_to in
     let room = c.requires.point.room in
-    let x = further _ _ _ _ (c.requires.point.small 0) c.first_offset.ensures.size c.one_further-x.ensures.value c.first_offset.ensures.value in
+    let entry_small = further _ _ _ _ (c.requires.point.small 0) c.first_offset.ensures.size c.one_further-x.ensures.value c.first_offset.ensures.value in
     let size = c.one_further-x.ensures.size in
-    let head = point_head f z (omega arith) some c.requires.point.is in
+    let head = point_head form z (omega arith) some c.requires.point.is in
     let large = c.is_large.ensures.yes (rw c.if-is_large.true (search rules)) in
-    neighbour_wide f z0 c.one_further-x.result s k head x (omega (arith, ints))
+    neighbour_wide form first c.one_further-x.result further_entries is_searchable head entry_small (omega (arith, ints))
 
 pub returns : goal.returns
 returns c =
-    let f : SearchForm = search_form c.args.form.now in
+    let form : SearchForm = search_form c.args.form.now in
     let z : List ℤ = c.args.z.now in
-    let k = searchable c.args.form.now c.requires.some in
-    let some : 0 < integers_of c.args.form.now = k.some in
+    let is_searchable = searchable c.args.form.now c.requires.some in
+    let some : 0 < integers_of c.args.form.now = is_searchable.some in
     let most = c.args.form.now.columns_to in
     let room = c.requires.point.room in
-    let x = further _ _ _ _ (c.requires.point.small 0) c.first_offset.ensures.size c.one_further-x.ensures.value c.first_offset.ensures.value in
+    let entry_small = further _ _ _ _ (c.requires.point.small 0) c.first_offset.ensures.size c.one_further-x.ensures.value c.first_offset.ensures.value in
     let size = c.one_further-x.ensures.size in
     let word = as_w64 c.one_further-x.result (omega (arith, size)) in
     let small = c.is_large.ensures.no c.if-is_large.false in
     record {
       room = length-set z 0 _ ∙ room;
       small = small_set z 0 _ c.requires.point.small (omega (arith, ints));
-      zeros = zeros_set z f.size 0 _ some c.requires.point.zeros;
-      is = neighbour_set f z _ (omega arith) some c.requires.point.is (word ∙ x);
+      zeros = zeros_set z form.size 0 _ some c.requires.point.zeros;
+      is = neighbour_set form z _ (omega arith) some c.requires.point.is (word ∙ entry_small);
     }

@@ -14,12 +14,12 @@ use Rattle.int_search.proofs.points.rounded_point.Goals as goal
 
 pub loop-i-init : goal.loop-i-init
 loop-i-init c =
-    let f : SearchForm = search_form c.args.form.now in
+    let form : SearchForm = search_form c.args.form.now in
     let n : ℕ = integers_of c.args.form.now in
-    let e : n ≡ c.args.form.now.columns - 3 - 1 = omega arith in
+    let size_is : n ≡ c.args.form.now.columns - 3 - 1 = omega arith in
     record {
       within = omega arith;
-      point = subst (λ (m : ℕ). suffix (replicate MOST_INTEGERS (pos 0)) m n ≡ rounded f (n - m)) e (rounded_first f (replicate MOST_INTEGERS (pos 0)));
+      point = subst (λ (m : ℕ). suffix (replicate MOST_INTEGERS (pos 0)) m n ≡ rounded form (n - m)) size_is (rounded_first form (replicate MOST_INTEGERS (pos 0)));
       small = small_zero MOST_INTEGERS;
       zeros = zeros_start MOST_INTEGERS n;
       room = refl;
@@ -27,50 +27,50 @@ loop-i-init c =
 
 pub returns-then-is_large : goal.returns-then-is_large
 returns-then-is_large c =
-    let f : SearchForm = search_form c.args.form.now in
+    let form : SearchForm = search_form c.args.form.now in
     let n : ℕ = integers_of c.args.form.now in
     let i : ℕ = c.loop-i.i - 1 in
-    let w = c.loop-i.invariant.within in
+    let place_within = c.loop-i.invariant.within in
     let back : c.loop-i.i ≡ i + 1 = omega arith in
-    let q : suffix c.loop-i.z (i + 1) n ≡ rounded f (n - (i + 1)) = subst (λ (m : ℕ). suffix c.loop-i.z m n ≡ rounded f (n - m)) back c.loop-i.invariant.point in
-    let s = c.later_part.ensures.size in
-    let x : c.nearest_part-x.result ≡ nearest_div (neg_ℤ c.later_part.result) (2 ^ 30) = grind (arith, to_z-of_z) in
-    let y : c.nearest_part-x.result ≡ nearest_div (neg_ℤ (rest f (suffix c.loop-i.z (i + 1) n))) (2 ^ 30) = x ∙ ap (λ v. nearest_div (neg_ℤ v) (2 ^ 30)) c.later_part.ensures.value in
-    let b = c.is_large.ensures.yes (rw c.if-is_large.true (search rules)) in
-    let m = c.nearest_part-x.ensures.size in
-    rounded_is_wide f c.loop-i.z i c.nearest_part-x.result (searchable c.args.form.now c.requires) (omega arith) q y (omega (arith, ints))
+    let suffix_is_rounded : suffix c.loop-i.z (i + 1) n ≡ rounded form (n - (i + 1)) = subst (λ (m : ℕ). suffix c.loop-i.z m n ≡ rounded form (n - m)) back c.loop-i.invariant.point in
+    let rest_small = c.later_part.ensures.size in
+    let is_nearest : c.nearest_part-x.result ≡ nearest_div (neg_ℤ c.later_part.result) (2 ^ 30) = grind (arith, to_z-of_z) in
+    let nearest_of_rest : c.nearest_part-x.result ≡ nearest_div (neg_ℤ (rest form (suffix c.loop-i.z (i + 1) n))) (2 ^ 30) = is_nearest ∙ ap (λ v. nearest_div (neg_ℤ v) (2 ^ 30)) c.later_part.ensures.value in
+    let is_large_entry = c.is_large.ensures.yes (rw c.if-is_large.true (search rules)) in
+    let entry_small = c.nearest_part-x.ensures.size in
+    rounded_is_wide form c.loop-i.z i c.nearest_part-x.result (searchable c.args.form.now c.requires) (omega arith) suffix_is_rounded nearest_of_rest (omega (arith, ints))
 
 pub loop-i-preserved : goal.loop-i-preserved
 loop-i-preserved c =
-    let f : SearchForm = search_form c.args.form.now in
+    let form : SearchForm = search_form c.args.form.now in
     let n : ℕ = integers_of c.args.form.now in
     let i : ℕ = c.loop-i.i - 1 in
-    let w = c.loop-i.invariant.within in
+    let place_within = c.loop-i.invariant.within in
     let most = c.args.form.now.columns_to in
     let back : c.loop-i.i ≡ i + 1 = omega arith in
-    let q : suffix c.loop-i.z (i + 1) n ≡ rounded f (n - (i + 1)) = subst (λ (m : ℕ). suffix c.loop-i.z m n ≡ rounded f (n - m)) back c.loop-i.invariant.point in
-    let s = c.later_part.ensures.size in
-    let x : c.nearest_part-x.result ≡ nearest_div (neg_ℤ c.later_part.result) (2 ^ 30) = grind (arith, to_z-of_z) in
-    let m = c.nearest_part-x.ensures.size in
-    let b = c.is_large.ensures.no c.if-is_large.false in
-    let g : unsigned_abs c.nearest_part-x.result < 2 ^ 30 = omega (arith, ints) in
-    let t : to_z w64 (of_z w64 (to_z w128 (of_z w128 c.nearest_part-x.result))) ≡ c.nearest_part-x.result = omega (arith, ints) in
-    let y : to_z w64 (of_z w64 (to_z w128 (of_z w128 c.nearest_part-x.result))) ≡ nearest_div (neg_ℤ (rest f (suffix c.loop-i.z (i + 1) n))) (2 ^ 30) = t ∙ x
+    let suffix_is_rounded : suffix c.loop-i.z (i + 1) n ≡ rounded form (n - (i + 1)) = subst (λ (m : ℕ). suffix c.loop-i.z m n ≡ rounded form (n - m)) back c.loop-i.invariant.point in
+    let rest_small = c.later_part.ensures.size in
+    let is_nearest : c.nearest_part-x.result ≡ nearest_div (neg_ℤ c.later_part.result) (2 ^ 30) = grind (arith, to_z-of_z) in
+    let entry_small = c.nearest_part-x.ensures.size in
+    let not_large = c.is_large.ensures.no c.if-is_large.false in
+    let entry_below : unsigned_abs c.nearest_part-x.result < 2 ^ 30 = omega (arith, ints) in
+    let entry_kept : to_z w64 (of_z w64 (to_z w128 (of_z w128 c.nearest_part-x.result))) ≡ c.nearest_part-x.result = omega (arith, ints) in
+    let nearest_of_rest : to_z w64 (of_z w64 (to_z w128 (of_z w128 c.nearest_part-x.result))) ≡ nearest_div (neg_ℤ (rest form (suffix c.loop-i.z (i + 1) n))) (2 ^ 30) = entry_kept ∙ is_nearest
     ∙ ap (λ v. nearest_div (neg_ℤ v) (2 ^ 30)) c.later_part.ensures.value in
     let room = c.loop-i.invariant.room in
     record {
       within = omega arith;
-      point = rounded_next f c.loop-i.z i _ (omega arith) (omega arith) q y;
-      small = small_set c.loop-i.z i _ c.loop-i.invariant.small (rw t g);
+      point = rounded_next form c.loop-i.z i _ (omega arith) (omega arith) suffix_is_rounded nearest_of_rest;
+      small = small_set c.loop-i.z i _ c.loop-i.invariant.small (rw entry_kept entry_below);
       zeros = zeros_set c.loop-i.z n i _ (omega arith) c.loop-i.invariant.zeros;
       room = length-set c.loop-i.z i _ ∙ room;
     }
 
 pub returns : goal.returns
 returns c =
-    let f : SearchForm = search_form c.args.form.now in
+    let form : SearchForm = search_form c.args.form.now in
     let n : ℕ = integers_of c.args.form.now in
-    let z : c.loop-i.i ≡ 0 = omega arith in
-    let q : suffix c.loop-i.z 0 n ≡ rounded f (n - 0) = subst (λ (m : ℕ). suffix c.loop-i.z m n ≡ rounded f (n - m)) z c.loop-i.invariant.point in
-    let e : n - 0 ≡ n = omega arith in
-    record { room = c.loop-i.invariant.room; small = c.loop-i.invariant.small; zeros = c.loop-i.invariant.zeros; is = q ∙ ap (rounded f) e }
+    let all_done : c.loop-i.i ≡ 0 = omega arith in
+    let suffix_is_rounded : suffix c.loop-i.z 0 n ≡ rounded form (n - 0) = subst (λ (m : ℕ). suffix c.loop-i.z m n ≡ rounded form (n - m)) all_done c.loop-i.invariant.point in
+    let whole_size : n - 0 ≡ n = omega arith in
+    record { room = c.loop-i.invariant.room; small = c.loop-i.invariant.small; zeros = c.loop-i.invariant.zeros; is = suffix_is_rounded ∙ ap (rounded form) whole_size }

@@ -33,7 +33,7 @@ fewer a b n same count = omega arith
 more : (f : Form) (a b : ℕ) → 4 < f.columns → a ≡ b → b ≡ integers_of f + 4 → 4 < a
 more f a b some same count = omega arith
 
-apart : (p : List Factor × List Column) (r : Refusal) → (let x : StepsAnswer = Ok p in x) ≡ Err r → ⊥
+apart : (p : List Factor × List Column) (r : Refusal) → (let answer : StepsAnswer = Ok p in answer) ≡ Err r → ⊥
 apart p r same = cc
 
 -- the steps of the front are those of the form in the coordinates of the map
@@ -64,12 +64,12 @@ pub returns-in_default-finish-clause-found : goal.returns-in_default-finish-clau
 returns-in_default-finish-clause-found c =
     let change : IsReductionOf c.args.form.now c.reduce-change.result =
     reduction_of c.args.form.now c.reduce-change.result c.requires c.reduce-change.ensures.size c.reduce-change.ensures.reduced in
-    let f : Form = c.args.form.now in
-    let u : Unimodular = c.reduce-change.result in
+    let form : Form = c.args.form.now in
+    let unimodular : Unimodular = c.reduce-change.result in
     λ counted.
-    let k : HasCountIn f c.args.budget u.map = count f c.args.budget u change.reduced counted in
+    let has_count : HasCountIn form c.args.budget unimodular.map = count form c.args.budget unimodular change.reduced counted in
     let told = c.in_default-finish.ensures.refused in
-    apart (k.factors, constant_form k.g) told.0 (sym (same_steps (integers_of f) u.map f.p c.in-Some.front c.in-Some.ensures.form ∙ k.taken) ∙ told.1.0)
+    apart (has_count.factors, constant_form has_count.g) told.0 (sym (same_steps (integers_of form) unimodular.map form.p c.in-Some.front c.in-Some.ensures.form ∙ has_count.taken) ∙ told.1.0)
 
 pub search-requires : goal.search-requires
 search-requires c =
@@ -77,10 +77,10 @@ search-requires c =
     reduction_of c.args.form.now c.reduce-change.result c.requires c.reduce-change.ensures.size c.reduce-change.ensures.reduced in
     let form : IsDecorrelated c.args.form.now c.in-Ok.reduced c.reduce-change.result =
     decorrelated_is c.args.form.now c.in-Ok.reduced c.in-Some.front c.reduce-change.result c.requires change.size c.at.ensures.shape.rows c.in-Some.ensures.form c.in-Ok.ensures.finished in
-    let u : Unimodular = c.reduce-change.result in
-    reduced_can c.in-Ok.reduced u.map u.back
+    let unimodular : Unimodular = c.reduce-change.result in
+    reduced_can c.in-Ok.reduced unimodular.map unimodular.back
     (more c.args.form.now c.in-Ok.reduced.columns c.in-Some.front.columns c.requires c.in-Ok.ensures.finished.columns c.in-Some.ensures.form.columns)
-    (record { shape = c.at.ensures.shape; entries = u.map_small }) (subst (λ (k : ℕ). Undoes k u.back u.map) (change.size ∙ sym form.integers) u.one_to_one)
+    (record { shape = c.at.ensures.shape; entries = unimodular.map_small }) (subst (λ (k : ℕ). Undoes k unimodular.back unimodular.map) (change.size ∙ sym form.integers) unimodular.one_to_one)
 
 pub returns-in-Ok-search-clause-found : goal.returns-in-Ok-search-clause-found
 returns-in-Ok-search-clause-found c =
@@ -96,13 +96,13 @@ returns-in-Ok-search-clause-visits c =
     reduction_of c.args.form.now c.reduce-change.result c.requires c.reduce-change.ensures.size c.reduce-change.ensures.reduced in
     let form : IsDecorrelated c.args.form.now c.in-Ok.reduced c.reduce-change.result =
     decorrelated_is c.args.form.now c.in-Ok.reduced c.in-Some.front c.reduce-change.result c.requires change.size c.at.ensures.shape.rows c.in-Some.ensures.form c.in-Ok.ensures.finished in
-    let f : Form = c.args.form.now in
-    let u : Unimodular = c.reduce-change.result in
+    let original : Form = c.args.form.now in
+    let unimodular : Unimodular = c.reduce-change.result in
     record {
-      change = u;
+      change = unimodular;
       reduced = change.reduced;
-      visits = reduced_visits f c.in-Ok.reduced u c.args.budget c.in-Ok-search.best form
-          (sym (same_steps (integers_of f) u.map f.p c.in-Some.front c.in-Some.ensures.form) ∙ c.in-Ok.ensures.finished.taken) c.in-Ok-search.ensures;
+      visits = reduced_visits original c.in-Ok.reduced unimodular c.args.budget c.in-Ok-search.best form
+          (sym (same_steps (integers_of original) unimodular.map original.p c.in-Some.front c.in-Some.ensures.form) ∙ c.in-Ok.ensures.finished.taken) c.in-Ok-search.ensures;
     }
 
 pub returns-in-Err-clause-found : goal.returns-in-Err-clause-found
@@ -111,9 +111,9 @@ returns-in-Err-clause-found c =
     reduction_of c.args.form.now c.reduce-change.result c.requires c.reduce-change.ensures.size c.reduce-change.ensures.reduced in
     let form : IsDecorrelated c.args.form.now c.in-Ok.reduced c.reduce-change.result =
     decorrelated_is c.args.form.now c.in-Ok.reduced c.in-Some.front c.reduce-change.result c.requires change.size c.at.ensures.shape.rows c.in-Some.ensures.form c.in-Ok.ensures.finished in
-    let f : Form = c.args.form.now in
-    let u : Unimodular = c.reduce-change.result in
+    let original : Form = c.args.form.now in
+    let unimodular : Unimodular = c.reduce-change.result in
     λ counted.
-    let k : HasCountIn f c.args.budget u.map = count f c.args.budget u change.reduced counted in
-    reduced_fault f c.in-Ok.reduced u c.args.budget _ k form
-    (sym k.taken ∙ sym (same_steps (integers_of f) u.map f.p c.in-Some.front c.in-Some.ensures.form) ∙ c.in-Ok.ensures.finished.taken) c.in-Err.ensures
+    let has_count : HasCountIn original c.args.budget unimodular.map = count original c.args.budget unimodular change.reduced counted in
+    reduced_fault original c.in-Ok.reduced unimodular c.args.budget _ has_count form
+    (sym has_count.taken ∙ sym (same_steps (integers_of original) unimodular.map original.p c.in-Some.front c.in-Some.ensures.form) ∙ c.in-Ok.ensures.finished.taken) c.in-Err.ensures

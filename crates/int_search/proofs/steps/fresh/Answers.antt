@@ -7,8 +7,8 @@ use Rattle.int_search.proofs.steps.fresh.Goals as goal
 
 pub returns : goal.returns
 returns c =
-    let u : ℤ = c.ceil_part-up.result in
-    let e : c.ceil_part-up.result ≡ ceil_div (neg_ℤ c.args.rest) (2 ^ 30) = grind (arith, to_z-of_z) in
-    let a : to_z w64 (of_z w64 (to_z w128 (of_z w128 c.ceil_part-up.result))) ≡ c.ceil_part-up.result = omega (arith, ints) in
-    let b : to_z w64 (of_z w64 (to_z w64 (of_z w64 (to_z w128 (of_z w128 c.ceil_part-up.result))) -ℤ pos 1)) ≡ c.ceil_part-up.result -ℤ pos 1 = omega (arith, ints) in
-    fresh_from c.args.rest c.args.low u _ _ _ _ _ e c.ceil_part-up.ensures.size c.requires a b (grind (arith, to_z-of_z)) (grind (arith, to_z-of_z)) (grind (arith, to_z-of_z))
+    let up : ℤ = c.ceil_part-up.result in
+    let is_ceiling : c.ceil_part-up.result ≡ ceil_div (neg_ℤ c.args.rest) (2 ^ 30) = grind (arith, to_z-of_z) in
+    let up_kept : to_z w64 (of_z w64 (to_z w128 (of_z w128 c.ceil_part-up.result))) ≡ c.ceil_part-up.result = omega (arith, ints) in
+    let down_kept : to_z w64 (of_z w64 (to_z w64 (of_z w64 (to_z w128 (of_z w128 c.ceil_part-up.result))) -ℤ pos 1)) ≡ c.ceil_part-up.result -ℤ pos 1 = omega (arith, ints) in
+    fresh_from c.args.rest c.args.low up _ _ _ _ _ is_ceiling c.ceil_part-up.ensures.size c.requires up_kept down_kept (grind (arith, to_z-of_z)) (grind (arith, to_z-of_z)) (grind (arith, to_z-of_z))

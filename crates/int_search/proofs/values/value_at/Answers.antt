@@ -7,7 +7,7 @@ use Rattle.int_search.proofs.values.value_at.Goals as goal
 
 pub returns : goal.returns
 returns c =
-    let s = c.value.ensures.size in
-    let e : to_z w128 (of_z w128 c.value.result) ≡ c.value.result = omega (arith, ints) in
-    let n : c.args.form.now.columns - 3 - 1 ≡ integers_of c.args.form.now = omega arith in
-    e ∙ c.value.ensures.value ∙ ap (λ m. value_of c.args.form.now (take m c.args.z.now)) n ∙ ap (λ v. value_of c.args.form.now v) (sym (suffix-all c.args.z.now (integers_of c.args.form.now)))
+    let value_small = c.value.ensures.size in
+    let value_kept : to_z w128 (of_z w128 c.value.result) ≡ c.value.result = omega (arith, ints) in
+    let size_is : c.args.form.now.columns - 3 - 1 ≡ integers_of c.args.form.now = omega arith in
+    value_kept ∙ c.value.ensures.value ∙ ap (λ m. value_of c.args.form.now (take m c.args.z.now)) size_is ∙ ap (λ v. value_of c.args.form.now v) (sym (suffix-all c.args.z.now (integers_of c.args.form.now)))

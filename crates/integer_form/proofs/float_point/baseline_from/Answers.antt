@@ -34,12 +34,12 @@ returns-clause-ok g c = λ d. three c.solve.new.numbers (λ i h. c.in_ok-solve.e
 
 pub returns-clause-refused : goal.returns-clause-refused
 returns-clause-refused g c = λ d.
-    let e : (item c.solve.new.numbers 0 ∷ (item c.solve.new.numbers 1 ∷ (item c.solve.new.numbers 2 ∷ []))) ≡ baseline_at d c.args.l.now c.args.columns c.args.z.now =
+    let point_is : (item c.solve.new.numbers 0 ∷ (item c.solve.new.numbers 1 ∷ (item c.solve.new.numbers 2 ∷ []))) ≡ baseline_at d c.args.l.now c.args.columns c.args.z.now =
     baseline_is d c.args.l.now c.args.columns c.solve.new.numbers c.integer_numbers-numbers.result c.args.z.now c.requires.columns_from c.requires.count
     c.integer_numbers-numbers.ensures.list (c.in_ok-solve.ensures.solved d) in (
       λ h. absurd cc,
       λ w. absurd (narrow d c.args.l.now c.args.columns c.solve.new.numbers c.args.z.now
-          (λ i h. c.in_ok-solve.ensures.narrow i (inside c.args.columns i c.requires.columns_from h)) e w),
+          (λ i h. c.in_ok-solve.ensures.narrow i (inside c.args.columns i c.requires.columns_from h)) point_is w),
     )
 
 pub returns-in_err-solve-clause-refused : goal.returns-in_err-solve-clause-refused

@@ -13,6 +13,6 @@ returns-clause-list c = list_scaled (item c.loop-i.numbers) (pos (2 ^ 16)) c.arg
 pub returns-clause-narrow : goal.returns-clause-narrow
 returns-clause-narrow c = λ i h g.
     let k : ℕ = i - 3 in
-    let e : 3 + k ≡ i = omega arith in
-    let is : item c.loop-i.numbers i ≡ pos (2 ^ 16) *ℤ item c.args.z.now k = ap (λ (m : ℕ). item c.loop-i.numbers m) (sym e) ∙ c.loop-i.invariant.same k (omega (arith, c.loop-i-test.false)) in
-    subst (λ (z : ℤ). unsigned_abs z < 2 ^ 46) (sym is) (larger (item c.args.z.now k) (c.requires.size k (omega arith)))
+    let index_is : 3 + k ≡ i = omega arith in
+    let number_is : item c.loop-i.numbers i ≡ pos (2 ^ 16) *ℤ item c.args.z.now k = ap (λ (m : ℕ). item c.loop-i.numbers m) (sym index_is) ∙ c.loop-i.invariant.same k (omega (arith, c.loop-i-test.false)) in
+    subst (λ (z : ℤ). unsigned_abs z < 2 ^ 46) (sym number_is) (larger (item c.args.z.now k) (c.requires.size k (omega arith)))

@@ -8,33 +8,33 @@ twice : (b : ℤ) → unsigned_abs b ≤ 2 ^ 118 → unsigned_abs (pos 2 *ℤ b)
 twice b h = omega (arith, ints)
 
 whole : (a b : ℤ) → unsigned_abs a ≤ 2 ^ 112 → unsigned_abs b ≤ 2 ^ 118 → unsigned_abs (a +ℤ pos 2 *ℤ b) ≤ 2 ^ 120
-whole a b h g = let s : unsigned_abs (a +ℤ pos 2 *ℤ b) ≤ unsigned_abs a + unsigned_abs (pos 2 *ℤ b) = size_add a (pos 2 *ℤ b) in let t : unsigned_abs (pos 2 *ℤ b) ≤ 2 ^ 119 = twice b g in omega arith
+whole a b h g = let sum_size_at_most : unsigned_abs (a +ℤ pos 2 *ℤ b) ≤ unsigned_abs a + unsigned_abs (pos 2 *ℤ b) = size_add a (pos 2 *ℤ b) in let double_small : unsigned_abs (pos 2 *ℤ b) ≤ 2 ^ 119 = twice b g in omega arith
 
 -- what the code adds
 sum_is : (a b : ℤ) → unsigned_abs a ≤ 2 ^ 112 → unsigned_abs b ≤ 2 ^ 118 →
     to_z w128 (of_z w128 a) +ℤ to_z w128 (of_z w128 (pos 2 *ℤ to_z w128 (of_z w128 b))) ≡ a +ℤ pos 2 *ℤ b
 sum_is a b h g =
-    let t : unsigned_abs (pos 2 *ℤ b) ≤ 2 ^ 119 = twice b g in
+    let double_small : unsigned_abs (pos 2 *ℤ b) ≤ 2 ^ 119 = twice b g in
     ap₂ (λ x y. x +ℤ y) (as_w128 a (omega arith)) (ap (λ x. to_z w128 (of_z w128 (pos 2 *ℤ x))) (as_w128 b (omega arith)) ∙ as_w128 (pos 2 *ℤ b) (omega arith))
 
 pub overflow_add-result : goal.overflow_add-result
 overflow_add-result c =
-    let s : unsigned_abs (c.weighed.result +ℤ pos 2 *ℤ c.later_part.result) ≤ 2 ^ 120 = whole c.weighed.result c.later_part.result c.weighed.ensures.size c.later_part.ensures.size in
+    let sum_small : unsigned_abs (c.weighed.result +ℤ pos 2 *ℤ c.later_part.result) ≤ 2 ^ 120 = whole c.weighed.result c.later_part.result c.weighed.ensures.size c.later_part.ensures.size in
     rw (sum_is c.weighed.result c.later_part.result c.weighed.ensures.size c.later_part.ensures.size) (omega (arith, ints))
 
 pub returns-clause-value : goal.returns-clause-value
 returns-clause-value c =
-    let s : unsigned_abs (c.weighed.result +ℤ pos 2 *ℤ c.later_part.result) ≤ 2 ^ 120 = whole c.weighed.result c.later_part.result c.weighed.ensures.size c.later_part.ensures.size in
-    let o : to_z w64 (of_z w64 c.args.own) ≡ c.args.own = to_z-of_z w64 c.args.own c.ranges.own in
-    let x : to_z w64 (of_z w64 c.args.x) ≡ c.args.x = to_z-of_z w64 c.args.x c.ranges.x in
-    let l : to_z w128 (of_z w128 c.args.later) ≡ c.args.later = to_z-of_z w128 c.args.later c.ranges.later in
-    let q : to_z w128 (of_z w128 c.square.result) ≡ c.args.x *ℤ c.args.x = as_w128 c.square.result (omega (arith, c.square.ensures.size)) ∙ c.square.ensures.value ∙ ap (λ z. z *ℤ z) x in
+    let sum_small : unsigned_abs (c.weighed.result +ℤ pos 2 *ℤ c.later_part.result) ≤ 2 ^ 120 = whole c.weighed.result c.later_part.result c.weighed.ensures.size c.later_part.ensures.size in
+    let same_own : to_z w64 (of_z w64 c.args.own) ≡ c.args.own = to_z-of_z w64 c.args.own c.ranges.own in
+    let same_x : to_z w64 (of_z w64 c.args.x) ≡ c.args.x = to_z-of_z w64 c.args.x c.ranges.x in
+    let same_later : to_z w128 (of_z w128 c.args.later) ≡ c.args.later = to_z-of_z w128 c.args.later c.ranges.later in
+    let square_is : to_z w128 (of_z w128 c.square.result) ≡ c.args.x *ℤ c.args.x = as_w128 c.square.result (omega (arith, c.square.ensures.size)) ∙ c.square.ensures.value ∙ ap (λ z. z *ℤ z) same_x in
     rw (sum_is c.weighed.result c.later_part.result c.weighed.ensures.size c.later_part.ensures.size)
     (as_w128 (c.weighed.result +ℤ pos 2 *ℤ c.later_part.result) (omega arith)
-    ∙ ap₂ (λ a b. a +ℤ pos 2 *ℤ b) (c.weighed.ensures.value ∙ ap₂ (λ a b. a *ℤ b) o q) (c.later_part.ensures.value ∙ ap₂ (λ a b. a *ℤ b) x l))
+    ∙ ap₂ (λ a b. a +ℤ pos 2 *ℤ b) (c.weighed.ensures.value ∙ ap₂ (λ a b. a *ℤ b) same_own square_is) (c.later_part.ensures.value ∙ ap₂ (λ a b. a *ℤ b) same_x same_later))
 
 pub returns-clause-size : goal.returns-clause-size
 returns-clause-size c =
-    let s : unsigned_abs (c.weighed.result +ℤ pos 2 *ℤ c.later_part.result) ≤ 2 ^ 120 = whole c.weighed.result c.later_part.result c.weighed.ensures.size c.later_part.ensures.size in
+    let sum_small : unsigned_abs (c.weighed.result +ℤ pos 2 *ℤ c.later_part.result) ≤ 2 ^ 120 = whole c.weighed.result c.later_part.result c.weighed.ensures.size c.later_part.ensures.size in
     rw (sum_is c.weighed.result c.later_part.result c.weighed.ensures.size c.later_part.ensures.size)
-    (rw (as_w128 (c.weighed.result +ℤ pos 2 *ℤ c.later_part.result) (omega arith)) s)
+    (rw (as_w128 (c.weighed.result +ℤ pos 2 *ℤ c.later_part.result) (omega arith)) sum_small)

@@ -21,23 +21,23 @@ loop-c-preserved c =
     let narrow : unsigned_abs (slice_index_or c.args.x.now c.loop-c.c (pos 0)) ≤ 2 ^ 30 = c.requires.numbers c.loop-c.c c.loop-c-test.true in
     let product : unsigned_abs (entry c.args.p.now c.args.r c.loop-c.c *ℤ slice_index_or c.args.x.now c.loop-c.c (pos 0)) ≤ 2 ^ 82 =
     abs_mul_le (entry c.args.p.now c.args.r c.loop-c.c) (slice_index_or c.args.x.now c.loop-c.c (pos 0)) (2 ^ 52) (2 ^ 30) (omega arith) narrow in
-    let pa : to_z w64 (of_z w64 c.at.result) ≡ entry c.args.p.now c.args.r c.loop-c.c =
+    let same_entry : to_z w64 (of_z w64 c.at.result) ≡ entry c.args.p.now c.args.r c.loop-c.c =
     as_w64 c.at.result (omega (arith, subst (λ (z : ℤ). unsigned_abs z < 2 ^ 52) (sym c.at.ensures.value) small)) ∙ c.at.ensures.value in
-    let xa : to_z w64 (of_z w64 (slice_index_or c.args.x.now c.loop-c.c (pos 0))) ≡ slice_index_or c.args.x.now c.loop-c.c (pos 0) =
+    let same_number : to_z w64 (of_z w64 (slice_index_or c.args.x.now c.loop-c.c (pos 0))) ≡ slice_index_or c.args.x.now c.loop-c.c (pos 0) =
     as_w64 (slice_index_or c.args.x.now c.loop-c.c (pos 0)) (omega arith) in
-    let ti : t ≡ p k *ℤ x k = c.times-sum.ensures.value ∙ ap₂ (λ a b. a *ℤ b) pa xa in
-    let ts : unsigned_abs t ≤ 2 ^ 82 = subst (λ (z : ℤ). unsigned_abs z ≤ 2 ^ 82) (sym ti) product in
-    let s : unsigned_abs (o +ℤ t) ≤ unsigned_abs o + unsigned_abs t = size_add o t in
-    let os : unsigned_abs o ≤ k * 2 ^ 82 = c.loop-c.invariant.size in
-    let n : k < MOST_FORM_COLUMNS = omega (arith, c.loop-c-test.true, c.requires.columns_in) in
-    let w : to_z w128 (of_z w128 (to_z w128 c.loop-c.sum-bits +ℤ to_z w128 (of_z w128 t))) ≡ o +ℤ t =
+    let product_is : t ≡ p k *ℤ x k = c.times-sum.ensures.value ∙ ap₂ (λ a b. a *ℤ b) same_entry same_number in
+    let product_small : unsigned_abs t ≤ 2 ^ 82 = subst (λ (z : ℤ). unsigned_abs z ≤ 2 ^ 82) (sym product_is) product in
+    let sum_size_at_most : unsigned_abs (o +ℤ t) ≤ unsigned_abs o + unsigned_abs t = size_add o t in
+    let sum_small : unsigned_abs o ≤ k * 2 ^ 82 = c.loop-c.invariant.size in
+    let column_below : k < MOST_FORM_COLUMNS = omega (arith, c.loop-c-test.true, c.requires.columns_in) in
+    let same_sum : to_z w128 (of_z w128 (to_z w128 c.loop-c.sum-bits +ℤ to_z w128 (of_z w128 t))) ≡ o +ℤ t =
     ap (λ z. to_z w128 (of_z w128 z)) (ap (λ b. o +ℤ b) (as_w128 t (omega arith))) ∙ as_w128 (o +ℤ t) (omega arith) in
     let m : ℕ = k - suc r in
     let next : suc m ≡ (k + 1) - suc r = omega (arith, c.loop-c.invariant.from) in
     let here : suc r + m ≡ k = omega (arith, c.loop-c.invariant.from) in
     record {
       from = omega (arith, c.loop-c.invariant.from);
-      value = w ∙ ap₂ (λ a b. a +ℤ b) c.loop-c.invariant.value (ti ∙ sym (ap (λ (i : ℕ). p i *ℤ x i) here)) ∙ sym (dot_more p x (suc r) m)
+      value = same_sum ∙ ap₂ (λ a b. a +ℤ b) c.loop-c.invariant.value (product_is ∙ sym (ap (λ (i : ℕ). p i *ℤ x i) here)) ∙ sym (dot_more p x (suc r) m)
           ∙ ap (λ (i : ℕ). dot (list_from p (suc r) i) (list_from x (suc r) i)) next;
-      size = rw w (omega arith);
+      size = rw same_sum (omega arith);
     }

@@ -17,9 +17,9 @@ overflow_cast-lo g c =
     let s : ℕ = 2 ^ (g.row.K + g.row.A - g.row.B) in
     let u : ℤ = floor_div (least_corner a.lo a.hi b.lo b.hi) s in
     let v : ℤ = ceil_div (most_corner a.lo a.hi b.lo b.hi) s in
-    let lo : to_z w128 (of_z w128 c.floor_shift-lo.result) ≡ u = grind (arith, to_z-of_z) in
-    let o : u ≤ℤ v = floor_le_ceil (least_corner a.lo a.hi b.lo b.hi) (most_corner a.lo a.hi b.lo b.hi) s (pow_pos (g.row.K + g.row.A - g.row.B)) (least_le_most a.lo a.hi b.lo b.hi) in
-    omega (arith, ints, lo, o, c.requires.low, c.requires.high)
+    let low_is : to_z w128 (of_z w128 c.floor_shift-lo.result) ≡ u = grind (arith, to_z-of_z) in
+    let ends_ordered : u ≤ℤ v = floor_le_ceil (least_corner a.lo a.hi b.lo b.hi) (most_corner a.lo a.hi b.lo b.hi) s (pow_pos (g.row.K + g.row.A - g.row.B)) (least_le_most a.lo a.hi b.lo b.hi) in
+    omega (arith, ints, low_is, ends_ordered, c.requires.low, c.requires.high)
 
 pub overflow_cast-hi : goal.overflow_cast-hi
 overflow_cast-hi g c =
@@ -28,9 +28,9 @@ overflow_cast-hi g c =
     let s : ℕ = 2 ^ (g.row.K + g.row.A - g.row.B) in
     let u : ℤ = floor_div (least_corner a.lo a.hi b.lo b.hi) s in
     let v : ℤ = ceil_div (most_corner a.lo a.hi b.lo b.hi) s in
-    let hi : to_z w128 (of_z w128 c.ceil_shift-hi.result) ≡ v = grind (arith, to_z-of_z) in
-    let o : u ≤ℤ v = floor_le_ceil (least_corner a.lo a.hi b.lo b.hi) (most_corner a.lo a.hi b.lo b.hi) s (pow_pos (g.row.K + g.row.A - g.row.B)) (least_le_most a.lo a.hi b.lo b.hi) in
-    omega (arith, ints, hi, o, c.requires.low, c.requires.high)
+    let high_is : to_z w128 (of_z w128 c.ceil_shift-hi.result) ≡ v = grind (arith, to_z-of_z) in
+    let ends_ordered : u ≤ℤ v = floor_le_ceil (least_corner a.lo a.hi b.lo b.hi) (most_corner a.lo a.hi b.lo b.hi) s (pow_pos (g.row.K + g.row.A - g.row.B)) (least_le_most a.lo a.hi b.lo b.hi) in
+    omega (arith, ints, high_is, ends_ordered, c.requires.low, c.requires.high)
 
 pub from_ends-requires : goal.from_ends-requires
 from_ends-requires g c =
@@ -39,11 +39,11 @@ from_ends-requires g c =
     let s : ℕ = 2 ^ (g.row.K + g.row.A - g.row.B) in
     let u : ℤ = floor_div (least_corner a.lo a.hi b.lo b.hi) s in
     let v : ℤ = ceil_div (most_corner a.lo a.hi b.lo b.hi) s in
-    let lo : to_z w128 (of_z w128 c.floor_shift-lo.result) ≡ u = grind (arith, to_z-of_z) in
-    let hi : to_z w128 (of_z w128 c.ceil_shift-hi.result) ≡ v = grind (arith, to_z-of_z) in
-    let o : u ≤ℤ v = floor_le_ceil (least_corner a.lo a.hi b.lo b.hi) (most_corner a.lo a.hi b.lo b.hi) s (pow_pos (g.row.K + g.row.A - g.row.B)) (least_le_most a.lo a.hi b.lo b.hi) in (
+    let low_is : to_z w128 (of_z w128 c.floor_shift-lo.result) ≡ u = grind (arith, to_z-of_z) in
+    let high_is : to_z w128 (of_z w128 c.ceil_shift-hi.result) ≡ v = grind (arith, to_z-of_z) in
+    let ends_ordered : u ≤ℤ v = floor_le_ceil (least_corner a.lo a.hi b.lo b.hi) (most_corner a.lo a.hi b.lo b.hi) s (pow_pos (g.row.K + g.row.A - g.row.B)) (least_le_most a.lo a.hi b.lo b.hi) in (
       omega arith,
-      (c.requires.scale, (omega (arith, ints, lo, hi, o, c.requires.low, c.requires.high), (omega (arith, ints, lo, hi, o, c.requires.low, c.requires.high), omega (arith, ints, lo, hi, o, c.requires.low, c.requires.high)))),
+      (c.requires.scale, (omega (arith, ints, low_is, high_is, ends_ordered, c.requires.low, c.requires.high), (omega (arith, ints, low_is, high_is, ends_ordered, c.requires.low, c.requires.high), omega (arith, ints, low_is, high_is, ends_ordered, c.requires.low, c.requires.high)))),
     )
 
 pub returns-clause-lo : goal.returns-clause-lo
@@ -53,9 +53,9 @@ returns-clause-lo g c =
     let s : ℕ = 2 ^ (g.row.K + g.row.A - g.row.B) in
     let u : ℤ = floor_div (least_corner a.lo a.hi b.lo b.hi) s in
     let v : ℤ = ceil_div (most_corner a.lo a.hi b.lo b.hi) s in
-    let lo : to_z w128 (of_z w128 c.floor_shift-lo.result) ≡ u = grind (arith, to_z-of_z) in
-    let o : u ≤ℤ v = floor_le_ceil (least_corner a.lo a.hi b.lo b.hi) (most_corner a.lo a.hi b.lo b.hi) s (pow_pos (g.row.K + g.row.A - g.row.B)) (least_le_most a.lo a.hi b.lo b.hi) in
-    omega (arith, ints, lo, o, c.requires.low, c.requires.high, c.from_ends.ensures.lo)
+    let low_is : to_z w128 (of_z w128 c.floor_shift-lo.result) ≡ u = grind (arith, to_z-of_z) in
+    let ends_ordered : u ≤ℤ v = floor_le_ceil (least_corner a.lo a.hi b.lo b.hi) (most_corner a.lo a.hi b.lo b.hi) s (pow_pos (g.row.K + g.row.A - g.row.B)) (least_le_most a.lo a.hi b.lo b.hi) in
+    omega (arith, ints, low_is, ends_ordered, c.requires.low, c.requires.high, c.from_ends.ensures.lo)
 
 pub returns-clause-hi : goal.returns-clause-hi
 returns-clause-hi g c =
@@ -64,9 +64,9 @@ returns-clause-hi g c =
     let s : ℕ = 2 ^ (g.row.K + g.row.A - g.row.B) in
     let u : ℤ = floor_div (least_corner a.lo a.hi b.lo b.hi) s in
     let v : ℤ = ceil_div (most_corner a.lo a.hi b.lo b.hi) s in
-    let hi : to_z w128 (of_z w128 c.ceil_shift-hi.result) ≡ v = grind (arith, to_z-of_z) in
-    let o : u ≤ℤ v = floor_le_ceil (least_corner a.lo a.hi b.lo b.hi) (most_corner a.lo a.hi b.lo b.hi) s (pow_pos (g.row.K + g.row.A - g.row.B)) (least_le_most a.lo a.hi b.lo b.hi) in
-    omega (arith, ints, hi, o, c.requires.low, c.requires.high, c.from_ends.ensures.hi)
+    let high_is : to_z w128 (of_z w128 c.ceil_shift-hi.result) ≡ v = grind (arith, to_z-of_z) in
+    let ends_ordered : u ≤ℤ v = floor_le_ceil (least_corner a.lo a.hi b.lo b.hi) (most_corner a.lo a.hi b.lo b.hi) s (pow_pos (g.row.K + g.row.A - g.row.B)) (least_le_most a.lo a.hi b.lo b.hi) in
+    omega (arith, ints, high_is, ends_ordered, c.requires.low, c.requires.high, c.from_ends.ensures.hi)
 
 pub returns-clause-holds : goal.returns-clause-holds
 returns-clause-holds g c =

@@ -16,9 +16,9 @@ overflow_cast-lo g c =
     let s : ℕ = 2 ^ (g.row.K + g.row.K - g.row.B) in
     let u : ℤ = floor_div (near_end a.lo a.hi *ℤ near_end a.lo a.hi) s in
     let v : ℤ = ceil_div (far_end a.lo a.hi *ℤ far_end a.lo a.hi) s in
-    let lo : to_z w128 (of_z w128 c.floor_shift-lo.result) ≡ u = grind (arith, to_z-of_z) in
-    let o : u ≤ℤ v = floor_le_ceil (near_end a.lo a.hi *ℤ near_end a.lo a.hi) (far_end a.lo a.hi *ℤ far_end a.lo a.hi) s (pow_pos (g.row.K + g.row.K - g.row.B)) (near_le_far a.lo a.hi a.ordered) in
-    omega (arith, ints, lo, o, c.requires.low, c.requires.high)
+    let low_is : to_z w128 (of_z w128 c.floor_shift-lo.result) ≡ u = grind (arith, to_z-of_z) in
+    let ends_ordered : u ≤ℤ v = floor_le_ceil (near_end a.lo a.hi *ℤ near_end a.lo a.hi) (far_end a.lo a.hi *ℤ far_end a.lo a.hi) s (pow_pos (g.row.K + g.row.K - g.row.B)) (near_le_far a.lo a.hi a.ordered) in
+    omega (arith, ints, low_is, ends_ordered, c.requires.low, c.requires.high)
 
 pub overflow_cast-hi : goal.overflow_cast-hi
 overflow_cast-hi g c =
@@ -26,9 +26,9 @@ overflow_cast-hi g c =
     let s : ℕ = 2 ^ (g.row.K + g.row.K - g.row.B) in
     let u : ℤ = floor_div (near_end a.lo a.hi *ℤ near_end a.lo a.hi) s in
     let v : ℤ = ceil_div (far_end a.lo a.hi *ℤ far_end a.lo a.hi) s in
-    let hi : to_z w128 (of_z w128 c.ceil_shift-hi.result) ≡ v = grind (arith, to_z-of_z) in
-    let o : u ≤ℤ v = floor_le_ceil (near_end a.lo a.hi *ℤ near_end a.lo a.hi) (far_end a.lo a.hi *ℤ far_end a.lo a.hi) s (pow_pos (g.row.K + g.row.K - g.row.B)) (near_le_far a.lo a.hi a.ordered) in
-    omega (arith, ints, hi, o, c.requires.low, c.requires.high)
+    let high_is : to_z w128 (of_z w128 c.ceil_shift-hi.result) ≡ v = grind (arith, to_z-of_z) in
+    let ends_ordered : u ≤ℤ v = floor_le_ceil (near_end a.lo a.hi *ℤ near_end a.lo a.hi) (far_end a.lo a.hi *ℤ far_end a.lo a.hi) s (pow_pos (g.row.K + g.row.K - g.row.B)) (near_le_far a.lo a.hi a.ordered) in
+    omega (arith, ints, high_is, ends_ordered, c.requires.low, c.requires.high)
 
 pub from_ends-requires : goal.from_ends-requires
 from_ends-requires g c =
@@ -36,11 +36,11 @@ from_ends-requires g c =
     let s : ℕ = 2 ^ (g.row.K + g.row.K - g.row.B) in
     let u : ℤ = floor_div (near_end a.lo a.hi *ℤ near_end a.lo a.hi) s in
     let v : ℤ = ceil_div (far_end a.lo a.hi *ℤ far_end a.lo a.hi) s in
-    let lo : to_z w128 (of_z w128 c.floor_shift-lo.result) ≡ u = grind (arith, to_z-of_z) in
-    let hi : to_z w128 (of_z w128 c.ceil_shift-hi.result) ≡ v = grind (arith, to_z-of_z) in
-    let o : u ≤ℤ v = floor_le_ceil (near_end a.lo a.hi *ℤ near_end a.lo a.hi) (far_end a.lo a.hi *ℤ far_end a.lo a.hi) s (pow_pos (g.row.K + g.row.K - g.row.B)) (near_le_far a.lo a.hi a.ordered) in (
+    let low_is : to_z w128 (of_z w128 c.floor_shift-lo.result) ≡ u = grind (arith, to_z-of_z) in
+    let high_is : to_z w128 (of_z w128 c.ceil_shift-hi.result) ≡ v = grind (arith, to_z-of_z) in
+    let ends_ordered : u ≤ℤ v = floor_le_ceil (near_end a.lo a.hi *ℤ near_end a.lo a.hi) (far_end a.lo a.hi *ℤ far_end a.lo a.hi) s (pow_pos (g.row.K + g.row.K - g.row.B)) (near_le_far a.lo a.hi a.ordered) in (
       omega arith,
-      (c.requires.scale, (omega (arith, ints, lo, hi, o, c.requires.low, c.requires.high), (omega (arith, ints, lo, hi, o, c.requires.low, c.requires.high), omega (arith, ints, lo, hi, o, c.requires.low, c.requires.high)))),
+      (c.requires.scale, (omega (arith, ints, low_is, high_is, ends_ordered, c.requires.low, c.requires.high), (omega (arith, ints, low_is, high_is, ends_ordered, c.requires.low, c.requires.high), omega (arith, ints, low_is, high_is, ends_ordered, c.requires.low, c.requires.high)))),
     )
 
 pub returns-clause-lo : goal.returns-clause-lo
@@ -49,9 +49,9 @@ returns-clause-lo g c =
     let s : ℕ = 2 ^ (g.row.K + g.row.K - g.row.B) in
     let u : ℤ = floor_div (near_end a.lo a.hi *ℤ near_end a.lo a.hi) s in
     let v : ℤ = ceil_div (far_end a.lo a.hi *ℤ far_end a.lo a.hi) s in
-    let lo : to_z w128 (of_z w128 c.floor_shift-lo.result) ≡ u = grind (arith, to_z-of_z) in
-    let o : u ≤ℤ v = floor_le_ceil (near_end a.lo a.hi *ℤ near_end a.lo a.hi) (far_end a.lo a.hi *ℤ far_end a.lo a.hi) s (pow_pos (g.row.K + g.row.K - g.row.B)) (near_le_far a.lo a.hi a.ordered) in
-    omega (arith, ints, lo, o, c.requires.low, c.requires.high, c.from_ends.ensures.lo)
+    let low_is : to_z w128 (of_z w128 c.floor_shift-lo.result) ≡ u = grind (arith, to_z-of_z) in
+    let ends_ordered : u ≤ℤ v = floor_le_ceil (near_end a.lo a.hi *ℤ near_end a.lo a.hi) (far_end a.lo a.hi *ℤ far_end a.lo a.hi) s (pow_pos (g.row.K + g.row.K - g.row.B)) (near_le_far a.lo a.hi a.ordered) in
+    omega (arith, ints, low_is, ends_ordered, c.requires.low, c.requires.high, c.from_ends.ensures.lo)
 
 pub returns-clause-hi : goal.returns-clause-hi
 returns-clause-hi g c =
@@ -59,9 +59,9 @@ returns-clause-hi g c =
     let s : ℕ = 2 ^ (g.row.K + g.row.K - g.row.B) in
     let u : ℤ = floor_div (near_end a.lo a.hi *ℤ near_end a.lo a.hi) s in
     let v : ℤ = ceil_div (far_end a.lo a.hi *ℤ far_end a.lo a.hi) s in
-    let hi : to_z w128 (of_z w128 c.ceil_shift-hi.result) ≡ v = grind (arith, to_z-of_z) in
-    let o : u ≤ℤ v = floor_le_ceil (near_end a.lo a.hi *ℤ near_end a.lo a.hi) (far_end a.lo a.hi *ℤ far_end a.lo a.hi) s (pow_pos (g.row.K + g.row.K - g.row.B)) (near_le_far a.lo a.hi a.ordered) in
-    omega (arith, ints, hi, o, c.requires.low, c.requires.high, c.from_ends.ensures.hi)
+    let high_is : to_z w128 (of_z w128 c.ceil_shift-hi.result) ≡ v = grind (arith, to_z-of_z) in
+    let ends_ordered : u ≤ℤ v = floor_le_ceil (near_end a.lo a.hi *ℤ near_end a.lo a.hi) (far_end a.lo a.hi *ℤ far_end a.lo a.hi) s (pow_pos (g.row.K + g.row.K - g.row.B)) (near_le_far a.lo a.hi a.ordered) in
+    omega (arith, ints, high_is, ends_ordered, c.requires.low, c.requires.high, c.from_ends.ensures.hi)
 
 pub returns-clause-holds : goal.returns-clause-holds
 returns-clause-holds g c =

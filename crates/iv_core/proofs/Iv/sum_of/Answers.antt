@@ -8,16 +8,16 @@ pub returns-clause-lo : goal.returns-clause-lo
 returns-clause-lo g c =
     let a = c.args.self.now in
     let b = c.args.other.now in
-    let h₁ = a.low in let h₂ = a.high in let h₃ = a.ordered in let k₁ = b.low in let k₂ = b.high in let k₃ = b.ordered in
-    let l = c.requires.low in let h = c.requires.high in
+    let left_low_fits = a.low in let left_high_fits = a.high in let left_ordered = a.ordered in let right_low_fits = b.low in let right_high_fits = b.high in let right_ordered = b.ordered in
+    let low_fits = c.requires.low in let high_fits = c.requires.high in
     omega (arith, ints, c.from_ends.ensures.lo)
 
 pub returns-clause-hi : goal.returns-clause-hi
 returns-clause-hi g c =
     let a = c.args.self.now in
     let b = c.args.other.now in
-    let h₁ = a.low in let h₂ = a.high in let h₃ = a.ordered in let k₁ = b.low in let k₂ = b.high in let k₃ = b.ordered in
-    let l = c.requires.low in let h = c.requires.high in
+    let left_low_fits = a.low in let left_high_fits = a.high in let left_ordered = a.ordered in let right_low_fits = b.low in let right_high_fits = b.high in let right_ordered = b.ordered in
+    let low_fits = c.requires.low in let high_fits = c.requires.high in
     omega (arith, ints, c.from_ends.ensures.hi)
 
 pub returns-clause-holds : goal.returns-clause-holds

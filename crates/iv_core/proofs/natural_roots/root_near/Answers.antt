@@ -7,8 +7,8 @@ pub settle-requires-clause-guess : goal.settle-requires-clause-guess
 settle-requires-clause-guess c =
     let n = c.args.n in
     let r = c.args.guess in
-    let k = c.square-known.ensures in
+    let square_is = c.square-known.ensures in
     elim c.if-n-known.branch [
-      | then-n-known w ↦ (let p : r * r < 2 ^ 63 * 2 ^ 63 = omega arith in let q : r < 2 ^ 63 = below_square r (2 ^ 63) p in omega arith)
-      | else-n-known w ↦ (let p : r * r ≤ n = omega arith in let q : r < 2 ^ 62 = root_bound r n p c.requires in omega arith)
+      | then-n-known w ↦ (let square_below : r * r < 2 ^ 63 * 2 ^ 63 = omega arith in let guess_below : r < 2 ^ 63 = below_square r (2 ^ 63) square_below in omega arith)
+      | else-n-known w ↦ (let square_below : r * r ≤ n = omega arith in let guess_below : r < 2 ^ 62 = root_bound r n square_below c.requires in omega arith)
     ]

@@ -8,9 +8,9 @@ use Rattle.job_answers.proofs.text_command.answer_file.Goals as goal
 
 pub returns : goal.returns
 returns g c =
-    let f = c.args.files.now in
-    let n = c.load_file.new.files in
-    let work = file_work g.F.Files f n in
+    let files = c.args.files.now in
+    let files_after = c.load_file.new.files in
+    let work = file_work g.F.Files files files_after in
     let read = c.in_ok-text.ensures in
     let job = g.C.TextCommand.job c.args.command.now in
     text_done work c.args.name.now _ job c.answer_bytes.result read.text read.whole read.opens
@@ -19,9 +19,9 @@ returns g c =
 pub returns-in_err-text : goal.returns-in_err-text
 returns-in_err-text g c =
     let answered = err_from_is_err_and c.from_residual.result c.from_residual.ensures.1 in
-    let f = c.args.files.now in
-    let n = c.load_file.new.files in
-    let work = file_work g.F.Files f n in
+    let files = c.args.files.now in
+    let files_after = c.load_file.new.files in
+    let work = file_work g.F.Files files files_after in
     let stopped = c.in_err-text.ensures in
     rw (answered.1, answered.2)
     (stop_done work c.args.name.now (g.C.TextCommand.job c.args.command.now) c.in_err-text.field-0.0 stopped.opened stopped.stopped stopped.fault stopped.sure)

@@ -22,9 +22,9 @@ sum_word z u x h l g e = omega (arith, ints, h, l, g, e)
 
 pub returns-clause-value : goal.returns-clause-value
 returns-clause-value c =
-    let z : to_z w128 (of_z w128 c.args.entry) ≡ c.args.entry = to_z-of_z w128 c.args.entry c.ranges.entry in
+    let entry_kept : to_z w128 (of_z w128 c.args.entry) ≡ c.args.entry = to_z-of_z w128 c.args.entry c.ranges.entry in
     let unit : to_z w128 (of_z w128 c.power_of_two.result) ≡ c.power_of_two.result = unit_word c.power_of_two.result c.power_of_two.ensures.from c.power_of_two.ensures.to in
-    let sum : c.twice_and_one.result ≡ (pos 2 *ℤ c.args.entry) +ℤ c.power_of_two.result = c.twice_and_one.ensures ∙ ap₂ (λ (x y : ℤ). (pos 2 *ℤ x) +ℤ y) z unit in
+    let sum : c.twice_and_one.result ≡ (pos 2 *ℤ c.args.entry) +ℤ c.power_of_two.result = c.twice_and_one.ensures ∙ ap₂ (λ (x y : ℤ). (pos 2 *ℤ x) +ℤ y) entry_kept unit in
     let word : to_z w128 (of_z w128 c.twice_and_one.result) ≡ c.twice_and_one.result =
     sum_word c.args.entry c.power_of_two.result c.twice_and_one.result c.requires.size c.power_of_two.ensures.from c.power_of_two.ensures.to sum in
     let value : c.floor_shift.result ≡ nearest_div c.args.entry (2 ^ c.args.shift) =

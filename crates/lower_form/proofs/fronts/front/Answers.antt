@@ -18,20 +18,20 @@ form_table-p-requires-clause-small c =
 
 pub invariant_of-result : goal.invariant_of-result
 invariant_of-result c =
-    let n : Normal = c.args.normal.now in
+    let normal : Normal = c.args.normal.now in
     let few : c.in_ok-h.h ≤ 77 = c.in_ok-h.ensures.few in
     let zero : (r i : ℕ) → (3 ≤ i) ⊎ ((r ≤ i) ⊎ (c.args.normal.now.columns ≤ r)) → entry c.lower_front.new.factors r i ≡ pos 0 =
     λ r i a. c.in_ok-h.ensures.outside r i a ∙ ap (λ (t : List (List ℤ)). entry t r i) c.zeros-factors.ensures.zeros ∙ zero_entry MOST_COLUMNS MOST_FACTORS r i in
-    let f : Fronted c.args.normal.now.columns c.in_ok-h.h c.args.normal.now c.first_kept-d.result c.front_factors-l.result c.form_table-p.result =
+    let is_fronted : Fronted c.args.normal.now.columns c.in_ok-h.h c.args.normal.now c.first_kept-d.result c.front_factors-l.result c.form_table-p.result =
     fronted c.args.normal.now.columns c.in_ok-h.h c.args.normal.now c.first_kept-d.result c.lower_front.new.kept c.front_factors-l.result c.lower_front.new.factors c.lower_front.new.table
     c.form_table-p.result
-    n.columns_to c.in_ok-h.ensures.taken zero c.first_kept-d.ensures c.front_factors-l.ensures.same c.front_factors-l.ensures.outside c.form_table-p.ensures.form in
+    normal.columns_to c.in_ok-h.ensures.taken zero c.first_kept-d.ensures c.front_factors-l.ensures.same c.front_factors-l.ensures.outside c.form_table-p.ensures.form in
     record {
-      columns_from = n.columns_from;
-      columns_to = n.columns_to;
+      columns_from = normal.columns_from;
+      columns_to = normal.columns_to;
       h_in = omega arith;
-      factors_in = f.factors_in;
-      factors_outside = f.factors_outside;
+      factors_in = is_fronted.factors_in;
+      factors_outside = is_fronted.factors_outside;
       symmetric = c.form_table-p.ensures.symmetric;
       entries_in = c.form_table-p.ensures.entries;
       nothing_outside = c.form_table-p.ensures.outside;
@@ -39,11 +39,11 @@ invariant_of-result c =
 
 pub returns-clause-front : goal.returns-clause-front
 returns-clause-front c =
-    let n : Normal = c.args.normal.now in
+    let normal : Normal = c.args.normal.now in
     let zero : (r i : ℕ) → (3 ≤ i) ⊎ ((r ≤ i) ⊎ (c.args.normal.now.columns ≤ r)) → entry c.lower_front.new.factors r i ≡ pos 0 =
     λ r i a. c.in_ok-h.ensures.outside r i a ∙ ap (λ (t : List (List ℤ)). entry t r i) c.zeros-factors.ensures.zeros ∙ zero_entry MOST_COLUMNS MOST_FACTORS r i in
-    let f : Fronted c.args.normal.now.columns c.in_ok-h.h c.args.normal.now c.first_kept-d.result c.front_factors-l.result c.form_table-p.result =
+    let is_fronted : Fronted c.args.normal.now.columns c.in_ok-h.h c.args.normal.now c.first_kept-d.result c.front_factors-l.result c.form_table-p.result =
     fronted c.args.normal.now.columns c.in_ok-h.h c.args.normal.now c.first_kept-d.result c.lower_front.new.kept c.front_factors-l.result c.lower_front.new.factors c.lower_front.new.table
     c.form_table-p.result
-    n.columns_to c.in_ok-h.ensures.taken zero c.first_kept-d.ensures c.front_factors-l.ensures.same c.front_factors-l.ensures.outside c.form_table-p.ensures.form in
-    record { columns = refl; exponent = c.in_ok-h.ensures.exponent; taken = f.taken }
+    normal.columns_to c.in_ok-h.ensures.taken zero c.first_kept-d.ensures c.front_factors-l.ensures.same c.front_factors-l.ensures.outside c.form_table-p.ensures.form in
+    record { columns = refl; exponent = c.in_ok-h.ensures.exponent; taken = is_fronted.taken }

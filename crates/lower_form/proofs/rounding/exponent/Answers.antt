@@ -15,12 +15,12 @@ below x y z h g = omega (arith, lins)
 pub returns-clause-least : goal.returns-clause-least
 returns-clause-least c =
     let n : ℕ = c.args.normal.now.columns in
-    let g : ℤ = c.greatest_own.result in
-    let w : to_z w128 (of_z w128 g) ≡ g = fits g c.greatest_own.ensures.from c.greatest_own.ensures.to in
+    let greatest : ℤ = c.greatest_own.result in
+    let greatest_kept : to_z w128 (of_z w128 greatest) ≡ greatest = fits greatest c.greatest_own.ensures.from c.greatest_own.ensures.to in
     record {
-      enough = own_below (entry c.args.normal.now.c) c.exponent_of.result 0 n (λ i a b. below _ g _ (c.greatest_own.ensures.above i (omega arith))
-          (subst (λ (z : ℤ). z <ℤ pos (2 ^ (50 + c.exponent_of.result))) w c.exponent_of.ensures.enough));
+      enough = own_below (entry c.args.normal.now.c) c.exponent_of.result 0 n (λ i a b. below _ greatest _ (c.greatest_own.ensures.above i (omega arith))
+          (subst (λ (z : ℤ). z <ℤ pos (2 ^ (50 + c.exponent_of.result))) greatest_kept c.exponent_of.ensures.enough));
       least = λ k o. c.exponent_of.ensures.least k
-          (subst (λ (z : ℤ). z <ℤ pos (2 ^ (50 + k))) (sym w) (c.greatest_own.ensures.attained (pos (2 ^ (50 + k))) (power_above k)
+          (subst (λ (z : ℤ). z <ℤ pos (2 ^ (50 + k))) (sym greatest_kept) (c.greatest_own.ensures.attained (pos (2 ^ (50 + k))) (power_above k)
           (λ i b. own_of (entry c.args.normal.now.c) k 0 n o i (omega arith) (omega arith))));
     }

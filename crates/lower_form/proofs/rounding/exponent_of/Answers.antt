@@ -12,7 +12,7 @@ side h k = grind arith
 
 pub returns-clause-least : goal.returns-clause-least
 returns-clause-least c =
-    let e : to_z w128 (of_z w128 c.args.greatest) ≡ c.args.greatest = to_z-of_z w128 c.args.greatest c.ranges.greatest in
+    let greatest_kept : to_z w128 (of_z w128 c.args.greatest) ≡ c.args.greatest = to_z-of_z w128 c.args.greatest c.ranges.greatest in
     λ k g. ⊎_elim (λ (i : c.loop-h.h ≤ k). i)
-    (λ (i : k < c.loop-h.h). absurd (apart c.args.greatest (pos (2 ^ (50 + k))) g (subst (λ (z : ℤ). pos (2 ^ (50 + k)) ≤ℤ z) e (c.loop-h.invariant.least k i))))
+    (λ (i : k < c.loop-h.h). absurd (apart c.args.greatest (pos (2 ^ (50 + k))) g (subst (λ (z : ℤ). pos (2 ^ (50 + k)) ≤ℤ z) greatest_kept (c.loop-h.invariant.least k i))))
     (side c.loop-h.h k)

@@ -23,9 +23,9 @@ loop-r-preserved c =
 pub returns-then-not-round_row-clause-refused : goal.returns-then-not-round_row-clause-refused
 returns-then-not-round_row-clause-refused c =
     let from : 4 ≤ c.args.normal.now.columns = search rules in
-    let w = c.round_row.ensures.refused c.if-not-round_row.true in
+    let row_refused = c.round_row.ensures.refused c.if-not-round_row.true in
     λ e. subst (λ (a : List Column). form_small a ≡ false) (first_form_is c.args.normal.now c.args.h from)
-    (form_wide (first_entry c.args.normal.now c.args.h) 0 c.args.normal.now.columns c.loop-r.r w.0 (omega arith) w.1.0 (omega (arith, w.1.1)) w.1.2)
+    (form_wide (first_entry c.args.normal.now c.args.h) 0 c.args.normal.now.columns c.loop-r.r row_refused.0 (omega arith) row_refused.1.0 (omega (arith, row_refused.1.1)) row_refused.1.2)
 
 pub returns-clause-rounded : goal.returns-clause-rounded
 returns-clause-rounded c =

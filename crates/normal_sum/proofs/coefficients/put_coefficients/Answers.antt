@@ -21,15 +21,15 @@ over_zeros w z p a b d v e h = h ∙ ap (λ (t : List ℤ). put_at (set (set (se
 
 pub returns-clause-entries : goal.returns-clause-entries
 returns-clause-entries c =
-    let r = c.args.row.now in
-    let l0 : 0 < length c.args.row.now.u = search rules in
-    let l1 : 1 < length c.args.row.now.u = search rules in
-    let l2 : 2 < length c.args.row.now.u = search rules in
-    let ly : c.args.signal < length c.args.row.now.y = search rules in
-    let s0 : unsigned_abs (number_at c.args.row.now.u 0) ≤ 2 ^ 24 = c.args.row.now.u_in 0 (pos 0) l0 in
-    let s1 : unsigned_abs (number_at c.args.row.now.u 1) ≤ 2 ^ 24 = c.args.row.now.u_in 1 (pos 0) l1 in
-    let s2 : unsigned_abs (number_at c.args.row.now.u 2) ≤ 2 ^ 24 = c.args.row.now.u_in 2 (pos 0) l2 in
-    let sy : unsigned_abs (number_at c.args.row.now.y c.args.signal) ≤ 2 ^ 34 = c.args.row.now.y_in c.args.signal (pos 0) ly in
+    let row = c.args.row.now in
+    let first_there : 0 < length c.args.row.now.u = search rules in
+    let second_there : 1 < length c.args.row.now.u = search rules in
+    let third_there : 2 < length c.args.row.now.u = search rules in
+    let signal_there : c.args.signal < length c.args.row.now.y = search rules in
+    let first_small : unsigned_abs (number_at c.args.row.now.u 0) ≤ 2 ^ 24 = c.args.row.now.u_in 0 (pos 0) first_there in
+    let second_small : unsigned_abs (number_at c.args.row.now.u 1) ≤ 2 ^ 24 = c.args.row.now.u_in 1 (pos 0) second_there in
+    let third_small : unsigned_abs (number_at c.args.row.now.u 2) ≤ 2 ^ 24 = c.args.row.now.u_in 2 (pos 0) third_there in
+    let signal_small : unsigned_abs (number_at c.args.row.now.y c.args.signal) ≤ 2 ^ 34 = c.args.row.now.y_in c.args.signal (pos 0) signal_there in
     λ arcs ss ep en. coefficients_are arcs ss c.args.signal c.args.row.now c.put_integer.new.values c.args.integers c.args.place
     (turned (number_at c.args.row.now.u 0)) (turned (number_at c.args.row.now.u 1)) (turned (number_at c.args.row.now.u 2)) (turned c.cycle_of.result)
     (to_z w64 (of_z w64 (number_at c.args.row.now.y c.args.signal)))
@@ -41,14 +41,14 @@ returns-clause-entries c =
 
 pub returns-clause-size : goal.returns-clause-size
 returns-clause-size c =
-    let l0 : 0 < length c.args.row.now.u = search rules in
-    let l1 : 1 < length c.args.row.now.u = search rules in
-    let l2 : 2 < length c.args.row.now.u = search rules in
-    let ly : c.args.signal < length c.args.row.now.y = search rules in
-    let s0 : unsigned_abs (number_at c.args.row.now.u 0) ≤ 2 ^ 24 = c.args.row.now.u_in 0 (pos 0) l0 in
-    let s1 : unsigned_abs (number_at c.args.row.now.u 1) ≤ 2 ^ 24 = c.args.row.now.u_in 1 (pos 0) l1 in
-    let s2 : unsigned_abs (number_at c.args.row.now.u 2) ≤ 2 ^ 24 = c.args.row.now.u_in 2 (pos 0) l2 in
-    let sy : unsigned_abs (number_at c.args.row.now.y c.args.signal) ≤ 2 ^ 34 = c.args.row.now.y_in c.args.signal (pos 0) ly in
+    let first_there : 0 < length c.args.row.now.u = search rules in
+    let second_there : 1 < length c.args.row.now.u = search rules in
+    let third_there : 2 < length c.args.row.now.u = search rules in
+    let signal_there : c.args.signal < length c.args.row.now.y = search rules in
+    let first_small : unsigned_abs (number_at c.args.row.now.u 0) ≤ 2 ^ 24 = c.args.row.now.u_in 0 (pos 0) first_there in
+    let second_small : unsigned_abs (number_at c.args.row.now.u 1) ≤ 2 ^ 24 = c.args.row.now.u_in 1 (pos 0) second_there in
+    let third_small : unsigned_abs (number_at c.args.row.now.u 2) ≤ 2 ^ 24 = c.args.row.now.u_in 2 (pos 0) third_there in
+    let signal_small : unsigned_abs (number_at c.args.row.now.y c.args.signal) ≤ 2 ^ 34 = c.args.row.now.y_in c.args.signal (pos 0) signal_there in
     coefficients_within (2 ^ 34) c.put_integer.new.values (3 + c.args.integers) c.args.place
     (turned (number_at c.args.row.now.u 0)) (turned (number_at c.args.row.now.u 1)) (turned (number_at c.args.row.now.u 2)) (turned c.cycle_of.result)
     (to_z w64 (of_z w64 (number_at c.args.row.now.y c.args.signal)))
@@ -57,7 +57,7 @@ returns-clause-size c =
     (turned_size (2 ^ 34) (number_at c.args.row.now.u 0) (omega arith) (omega arith)) (turned_size (2 ^ 34) (number_at c.args.row.now.u 1) (omega arith) (omega arith))
     (turned_size (2 ^ 34) (number_at c.args.row.now.u 2) (omega arith) (omega arith))
     (turned_size (2 ^ 34) c.cycle_of.result (omega (arith, c.cycle_of.ensures.size)) (omega arith))
-    (subst (λ (z : ℤ). unsigned_abs z ≤ 2 ^ 34) (sym (as_w64 (number_at c.args.row.now.y c.args.signal) (omega arith))) sy)
+    (subst (λ (z : ℤ). unsigned_abs z ≤ 2 ^ 34) (sym (as_w64 (number_at c.args.row.now.y c.args.signal) (omega arith))) signal_small)
 
 pub returns-clause-others : goal.returns-clause-others
 returns-clause-others c = nothing_elsewhere c.put_integer.new.values c.args.integers c.args.place

@@ -15,31 +15,31 @@ loop-column-init c = record { full = search rules; added = none_added (λ j. j <
 
 pub plus-requires-clause-a_size : goal.plus-requires-clause-a_size
 plus-requires-clause-a_size c =
-    let j : ℕ = get_or c.args.columns.now c.loop-column.column-index 0 in
+    let column : ℕ = get_or c.args.columns.now c.loop-column.column-index 0 in
     let within : get_or c.args.columns.now c.loop-column.column-index 0 < MOST_COLUMNS = c.requires.columns.inside c.loop-column.column-index 0 c.loop-column-test.true in
-    let same : slice_index_or c.loop-column.total j (pos 0) ≡ slice_index_or c.args.total.now j (pos 0) =
-    untouched (λ j. j < MOST_COLUMNS) c.args.columns.now c.loop-column.column-index (λ j. slice_index_or c.args.total.now j (pos 0)) (λ j. slice_index_or c.loop-column.total j (pos 0))
-    (λ j. slice_index_or c.args.values.now j (pos 0)) c.requires.columns.rising c.loop-column-test.true c.loop-column.invariant.added within in
-    let size : unsigned_abs (slice_index_or c.loop-column.total j (pos 0)) ≤ 2 ^ 40 = subst (λ (z : ℤ). unsigned_abs z ≤ 2 ^ 40) (sym same) (c.requires.total_size j within) in
-    subst (λ (z : ℤ). unsigned_abs z ≤ 2 ^ 40) (sym (as_w64 (slice_index_or c.loop-column.total j (pos 0)) (omega arith))) size
+    let same : slice_index_or c.loop-column.total column (pos 0) ≡ slice_index_or c.args.total.now column (pos 0) =
+    untouched (λ column. column < MOST_COLUMNS) c.args.columns.now c.loop-column.column-index (λ column. slice_index_or c.args.total.now column (pos 0)) (λ column. slice_index_or c.loop-column.total column (pos 0))
+    (λ column. slice_index_or c.args.values.now column (pos 0)) c.requires.columns.rising c.loop-column-test.true c.loop-column.invariant.added within in
+    let size : unsigned_abs (slice_index_or c.loop-column.total column (pos 0)) ≤ 2 ^ 40 = subst (λ (z : ℤ). unsigned_abs z ≤ 2 ^ 40) (sym same) (c.requires.total_size column within) in
+    subst (λ (z : ℤ). unsigned_abs z ≤ 2 ^ 40) (sym (as_w64 (slice_index_or c.loop-column.total column (pos 0)) (omega arith))) size
 
 pub loop-column-preserved : goal.loop-column-preserved
 loop-column-preserved c =
-    let j : ℕ = get_or c.args.columns.now c.loop-column.column-index 0 in
+    let column : ℕ = get_or c.args.columns.now c.loop-column.column-index 0 in
     let within : get_or c.args.columns.now c.loop-column.column-index 0 < MOST_COLUMNS = c.requires.columns.inside c.loop-column.column-index 0 c.loop-column-test.true in
-    let same : slice_index_or c.loop-column.total j (pos 0) ≡ slice_index_or c.args.total.now j (pos 0) =
-    untouched (λ j. j < MOST_COLUMNS) c.args.columns.now c.loop-column.column-index (λ j. slice_index_or c.args.total.now j (pos 0)) (λ j. slice_index_or c.loop-column.total j (pos 0))
-    (λ j. slice_index_or c.args.values.now j (pos 0)) c.requires.columns.rising c.loop-column-test.true c.loop-column.invariant.added within in
-    let size : unsigned_abs (slice_index_or c.loop-column.total j (pos 0)) ≤ 2 ^ 40 = subst (λ (z : ℤ). unsigned_abs z ≤ 2 ^ 40) (sym same) (c.requires.total_size j within) in
+    let same : slice_index_or c.loop-column.total column (pos 0) ≡ slice_index_or c.args.total.now column (pos 0) =
+    untouched (λ column. column < MOST_COLUMNS) c.args.columns.now c.loop-column.column-index (λ column. slice_index_or c.args.total.now column (pos 0)) (λ column. slice_index_or c.loop-column.total column (pos 0))
+    (λ column. slice_index_or c.args.values.now column (pos 0)) c.requires.columns.rising c.loop-column-test.true c.loop-column.invariant.added within in
+    let size : unsigned_abs (slice_index_or c.loop-column.total column (pos 0)) ≤ 2 ^ 40 = subst (λ (z : ℤ). unsigned_abs z ≤ 2 ^ 40) (sym same) (c.requires.total_size column within) in
     let full : length c.loop-column.total ≡ MOST_COLUMNS = c.loop-column.invariant.full in
     record {
-      full = length-set c.loop-column.total j _ ∙ full;
-      added = one_more (λ j. j < MOST_COLUMNS) c.args.columns.now c.loop-column.column-index (λ j. slice_index_or c.args.total.now j (pos 0)) (λ j. slice_index_or c.loop-column.total j (pos 0)) _
-          (λ j. slice_index_or c.args.values.now j (pos 0))
+      full = length-set c.loop-column.total column _ ∙ full;
+      added = one_more (λ column. column < MOST_COLUMNS) c.args.columns.now c.loop-column.column-index (λ column. slice_index_or c.args.total.now column (pos 0)) (λ column. slice_index_or c.loop-column.total column (pos 0)) _
+          (λ column. slice_index_or c.args.values.now column (pos 0))
           c.requires.columns.rising c.loop-column-test.true c.loop-column.invariant.added
-          (λ i p d. get_or-set_other c.loop-column.total j i _ (pos 0) d)
-          (λ p. get_or-set_same c.loop-column.total j _ (pos 0) (omega arith) ∙ as_words c.plus.result (slice_index_or c.loop-column.total j (pos 0))
-          (slice_index_or c.args.values.now j (pos 0)) c.plus.ensures size (c.requires.value_size j within));
+          (λ i p d. get_or-set_other c.loop-column.total column i _ (pos 0) d)
+          (λ p. get_or-set_same c.loop-column.total column _ (pos 0) (omega arith) ∙ as_words c.plus.result (slice_index_or c.loop-column.total column (pos 0))
+          (slice_index_or c.args.values.now column (pos 0)) c.plus.ensures size (c.requires.value_size column within));
     }
 
 pub returns : goal.returns

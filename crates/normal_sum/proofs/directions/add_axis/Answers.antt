@@ -15,21 +15,21 @@ larger t old x f v sum same factor value =
 
 pub loop-other-preserved : goal.loop-other-preserved
 loop-other-preserved c =
-    let a : ℕ = c.args.axis in
-    let o : ℕ = c.loop-other.other in
+    let axis : ℕ = c.args.axis in
+    let other : ℕ = c.loop-other.other in
     let share : ℤ = to_z w64 (of_z w64 c.args.share) in
     let spread : to_z w64 (of_z w64 c.direction_spread-spread.result) ≡ direction_spread c.args.rows.now c.args.axis c.loop-other.other =
     as_w64 c.direction_spread-spread.result (omega (arith, c.direction_spread-spread.ensures.size)) ∙ c.direction_spread-spread.ensures.value in
     record {
-      added = λ j from within. below_more (λ (j : ℕ). a ≤ j → entry c.add_short_to_entry.new.table a j ≡ entry c.args.table.now a j +ℤ (direction_spread c.args.rows.now a j *ℤ share)) o
-          (λ j below from. c.add_short_to_entry.ensures.others a j (inr (λ e. omega (arith, e, below))) ∙ c.loop-other.invariant.added j from below)
-          (λ from. c.add_short_to_entry.ensures.there ∙ ap (λ z. z +ℤ (to_z w64 (of_z w64 c.direction_spread-spread.result) *ℤ share)) (c.loop-other.invariant.later a o (omega arith))
-          ∙ ap (λ z. entry c.args.table.now a o +ℤ (z *ℤ share)) spread) j within from;
-      size = λ j from within. below_more (λ (j : ℕ). a ≤ j → unsigned_abs (entry c.add_short_to_entry.new.table a j) ≤ unsigned_abs (entry c.args.table.now a j) + 2 ^ 95) o
-          (λ j below from. subst (λ (z : ℤ). unsigned_abs z ≤ unsigned_abs (entry c.args.table.now a j) + 2 ^ 95) (sym (c.add_short_to_entry.ensures.others a j (inr (λ e. omega (arith, e, below)))))
+      added = λ j from within. below_more (λ (j : ℕ). axis ≤ j → entry c.add_short_to_entry.new.table axis j ≡ entry c.args.table.now axis j +ℤ (direction_spread c.args.rows.now axis j *ℤ share)) other
+          (λ j below from. c.add_short_to_entry.ensures.others axis j (inr (λ e. omega (arith, e, below))) ∙ c.loop-other.invariant.added j from below)
+          (λ from. c.add_short_to_entry.ensures.there ∙ ap (λ z. z +ℤ (to_z w64 (of_z w64 c.direction_spread-spread.result) *ℤ share)) (c.loop-other.invariant.later axis other (omega arith))
+          ∙ ap (λ z. entry c.args.table.now axis other +ℤ (z *ℤ share)) spread) j within from;
+      size = λ j from within. below_more (λ (j : ℕ). axis ≤ j → unsigned_abs (entry c.add_short_to_entry.new.table axis j) ≤ unsigned_abs (entry c.args.table.now axis j) + 2 ^ 95) other
+          (λ j below from. subst (λ (z : ℤ). unsigned_abs z ≤ unsigned_abs (entry c.args.table.now axis j) + 2 ^ 95) (sym (c.add_short_to_entry.ensures.others axis j (inr (λ e. omega (arith, e, below)))))
           (c.loop-other.invariant.size j from below))
-          (λ from. larger (entry c.add_short_to_entry.new.table a o) (entry c.args.table.now a o) (entry c.loop-other.table a o) (to_z w64 (of_z w64 c.direction_spread-spread.result)) share
-          c.add_short_to_entry.ensures.there (c.loop-other.invariant.later a o (omega arith))
+          (λ from. larger (entry c.add_short_to_entry.new.table axis other) (entry c.args.table.now axis other) (entry c.loop-other.table axis other) (to_z w64 (of_z w64 c.direction_spread-spread.result)) share
+          c.add_short_to_entry.ensures.there (c.loop-other.invariant.later axis other (omega arith))
           (subst (λ (z : ℤ). unsigned_abs z ≤ 2 ^ 57) (sym (as_w64 c.direction_spread-spread.result (omega (arith, c.direction_spread-spread.ensures.size)))) c.direction_spread-spread.ensures.size)
           (subst (λ (z : ℤ). unsigned_abs z ≤ 2 ^ 38) (sym (to_z-of_z w64 c.args.share c.ranges.share)) c.requires.share_size)) j within from;
       later = λ i j h. c.add_short_to_entry.ensures.others i j (inr (λ e. omega (arith, e, h))) ∙ c.loop-other.invariant.later i j (omega arith);

@@ -13,10 +13,10 @@ pub overflow_mul-result : goal.overflow_mul-result
 overflow_mul-result c =
     let first_in : c.args.first < length c.args.row.now.u = search rules in
     let second_in : c.args.second < length c.args.row.now.u = search rules in
-    let a : unsigned_abs (number_at c.args.row.now.u c.args.first) ≤ 2 ^ 24 = c.args.row.now.u_in c.args.first (pos 0) first_in in
-    let b : unsigned_abs (number_at c.args.row.now.u c.args.second) ≤ 2 ^ 24 = c.args.row.now.u_in c.args.second (pos 0) second_in in
+    let first_small : unsigned_abs (number_at c.args.row.now.u c.args.first) ≤ 2 ^ 24 = c.args.row.now.u_in c.args.first (pos 0) first_in in
+    let second_small : unsigned_abs (number_at c.args.row.now.u c.args.second) ≤ 2 ^ 24 = c.args.row.now.u_in c.args.second (pos 0) second_in in
     let product : unsigned_abs (number_at c.args.row.now.u c.args.first *ℤ number_at c.args.row.now.u c.args.second) ≤ 2 ^ 48 =
-    abs_mul_le (number_at c.args.row.now.u c.args.first) (number_at c.args.row.now.u c.args.second) (2 ^ 24) (2 ^ 24) a b in
+    abs_mul_le (number_at c.args.row.now.u c.args.first) (number_at c.args.row.now.u c.args.second) (2 ^ 24) (2 ^ 24) first_small second_small in
     rw (as_w64 (number_at c.args.row.now.u c.args.first) (omega arith), as_w64 (number_at c.args.row.now.u c.args.second) (omega arith))
     (fits (number_at c.args.row.now.u c.args.first *ℤ number_at c.args.row.now.u c.args.second) product)
 
@@ -24,10 +24,10 @@ pub returns-clause-value : goal.returns-clause-value
 returns-clause-value c =
     let first_in : c.args.first < length c.args.row.now.u = search rules in
     let second_in : c.args.second < length c.args.row.now.u = search rules in
-    let a : unsigned_abs (number_at c.args.row.now.u c.args.first) ≤ 2 ^ 24 = c.args.row.now.u_in c.args.first (pos 0) first_in in
-    let b : unsigned_abs (number_at c.args.row.now.u c.args.second) ≤ 2 ^ 24 = c.args.row.now.u_in c.args.second (pos 0) second_in in
+    let first_small : unsigned_abs (number_at c.args.row.now.u c.args.first) ≤ 2 ^ 24 = c.args.row.now.u_in c.args.first (pos 0) first_in in
+    let second_small : unsigned_abs (number_at c.args.row.now.u c.args.second) ≤ 2 ^ 24 = c.args.row.now.u_in c.args.second (pos 0) second_in in
     let product : unsigned_abs (number_at c.args.row.now.u c.args.first *ℤ number_at c.args.row.now.u c.args.second) ≤ 2 ^ 48 =
-    abs_mul_le (number_at c.args.row.now.u c.args.first) (number_at c.args.row.now.u c.args.second) (2 ^ 24) (2 ^ 24) a b in
+    abs_mul_le (number_at c.args.row.now.u c.args.first) (number_at c.args.row.now.u c.args.second) (2 ^ 24) (2 ^ 24) first_small second_small in
     rw (
       as_w64 (number_at c.args.row.now.u c.args.first) (omega arith),
       as_w64 (number_at c.args.row.now.u c.args.second) (omega arith),
@@ -38,7 +38,7 @@ pub returns-clause-size : goal.returns-clause-size
 returns-clause-size c =
     let first_in : c.args.first < length c.args.row.now.u = search rules in
     let second_in : c.args.second < length c.args.row.now.u = search rules in
-    let a : unsigned_abs (number_at c.args.row.now.u c.args.first) ≤ 2 ^ 24 = c.args.row.now.u_in c.args.first (pos 0) first_in in
-    let b : unsigned_abs (number_at c.args.row.now.u c.args.second) ≤ 2 ^ 24 = c.args.row.now.u_in c.args.second (pos 0) second_in in
+    let first_small : unsigned_abs (number_at c.args.row.now.u c.args.first) ≤ 2 ^ 24 = c.args.row.now.u_in c.args.first (pos 0) first_in in
+    let second_small : unsigned_abs (number_at c.args.row.now.u c.args.second) ≤ 2 ^ 24 = c.args.row.now.u_in c.args.second (pos 0) second_in in
     subst (λ (x : ℤ). unsigned_abs x ≤ 2 ^ 48) (sym (returns-clause-value c))
-    (abs_mul_le (number_at c.args.row.now.u c.args.first) (number_at c.args.row.now.u c.args.second) (2 ^ 24) (2 ^ 24) a b)
+    (abs_mul_le (number_at c.args.row.now.u c.args.first) (number_at c.args.row.now.u c.args.second) (2 ^ 24) (2 ^ 24) first_small second_small)

@@ -5,13 +5,13 @@ use Rattle.normal_sum.proofs.mirror.mirror.Goals as goal
 
 pub loop-row-preserved : goal.loop-row-preserved
 loop-row-preserved c =
-    let r : ℕ = c.loop-row.row in
+    let row : ℕ = c.loop-row.row in
     record {
-      above = λ i j h. ⊎_elim (λ (a : j < r). c.mirror_row.ensures.others i j (omega arith) ∙ c.loop-row.invariant.above i j h)
-          (λ (a : r ≤ j). c.mirror_row.ensures.later i j a ∙ c.loop-row.invariant.above i j h) (cases_lt j r);
-      below = λ i j h g. below_more (λ (j : ℕ). i < j → entry c.mirror_row.new.table j i ≡ entry c.args.table.now i j) r
+      above = λ i j h. ⊎_elim (λ (a : j < row). c.mirror_row.ensures.others i j (omega arith) ∙ c.loop-row.invariant.above i j h)
+          (λ (a : row ≤ j). c.mirror_row.ensures.later i j a ∙ c.loop-row.invariant.above i j h) (cases_lt j row);
+      below = λ i j h g. below_more (λ (j : ℕ). i < j → entry c.mirror_row.new.table j i ≡ entry c.args.table.now i j) row
           (λ j l h. c.mirror_row.ensures.others j i (omega arith) ∙ c.loop-row.invariant.below i j h l)
-          (λ h. c.mirror_row.ensures.before i h ∙ c.loop-row.invariant.above i r (omega arith)) j g h;
+          (λ h. c.mirror_row.ensures.before i h ∙ c.loop-row.invariant.above i row (omega arith)) j g h;
     }
 
 pub returns : goal.returns

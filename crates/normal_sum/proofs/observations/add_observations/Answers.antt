@@ -21,17 +21,17 @@ one_larger t m u a b i j own same others before = ⊎_elim
 
 pub loop-axis-preserved : goal.loop-axis-preserved
 loop-axis-preserved c =
-    let a : ℕ = c.loop-axis.axis in
+    let axis : ℕ = c.loop-axis.axis in
     let last : ℕ = BASELINE_COLUMNS + c.args.integers in
     record {
       axes = λ i h. below_more
-          (λ (i : ℕ). entry c.add_axis.new.table i last ≡ entry c.args.table.now i last -ℤ (share (length c.args.rows.now) c.args.signal *ℤ axis_spread c.args.rows.now i c.args.signal)) a
+          (λ (i : ℕ). entry c.add_axis.new.table i last ≡ entry c.args.table.now i last -ℤ (share (length c.args.rows.now) c.args.signal *ℤ axis_spread c.args.rows.now i c.args.signal)) axis
           (λ i below. c.add_axis.ensures.others i last (inl (λ e. omega (arith, e, below))) ∙ c.loop-axis.invariant.axes i below)
           (c.add_axis.ensures.there
-          ∙ ap (λ z. z -ℤ (share (length c.args.rows.now) c.args.signal *ℤ axis_spread c.args.rows.now a c.args.signal)) (c.loop-axis.invariant.others a last (inl (omega arith)))) i h;
-      size = λ i j. one_larger c.args.table.now c.loop-axis.table c.add_axis.new.table a last i j c.add_axis.ensures.size (c.loop-axis.invariant.others a last (inl (omega arith)))
+          ∙ ap (λ z. z -ℤ (share (length c.args.rows.now) c.args.signal *ℤ axis_spread c.args.rows.now axis c.args.signal)) (c.loop-axis.invariant.others axis last (inl (omega arith)))) i h;
+      size = λ i j. one_larger c.args.table.now c.loop-axis.table c.add_axis.new.table axis last i j c.add_axis.ensures.size (c.loop-axis.invariant.others axis last (inl (omega arith)))
           (c.add_axis.ensures.others i j) (c.loop-axis.invariant.size i j);
-      others = λ i j w. ⊎_elim (λ (g : a + 1 ≤ i). c.add_axis.ensures.others i j (inl (λ e. omega (arith, e, g))) ∙ c.loop-axis.invariant.others i j (inl (omega arith)))
+      others = λ i j w. ⊎_elim (λ (g : axis + 1 ≤ i). c.add_axis.ensures.others i j (inl (λ e. omega (arith, e, g))) ∙ c.loop-axis.invariant.others i j (inl (omega arith)))
           (λ (f : j ≢ last). c.add_axis.ensures.others i j (inr f) ∙ c.loop-axis.invariant.others i j (inr f)) w;
     }
 

@@ -22,23 +22,23 @@ add_to_entry-requires-clause-value_size c =
 pub returns-clause-there : goal.returns-clause-there
 returns-clause-there c =
     let n : ℕ = length c.args.rows.now in
-    let x : ℤ = entry c.args.table.now (BASELINE_COLUMNS + c.args.integers) (BASELINE_COLUMNS + c.args.integers) in
+    let entry_before : ℤ = entry c.args.table.now (BASELINE_COLUMNS + c.args.integers) (BASELINE_COLUMNS + c.args.integers) in
     let spread_small : unsigned_abs c.turned_spread-spread.result ≤ 2 ^ 77 = spread_fits (unsigned_abs c.turned_spread-spread.result) n c.requires.few_rows c.turned_spread-spread.ensures.size in
     let share_small : unsigned_abs c.turned_share-share.result ≤ 2 ^ 32 = share_within n c.args.signal c.turned_share-share.result c.requires.some c.turned_share-share.ensures in
     c.add_to_entry.ensures.there
-    ∙ ap (λ z. x +ℤ (z *ℤ to_z w64 (of_z w64 c.turned_share-share.result))) (as_w128 c.turned_spread-spread.result (omega (arith, spread_small)))
-    ∙ ap (λ z. x +ℤ (c.turned_spread-spread.result *ℤ z)) (as_w64 c.turned_share-share.result (omega (arith, share_small)))
-    ∙ twice_turned x c.turned_spread-spread.result c.turned_share-share.result (share n c.args.signal) (observation_spread c.args.rows.now c.args.signal) c.turned_share-share.ensures
+    ∙ ap (λ z. entry_before +ℤ (z *ℤ to_z w64 (of_z w64 c.turned_share-share.result))) (as_w128 c.turned_spread-spread.result (omega (arith, spread_small)))
+    ∙ ap (λ z. entry_before +ℤ (c.turned_spread-spread.result *ℤ z)) (as_w64 c.turned_share-share.result (omega (arith, share_small)))
+    ∙ twice_turned entry_before c.turned_spread-spread.result c.turned_share-share.result (share n c.args.signal) (observation_spread c.args.rows.now c.args.signal) c.turned_share-share.ensures
     c.turned_spread-spread.ensures.value
 
 pub returns-clause-size : goal.returns-clause-size
 returns-clause-size c =
     let n : ℕ = length c.args.rows.now in
-    let x : ℤ = entry c.args.table.now (BASELINE_COLUMNS + c.args.integers) (BASELINE_COLUMNS + c.args.integers) in
+    let entry_before : ℤ = entry c.args.table.now (BASELINE_COLUMNS + c.args.integers) (BASELINE_COLUMNS + c.args.integers) in
     let spread_small : unsigned_abs c.turned_spread-spread.result ≤ 2 ^ 77 = spread_fits (unsigned_abs c.turned_spread-spread.result) n c.requires.few_rows c.turned_spread-spread.ensures.size in
     let share_small : unsigned_abs c.turned_share-share.result ≤ 2 ^ 32 = share_within n c.args.signal c.turned_share-share.result c.requires.some c.turned_share-share.ensures in
-    spread_size _ x c.turned_spread-spread.result c.turned_share-share.result n c.requires.few_rows
+    spread_size _ entry_before c.turned_spread-spread.result c.turned_share-share.result n c.requires.few_rows
     (c.add_to_entry.ensures.there
-    ∙ ap (λ z. x +ℤ (z *ℤ to_z w64 (of_z w64 c.turned_share-share.result))) (as_w128 c.turned_spread-spread.result (omega (arith, spread_small)))
-    ∙ ap (λ z. x +ℤ (c.turned_spread-spread.result *ℤ z)) (as_w64 c.turned_share-share.result (omega (arith, share_small))))
+    ∙ ap (λ z. entry_before +ℤ (z *ℤ to_z w64 (of_z w64 c.turned_share-share.result))) (as_w128 c.turned_spread-spread.result (omega (arith, spread_small)))
+    ∙ ap (λ z. entry_before +ℤ (c.turned_spread-spread.result *ℤ z)) (as_w64 c.turned_share-share.result (omega (arith, share_small))))
     c.turned_spread-spread.ensures.size (share_size n c.args.signal c.turned_share-share.result c.turned_share-share.ensures)

@@ -41,12 +41,12 @@ sizes n p a b few hp ha hb =
 
 pub overflow_sub-result : goal.overflow_sub-result
 overflow_sub-result c =
-    let s : Sizes c.args.rows c.args.products c.args.first c.args.second = sizes c.args.rows c.args.products c.args.first c.args.second c.requires.few_rows c.requires.products_size
+    let sizes_hold : Sizes c.args.rows c.args.products c.args.first c.args.second = sizes c.args.rows c.args.products c.args.first c.args.second c.requires.few_rows c.requires.products_size
     c.requires.first_size c.requires.second_size in
     let a_small : unsigned_abs c.args.first ≤ 2 ^ 38 = omega (arith, c.requires.first_size, c.requires.few_rows) in
     let b_small : unsigned_abs c.args.second ≤ 2 ^ 38 = omega (arith, c.requires.second_size, c.requires.few_rows) in
     let whole_small : unsigned_abs ((pos c.args.rows *ℤ c.args.products) -ℤ (c.args.first *ℤ c.args.second)) ≤ 2 ^ 77 =
-    spread_fits (unsigned_abs ((pos c.args.rows *ℤ c.args.products) -ℤ (c.args.first *ℤ c.args.second))) c.args.rows c.requires.few_rows s.whole in
+    spread_fits (unsigned_abs ((pos c.args.rows *ℤ c.args.products) -ℤ (c.args.first *ℤ c.args.second))) c.args.rows c.requires.few_rows sizes_hold.whole in
     rw (
       rows_word c.args.rows c.requires.few_rows,
       to_z-of_z w128 c.args.products c.ranges.products,
@@ -54,18 +54,18 @@ overflow_sub-result c =
       to_z-of_z w64 c.args.second c.ranges.second,
       as_w128 c.args.first (omega (arith, a_small)),
       as_w128 c.args.second (omega (arith, b_small)),
-      as_w128 (pos c.args.rows *ℤ c.args.products) (omega (arith, s.first)),
-      as_w128 (c.args.first *ℤ c.args.second) (omega (arith, s.second)),
+      as_w128 (pos c.args.rows *ℤ c.args.products) (omega (arith, sizes_hold.first)),
+      as_w128 (c.args.first *ℤ c.args.second) (omega (arith, sizes_hold.second)),
     ) (fits ((pos c.args.rows *ℤ c.args.products) -ℤ (c.args.first *ℤ c.args.second)) whole_small)
 
 pub returns-clause-value : goal.returns-clause-value
 returns-clause-value c =
-    let s : Sizes c.args.rows c.args.products c.args.first c.args.second = sizes c.args.rows c.args.products c.args.first c.args.second c.requires.few_rows c.requires.products_size
+    let sizes_hold : Sizes c.args.rows c.args.products c.args.first c.args.second = sizes c.args.rows c.args.products c.args.first c.args.second c.requires.few_rows c.requires.products_size
     c.requires.first_size c.requires.second_size in
     let a_small : unsigned_abs c.args.first ≤ 2 ^ 38 = omega (arith, c.requires.first_size, c.requires.few_rows) in
     let b_small : unsigned_abs c.args.second ≤ 2 ^ 38 = omega (arith, c.requires.second_size, c.requires.few_rows) in
     let whole_small : unsigned_abs ((pos c.args.rows *ℤ c.args.products) -ℤ (c.args.first *ℤ c.args.second)) ≤ 2 ^ 77 =
-    spread_fits (unsigned_abs ((pos c.args.rows *ℤ c.args.products) -ℤ (c.args.first *ℤ c.args.second))) c.args.rows c.requires.few_rows s.whole in
+    spread_fits (unsigned_abs ((pos c.args.rows *ℤ c.args.products) -ℤ (c.args.first *ℤ c.args.second))) c.args.rows c.requires.few_rows sizes_hold.whole in
     rw (
       rows_word c.args.rows c.requires.few_rows,
       to_z-of_z w128 c.args.products c.ranges.products,
@@ -73,13 +73,13 @@ returns-clause-value c =
       to_z-of_z w64 c.args.second c.ranges.second,
       as_w128 c.args.first (omega (arith, a_small)),
       as_w128 c.args.second (omega (arith, b_small)),
-      as_w128 (pos c.args.rows *ℤ c.args.products) (omega (arith, s.first)),
-      as_w128 (c.args.first *ℤ c.args.second) (omega (arith, s.second)),
+      as_w128 (pos c.args.rows *ℤ c.args.products) (omega (arith, sizes_hold.first)),
+      as_w128 (c.args.first *ℤ c.args.second) (omega (arith, sizes_hold.second)),
       as_w128 ((pos c.args.rows *ℤ c.args.products) -ℤ (c.args.first *ℤ c.args.second)) (omega (arith, whole_small)),
     )
 
 pub returns-clause-size : goal.returns-clause-size
 returns-clause-size c =
-    let s : Sizes c.args.rows c.args.products c.args.first c.args.second = sizes c.args.rows c.args.products c.args.first c.args.second c.requires.few_rows c.requires.products_size
+    let sizes_hold : Sizes c.args.rows c.args.products c.args.first c.args.second = sizes c.args.rows c.args.products c.args.first c.args.second c.requires.few_rows c.requires.products_size
     c.requires.first_size c.requires.second_size in
-    subst (λ (x : ℤ). unsigned_abs x ≤ (c.args.rows * c.args.rows) * 2 ^ 69) (sym (returns-clause-value c)) s.whole
+    subst (λ (x : ℤ). unsigned_abs x ≤ (c.args.rows * c.args.rows) * 2 ^ 69) (sym (returns-clause-value c)) sizes_hold.whole

@@ -31,29 +31,29 @@ add_signal-requires-clause-phase c =
 pub add_signal-requires-clause-places : goal.add_signal-requires-clause-places
 add_signal-requires-clause-places c =
     let arcs : List Arc = c.args.arcs.now in
-    let ss : List ℕ = c.args.signals.now in
-    let s : ℕ = get_or ss c.loop-signal.signal-index 0 in
+    let signals : List ℕ = c.args.signals.now in
+    let signal : ℕ = get_or signals c.loop-signal.signal-index 0 in
     let rows : List Row = c.as_slice.result.now in
     let are : ArePlacesFrom c.args.arcs.now c.args.signals.now (get_or c.args.signals.now c.loop-signal.signal-index 0) c.as_slice.result.now c.first_places-firsts.result c.phase_place-phase.result =
-    are_places arcs ss s rows c.first_places-firsts.result c.phase_place-phase.result c.phase_place-phase.ensures c.first_places-firsts.ensures.value in
+    are_places arcs signals signal rows c.first_places-firsts.result c.phase_place-phase.result c.phase_place-phase.ensures c.first_places-firsts.ensures.value in
     subst (λ (n : ℕ). (k : ℕ) → IfSome (place_from (slice_index_or c.first_places-firsts.result k None) c.phase_place-phase.result) (λ i. i < n)) (sym c.requires.integers)
-    (are_within arcs ss s rows c.first_places-firsts.result c.phase_place-phase.result are c.first_places-firsts.ensures.none)
+    (are_within arcs signals signal rows c.first_places-firsts.result c.phase_place-phase.result are c.first_places-firsts.ensures.none)
 
 pub loop-signal-preserved : goal.loop-signal-preserved
 loop-signal-preserved c =
     let arcs : List Arc = c.args.arcs.now in
     let signals : List ℕ = c.args.signals.now in
     let k : ℕ = c.loop-signal.signal-index in
-    let s : ℕ = get_or signals k 0 in
-    let f : ℕ → SignalGroup = signal_group arcs signals c.args.pair.now in
+    let signal : ℕ = get_or signals k 0 in
+    let group : ℕ → SignalGroup = signal_group arcs signals c.args.pair.now in
     let inside : c.loop-signal.signal-index < length c.args.signals.now = search rules in
-    let e : drop k signals ≡ s ∷ drop (k + 1) signals = drop_more signals k 0 inside in
+    let rest_is : drop k signals ≡ signal ∷ drop (k + 1) signals = drop_more signals k 0 inside in
     let are : ArePlacesFrom c.args.arcs.now c.args.signals.now (get_or c.args.signals.now c.loop-signal.signal-index 0) c.args.pair.now.rows c.first_places-firsts.result c.phase_place-phase.result =
-    subst (λ (rows : List Row). ArePlacesFrom arcs signals s rows c.first_places-firsts.result c.phase_place-phase.result) c.as_slice.ensures
-    (are_places arcs signals s c.as_slice.result.now c.first_places-firsts.result c.phase_place-phase.result c.phase_place-phase.ensures c.first_places-firsts.ensures.value) in
+    subst (λ (rows : List Row). ArePlacesFrom arcs signals signal rows c.first_places-firsts.result c.phase_place-phase.result) c.as_slice.ensures
+    (are_places arcs signals signal c.as_slice.result.now c.first_places-firsts.result c.phase_place-phase.result c.phase_place-phase.ensures c.first_places-firsts.ensures.value) in
     record {
-      sums = λ i j hi b hj. next_sum (entry c.loop-signal.table i j) (entry c.add_signal.new.table i j) (group_entry (f s) i j) (matrix_entry (map f (drop (k + 1) signals)) i j) _
-          (ap (λ (l : List ℕ). entry c.loop-signal.table i j +ℤ matrix_entry (map f l) i j) (sym e) ∙ c.loop-signal.invariant.sums i j hi b hj)
+      sums = λ i j hi b hj. next_sum (entry c.loop-signal.table i j) (entry c.add_signal.new.table i j) (group_entry (group signal) i j) (matrix_entry (map group (drop (k + 1) signals)) i j) _
+          (ap (λ (l : List ℕ). entry c.loop-signal.table i j +ℤ matrix_entry (map group l) i j) (sym rest_is) ∙ c.loop-signal.invariant.sums i j hi b hj)
           (c.add_signal.ensures.added arcs signals are c.requires.integers i j hi b hj);
       size = λ i j hi b hj. larger _ _ _ k (c.add_signal.ensures.size i j hi b hj) (c.loop-signal.invariant.size i j hi b hj);
       baseline = λ i j h. c.add_signal.ensures.baseline i j h ∙ c.loop-signal.invariant.baseline i j h;

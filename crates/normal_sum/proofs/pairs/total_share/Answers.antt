@@ -31,19 +31,19 @@ pub loop-signal-preserved : goal.loop-signal-preserved
 loop-signal-preserved c =
     let signals : List ℕ = c.args.signals.now in
     let i : ℕ = c.loop-signal.signal-index in
-    let s : ℕ = get_or signals i 0 in
+    let signal : ℕ = get_or signals i 0 in
     let inside : c.loop-signal.signal-index < length c.args.signals.now = search rules in
-    let first : drop i signals ≡ s ∷ drop (i + 1) signals = drop_more signals i 0 inside in
-    let q : ℤ = pos (360360 / c.args.rows) in
-    let t : ℤ = to_z w64 c.loop-signal.total-bits in
-    let k : ℤ = c.share-total.result in
-    let more : Step (to_z w64 (of_z w64 (t +ℤ to_z w64 (of_z w64 k)))) t k i =
-    step t k i (length signals) c.loop-signal.invariant.from c.loop-signal.invariant.to c.share-total.ensures.from
-    (most k c.share-total.ensures.from c.share-total.ensures.size) inside c.requires.counted.few in
+    let first : drop i signals ≡ signal ∷ drop (i + 1) signals = drop_more signals i 0 inside in
+    let row_share : ℤ = pos (360360 / c.args.rows) in
+    let total : ℤ = to_z w64 c.loop-signal.total-bits in
+    let share : ℤ = c.share-total.result in
+    let more : Step (to_z w64 (of_z w64 (total +ℤ to_z w64 (of_z w64 share)))) total share i =
+    step total share i (length signals) c.loop-signal.invariant.from c.loop-signal.invariant.to c.share-total.ensures.from
+    (most share c.share-total.ensures.from c.share-total.ensures.size) inside c.requires.counted.few in
     record {
-      value = ap (λ z. z +ℤ (q *ℤ sum (map weight (drop (i + 1) signals)))) more.is
-          ∙ next t q k (weight s) (sum (map weight (drop (i + 1) signals))) (q *ℤ sum (map weight signals))
-          (ap (λ (l : List ℕ). t +ℤ (q *ℤ sum (map weight l))) (sym first) ∙ c.loop-signal.invariant.value) c.share-total.ensures.value;
+      value = ap (λ z. z +ℤ (row_share *ℤ sum (map weight (drop (i + 1) signals)))) more.is
+          ∙ next total row_share share (weight signal) (sum (map weight (drop (i + 1) signals))) (row_share *ℤ sum (map weight signals))
+          (ap (λ (l : List ℕ). total +ℤ (row_share *ℤ sum (map weight l))) (sym first) ∙ c.loop-signal.invariant.value) c.share-total.ensures.value;
       from = more.from;
       to = more.to;
     }

@@ -20,11 +20,11 @@ add_product_row-requires-clause-columns c =
 
 pub add_product_row-requires-clause-entry_size : goal.add_product_row-requires-clause-entry_size
 add_product_row-requires-clause-entry_size c =
-    let i : ℕ = get_or c.args.columns.now c.loop-k.k 0 in
+    let column : ℕ = get_or c.args.columns.now c.loop-k.k 0 in
     λ j m b h. subst (λ (z : ℤ). unsigned_abs z ≤ 2 ^ 120)
-    (sym (untouched (λ i. i ≤ j) c.args.columns.now c.loop-k.k (λ i. entry c.args.table.now i j) (λ i. entry c.loop-k.table i j)
-    (λ i. (to_z w64 (of_z w64 c.args.weight) *ℤ slice_index_or c.args.values.now i (pos 0)) *ℤ slice_index_or c.args.values.now j (pos 0))
-    c.requires.columns.rising c.loop-k-test.true (c.loop-k.invariant.added j b h) m)) (c.requires.entry_size i j m b h)
+    (sym (untouched (λ column. column ≤ j) c.args.columns.now c.loop-k.k (λ column. entry c.args.table.now column j) (λ column. entry c.loop-k.table column j)
+    (λ column. (to_z w64 (of_z w64 c.args.weight) *ℤ slice_index_or c.args.values.now column (pos 0)) *ℤ slice_index_or c.args.values.now j (pos 0))
+    c.requires.columns.rising c.loop-k-test.true (c.loop-k.invariant.added j b h) m)) (c.requires.entry_size column j m b h)
 
 pub loop-k-preserved : goal.loop-k-preserved
 loop-k-preserved c = record {
@@ -42,9 +42,9 @@ loop-k-preserved c = record {
 
 pub returns-clause-added : goal.returns-clause-added
 returns-clause-added c =
-    let w : to_z w64 (of_z w64 c.args.weight) ≡ c.args.weight = to_z-of_z w64 c.args.weight c.ranges.weight in
+    let weight_kept : to_z w64 (of_z w64 c.args.weight) ≡ c.args.weight = to_z-of_z w64 c.args.weight c.ranges.weight in
     λ i j m b h. all_added (λ i. i ≤ j) c.args.values.now c.args.columns.now c.loop-k.k (λ i. entry c.args.table.now i j) (λ i. entry c.loop-k.table i j)
     (λ i. (to_z w64 (of_z w64 c.args.weight) *ℤ slice_index_or c.args.values.now i (pos 0)) *ℤ slice_index_or c.args.values.now j (pos 0))
     (λ i p f. c.requires.columns.others i f) (omega (arith, c.loop-k-test.false, c.loop-k.auto.k-end)) (c.loop-k.invariant.added j b h)
     (λ i z. product_nothing (to_z w64 (of_z w64 c.args.weight)) (slice_index_or c.args.values.now i (pos 0)) (slice_index_or c.args.values.now j (pos 0)) z) i m
-    ∙ ap (λ z. entry c.args.table.now i j +ℤ ((z *ℤ slice_index_or c.args.values.now i (pos 0)) *ℤ slice_index_or c.args.values.now j (pos 0))) w
+    ∙ ap (λ z. entry c.args.table.now i j +ℤ ((z *ℤ slice_index_or c.args.values.now i (pos 0)) *ℤ slice_index_or c.args.values.now j (pos 0))) weight_kept

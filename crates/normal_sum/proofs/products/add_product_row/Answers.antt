@@ -6,18 +6,18 @@ use Rattle.normal_sum.proofs.products.add_product_row.Goals as goal
 
 pub returns-then-is_short-clause-added : goal.returns-then-is_short-clause-added
 returns-then-is_short-clause-added c =
-    let v : ℤ = slice_index_or c.args.values.now c.args.row (pos 0) in
-    let small : unsigned_abs v ≤ 2 ^ 38 = c.requires.value_size c.args.row c.requires.row_in in
-    let as_read : to_z w64 (of_z w64 v) ≡ v = as_w64 v (omega arith) in
+    let value : ℤ = slice_index_or c.args.values.now c.args.row (pos 0) in
+    let small : unsigned_abs value ≤ 2 ^ 38 = c.requires.value_size c.args.row c.requires.row_in in
+    let as_read : to_z w64 (of_z w64 value) ≡ value = as_w64 value (omega arith) in
     let product = (rw (to_z-of_z w64 c.args.weight c.ranges.weight, as_read) at c.short_times.ensures.value) in
     let as_word : to_z w64 (of_z w64 c.short_times.result) ≡ c.short_times.result = as_w64 c.short_times.result (omega (arith, c.short_times.ensures.size)) in
     λ j from behind inside. rw (as_word, product) at (c.add_short_to_row.ensures.added j from behind inside)
 
 pub returns-else-is_short-clause-added : goal.returns-else-is_short-clause-added
 returns-else-is_short-clause-added c =
-    let v : ℤ = slice_index_or c.args.values.now c.args.row (pos 0) in
-    let small : unsigned_abs v ≤ 2 ^ 38 = c.requires.value_size c.args.row c.requires.row_in in
-    let as_read : to_z w64 (of_z w64 v) ≡ v = as_w64 v (omega arith) in
+    let value : ℤ = slice_index_or c.args.values.now c.args.row (pos 0) in
+    let small : unsigned_abs value ≤ 2 ^ 38 = c.requires.value_size c.args.row c.requires.row_in in
+    let as_read : to_z w64 (of_z w64 value) ≡ value = as_w64 value (omega arith) in
     let product = (rw (to_z-of_z w64 c.args.weight c.ranges.weight, as_read) at c.times.ensures.value) in
     let as_word : to_z w128 (of_z w128 c.times.result) ≡ c.times.result = as_w128 c.times.result (omega (arith, c.times.ensures.size)) in
     λ j from behind inside. rw (as_word, product) at (c.add_to_row.ensures.added j from behind inside)

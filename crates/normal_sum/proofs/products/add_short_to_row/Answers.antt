@@ -19,20 +19,20 @@ add_short_to_entry-requires-clause-entry_size c = next_fits c.args.row c.args.va
 
 pub loop-column-preserved : goal.loop-column-preserved
 loop-column-preserved c =
-    let j : ℕ = get_or c.args.columns.now c.loop-column.column-index 0 in
+    let column : ℕ = get_or c.args.columns.now c.loop-column.column-index 0 in
     let within : get_or c.args.columns.now c.loop-column.column-index 0 < MOST_COLUMNS = c.requires.columns.inside c.loop-column.column-index 0 c.loop-column-test.true in
-    let v : to_z w64 (of_z w64 (slice_index_or c.args.values.now j (pos 0))) ≡ slice_index_or c.args.values.now j (pos 0) = as_w64 (slice_index_or c.args.values.now j (pos 0))
-    (omega (arith, c.requires.value_size j within)) in
+    let value_kept : to_z w64 (of_z w64 (slice_index_or c.args.values.now column (pos 0))) ≡ slice_index_or c.args.values.now column (pos 0) = as_w64 (slice_index_or c.args.values.now column (pos 0))
+    (omega (arith, c.requires.value_size column within)) in
     row_next c.args.row c.args.values.now c.args.columns.now c.loop-column.column-index c.args.table.now c.loop-column.table c.add_short_to_entry.new.table
-    (λ j. to_z w64 (of_z w64 c.args.factor) *ℤ slice_index_or c.args.values.now j (pos 0)) c.requires.columns c.loop-column-test.true c.loop-column.invariant
-    (c.add_short_to_entry.ensures.there ∙ ap (λ z. entry c.loop-column.table c.args.row j +ℤ (to_z w64 (of_z w64 c.args.factor) *ℤ z)) v) c.add_short_to_entry.ensures.others
+    (λ column. to_z w64 (of_z w64 c.args.factor) *ℤ slice_index_or c.args.values.now column (pos 0)) c.requires.columns c.loop-column-test.true c.loop-column.invariant
+    (c.add_short_to_entry.ensures.there ∙ ap (λ z. entry c.loop-column.table c.args.row column +ℤ (to_z w64 (of_z w64 c.args.factor) *ℤ z)) value_kept) c.add_short_to_entry.ensures.others
 
 pub returns-clause-added : goal.returns-clause-added
 returns-clause-added c =
-    let w : to_z w64 (of_z w64 c.args.factor) ≡ c.args.factor = to_z-of_z w64 c.args.factor c.ranges.factor in
+    let factor_kept : to_z w64 (of_z w64 c.args.factor) ≡ c.args.factor = to_z-of_z w64 c.args.factor c.ranges.factor in
     λ j m b h. row_end c.args.row c.args.values.now c.args.columns.now c.loop-column.column-index c.args.table.now c.loop-column.table (to_z w64 (of_z w64 c.args.factor)) c.requires.columns
     (omega (arith, c.loop-column-test.false, c.loop-column.auto.column-index-end)) c.loop-column.invariant j m b
-    ∙ ap (λ z. entry c.args.table.now c.args.row j +ℤ (z *ℤ slice_index_or c.args.values.now j (pos 0))) w
+    ∙ ap (λ z. entry c.args.table.now c.args.row j +ℤ (z *ℤ slice_index_or c.args.values.now j (pos 0))) factor_kept
 
 pub returns-clause-baseline : goal.returns-clause-baseline
 returns-clause-baseline c = c.loop-column.invariant.baseline

@@ -7,15 +7,15 @@ use Rattle.normal_sum.proofs.products.plus_times.Goals as goal
 
 pub returns : goal.returns
 returns c =
-    let p : unsigned_abs (c.args.factor *ℤ c.args.value) ≤ 2 ^ 115 = abs_mul_le c.args.factor c.args.value (2 ^ 77) (2 ^ 38) c.requires.factor_size c.requires.value_size in
-    let s : unsigned_abs (c.args.sum +ℤ (c.args.factor *ℤ c.args.value)) ≤ unsigned_abs c.args.sum + unsigned_abs (c.args.factor *ℤ c.args.value) =
+    let product_small : unsigned_abs (c.args.factor *ℤ c.args.value) ≤ 2 ^ 115 = abs_mul_le c.args.factor c.args.value (2 ^ 77) (2 ^ 38) c.requires.factor_size c.requires.value_size in
+    let sum_at_most : unsigned_abs (c.args.sum +ℤ (c.args.factor *ℤ c.args.value)) ≤ unsigned_abs c.args.sum + unsigned_abs (c.args.factor *ℤ c.args.value) =
     size_add c.args.sum (c.args.factor *ℤ c.args.value) in
-    let v : to_z w128 (of_z w128 c.args.value) ≡ c.args.value = as_w128 c.args.value (omega (arith, c.requires.value_size)) in
+    let value_kept : to_z w128 (of_z w128 c.args.value) ≡ c.args.value = as_w128 c.args.value (omega (arith, c.requires.value_size)) in
     rw (
       to_z-of_z w128 c.args.sum c.ranges.sum,
       to_z-of_z w128 c.args.factor c.ranges.factor,
       to_z-of_z w64 c.args.value c.ranges.value,
-      v,
+      value_kept,
       as_w128 (c.args.factor *ℤ c.args.value)
           (omega arith),
       as_w128 (c.args.sum +ℤ (c.args.factor *ℤ c.args.value)) (omega (arith, c.requires.sum_size)),

@@ -28,15 +28,15 @@ add_row-sums-requires-clause-sums c =
 
 pub loop-row-preserved : goal.loop-row-preserved
 loop-row-preserved c =
-    let x : Row = c.row-item.result in
+    let row : Row = c.row-item.result in
     let later : List Row = drop (c.loop-row.row-index + 1) c.args.rows.now in
     let inside : c.loop-row.row-index < length c.args.rows.now = search rules in
-    let next : drop c.loop-row.row-index c.args.rows.now ≡ x ∷ later = drop_more c.args.rows.now c.loop-row.row-index x inside ∙ ap (λ (y : Row). y ∷ later) (sym c.row-item.is) in
+    let next : drop c.loop-row.row-index c.args.rows.now ≡ row ∷ later = drop_more c.args.rows.now c.loop-row.row-index row inside ∙ ap (λ (y : Row). y ∷ later) (sym c.row-item.is) in
     record {
       value = λ w arcs ss s weighs.
           ap (λ (p : Radii). add_radii p (row_radii w (map (signal_row arcs ss s) later)))
-          (c.add_row-sums.ensures.value ∙ ap (λ z. add_radii (radii_of c.loop-row.sums) (squares_of z x)) weighs)
-          ∙ radii_assoc (radii_of c.loop-row.sums) (squares_of (pos 360360 *ℤ w) x) (row_radii w (map (signal_row arcs ss s) later))
+          (c.add_row-sums.ensures.value ∙ ap (λ z. add_radii (radii_of c.loop-row.sums) (squares_of z row)) weighs)
+          ∙ radii_assoc (radii_of c.loop-row.sums) (squares_of (pos 360360 *ℤ w) row) (row_radii w (map (signal_row arcs ss s) later))
           ∙ ap (λ (l : List Row). add_radii (radii_of c.loop-row.sums) (row_radii w (map (signal_row arcs ss s) l))) (sym next)
           ∙ c.loop-row.invariant.value w arcs ss s weighs;
       size = λ m most. at_most_wider ((m + (c.loop-row.row-index * 2 ^ 75)) + 2 ^ 75) (m + ((c.loop-row.row-index + 1) * 2 ^ 75)) _ (one_more m c.loop-row.row-index)

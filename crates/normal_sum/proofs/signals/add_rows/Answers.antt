@@ -55,29 +55,29 @@ add_row-requires-clause-total_size c =
 
 pub loop-k-preserved : goal.loop-k-preserved
 loop-k-preserved c =
-    let x : Row = c.index-rows-k.result in
+    let row : Row = c.index-rows-k.result in
     let later : List Row = drop (c.loop-k.k + 1) c.args.rows.now in
-    let k : ℤ = pos 360360 *ℤ weight c.args.signal in
+    let share : ℤ = pos 360360 *ℤ weight c.args.signal in
     let inside : c.loop-k.k < length c.args.rows.now = c.loop-k-test.true in
-    let e : drop c.loop-k.k c.args.rows.now ≡ c.index-rows-k.result ∷ later = drop_more c.args.rows.now c.loop-k.k x inside ∙ ap (λ (y : Row). y ∷ later) (sym c.index-rows-k.is) in
+    let rest_is : drop c.loop-k.k c.args.rows.now ≡ c.index-rows-k.result ∷ later = drop_more c.args.rows.now c.loop-k.k row inside ∙ ap (λ (y : Row). y ∷ later) (sym c.index-rows-k.is) in
     record {
       full = search rules;
       zeros = c.add_row.ensures.zeros;
       products = λ arcs ss p n i j h b g.
-          let f : Row → SignalRow = signal_row arcs ss c.args.signal in
-          let place : slice_index_or c.args.places.now c.loop-k.k None ≡ integer_place arcs ss c.index-rows-k.result.arc c.args.signal = p c.loop-k.k x inside
+          let row_to_signal : Row → SignalRow = signal_row arcs ss c.args.signal in
+          let place : slice_index_or c.args.places.now c.loop-k.k None ≡ integer_place arcs ss c.index-rows-k.result.arc c.args.signal = p c.loop-k.k row inside
           ∙ ap (λ (r : Row). integer_place arcs ss r.arc c.args.signal) (sym c.index-rows-k.is) in
-          next_product (entry c.loop-k.table i j) (entry c.add_row.new.table i j) (entry c.args.table.now i j) k (coefficient (f x) i) (coefficient (f x) j) (product_sum (map f later) i j)
-          (product_sum (map f c.args.rows.now) i j)
-          (ap (λ (l : List Row). entry c.loop-k.table i j +ℤ (k *ℤ product_sum (map f l) i j)) (sym e) ∙ c.loop-k.invariant.products arcs ss p n i j h b g)
+          next_product (entry c.loop-k.table i j) (entry c.add_row.new.table i j) (entry c.args.table.now i j) share (coefficient (row_to_signal row) i) (coefficient (row_to_signal row) j) (product_sum (map row_to_signal later) i j)
+          (product_sum (map row_to_signal c.args.rows.now) i j)
+          (ap (λ (l : List Row). entry c.loop-k.table i j +ℤ (share *ℤ product_sum (map row_to_signal l) i j)) (sym rest_is) ∙ c.loop-k.invariant.products arcs ss p n i j h b g)
           (c.add_row.ensures.products arcs ss place n i j h b g);
       sums = λ arcs ss p n j h.
-          let f : Row → SignalRow = signal_row arcs ss c.args.signal in
-          let place : slice_index_or c.args.places.now c.loop-k.k None ≡ integer_place arcs ss c.index-rows-k.result.arc c.args.signal = p c.loop-k.k x inside
+          let to_signal_row : Row → SignalRow = signal_row arcs ss c.args.signal in
+          let place : slice_index_or c.args.places.now c.loop-k.k None ≡ integer_place arcs ss c.index-rows-k.result.arc c.args.signal = p c.loop-k.k row inside
           ∙ ap (λ (r : Row). integer_place arcs ss r.arc c.args.signal) (sym c.index-rows-k.is) in
-          next_sum (slice_index_or c.loop-k.total j (pos 0)) (slice_index_or c.add_row.new.total j (pos 0)) (coefficient (f x) j) (coefficient_sum (map f later) j)
-          (coefficient_sum (map f c.args.rows.now) j)
-          (ap (λ (l : List Row). slice_index_or c.loop-k.total j (pos 0) +ℤ coefficient_sum (map f l) j) (sym e) ∙ c.loop-k.invariant.sums arcs ss p n j h)
+          next_sum (slice_index_or c.loop-k.total j (pos 0)) (slice_index_or c.add_row.new.total j (pos 0)) (coefficient (to_signal_row row) j) (coefficient_sum (map to_signal_row later) j)
+          (coefficient_sum (map to_signal_row c.args.rows.now) j)
+          (ap (λ (l : List Row). slice_index_or c.loop-k.total j (pos 0) +ℤ coefficient_sum (map to_signal_row l) j) (sym rest_is) ∙ c.loop-k.invariant.sums arcs ss p n j h)
           (c.add_row.ensures.sums arcs ss place n j h);
       table_size = λ i j h b g. larger _ _ _ _ (c.add_row.ensures.table_size i j h b g) (c.loop-k.invariant.table_size i j h b g);
       beyond = λ j h g. c.add_row.ensures.beyond j h g ∙ c.loop-k.invariant.beyond j h g;

@@ -5,12 +5,12 @@ use Rattle.normal_sum.proofs.sums.clear.Goals as goal
 
 pub loop-row-preserved : goal.loop-row-preserved
 loop-row-preserved c =
-    let r : ℕ = c.loop-row.row in
+    let row : ℕ = c.loop-row.row in
     record {
-      cleared = λ i j h. below_more (λ (i : ℕ). entry c.clear_row.new.table i j ≡ pos 0) r
+      cleared = λ i j h. below_more (λ (i : ℕ). entry c.clear_row.new.table i j ≡ pos 0) row
           (λ i h. c.clear_row.ensures.others i j (omega arith) ∙ c.loop-row.invariant.cleared i j h)
           (⊎_elim (λ (a : j < c.args.columns). c.clear_row.ensures.cleared j a)
-          (λ (a : c.args.columns ≤ j). c.clear_row.ensures.later j a ∙ c.loop-row.invariant.rest r j (omega arith) ∙ c.requires.outside r j (inr a))
+          (λ (a : c.args.columns ≤ j). c.clear_row.ensures.later j a ∙ c.loop-row.invariant.rest row j (omega arith) ∙ c.requires.outside row j (inr a))
           (cases_lt j c.args.columns)) i h;
       rest = λ i j h. c.clear_row.ensures.others i j (omega arith) ∙ c.loop-row.invariant.rest i j (omega arith);
     }

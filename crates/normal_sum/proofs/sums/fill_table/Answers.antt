@@ -68,21 +68,21 @@ pub loop-pair-preserved : goal.loop-pair-preserved
 loop-pair-preserved c =
     let pairs : List PairRows = c.args.pairs.now in
     let k : ℕ = c.loop-pair.pair-index in
-    let p : PairRows = c.pair-item.result in
+    let pair : PairRows = c.pair-item.result in
     let later : List PairRows = drop (k + 1) pairs in
     let groups : List PairRows → List SignalGroup = λ l. signal_groups c.args.arcs.now c.args.signals.now l in
-    let mine : List SignalGroup = pair_groups c.args.arcs.now c.args.signals.now p in
-    let e : drop k pairs ≡ p ∷ later = drop_more pairs k p c.loop-pair-test.true ∙ ap (λ (y : PairRows). y ∷ later) (sym c.pair-item.is) in
+    let mine : List SignalGroup = pair_groups c.args.arcs.now c.args.signals.now pair in
+    let rest_is : drop k pairs ≡ pair ∷ later = drop_more pairs k pair c.loop-pair-test.true ∙ ap (λ (y : PairRows). y ∷ later) (sym c.pair-item.is) in
     record {
       sums = λ i j hi hj. next_sum (entry c.loop-pair.table i j) (entry c.add_pair.new.table i j) (matrix_entry mine i j) (matrix_entry (groups later) i j) (matrix_entry (groups pairs) i j)
           (ap (λ z. entry c.loop-pair.table i j +ℤ z) (sym (matrix_append mine (groups later) i j)) ∙ ap (λ (l : List PairRows). entry c.loop-pair.table i j +ℤ matrix_entry (groups l) i j)
-          (sym e) ∙ c.loop-pair.invariant.sums i j hi hj)
+          (sym rest_is) ∙ c.loop-pair.invariant.sums i j hi hj)
           (c.add_pair.ensures.added i j hi hj);
       size = λ i j hi hj. larger _ _ k (c.add_pair.ensures.size i j hi hj) (c.loop-pair.invariant.size i j hi hj);
       radii = ap (λ (r : Radii). add_radii r (radii (groups later))) (c.add_pair_radii-radii.ensures.value c.args.arcs.now)
           ∙ radii_assoc (radii_of c.loop-pair.radii) (radii mine) (radii (groups later))
           ∙ ap (λ (r : Radii). add_radii (radii_of c.loop-pair.radii) r) (sym (radii_append mine (groups later)))
-          ∙ ap (λ (l : List PairRows). add_radii (radii_of c.loop-pair.radii) (radii (groups l))) (sym e)
+          ∙ ap (λ (l : List PairRows). add_radii (radii_of c.loop-pair.radii) (radii (groups l))) (sym rest_is)
           ∙ c.loop-pair.invariant.radii;
       radii_size = at_most_wider ((k * 2 ^ 79) + 2 ^ 79) ((k + 1) * 2 ^ 79) _ (one_more k) (c.add_pair_radii-radii.ensures.size (k * 2 ^ 79) c.loop-pair.invariant.radii_size);
     }
@@ -104,13 +104,13 @@ mirror-requires-clause-columns_in c = omega (arith, count_within c.args.arcs.now
 pub mirror-requires-clause-outside : goal.mirror-requires-clause-outside
 mirror-requires-clause-outside c =
     let arcs : List Arc = c.args.arcs.now in
-    let ss : List ℕ = c.args.signals.now in
+    let signals : List ℕ = c.args.signals.now in
     let pairs : List PairRows = c.args.pairs.now in
     let k : ℕ = c.loop-pair.pair-index in
     let last : length pairs ≤ k = search rules in
     let none : drop k pairs ≡ [] = drop_all k pairs last in
-    λ i j h g l. zero_last _ _ (ap (λ (p : List PairRows). entry c.loop-pair.table i j +ℤ matrix_entry (signal_groups arcs ss p) i j) (sym none) ∙ c.loop-pair.invariant.sums i j (le_of_lt h) l)
-    ∙ matrix_past (integer_count arcs ss) (signal_groups arcs ss pairs) i j (groups_of arcs ss pairs) (after (integer_count arcs ss) c.args.integers j (four_and (integer_count arcs ss)) c.requires.integers g)
+    λ i j h g l. zero_last _ _ (ap (λ (p : List PairRows). entry c.loop-pair.table i j +ℤ matrix_entry (signal_groups arcs signals p) i j) (sym none) ∙ c.loop-pair.invariant.sums i j (le_of_lt h) l)
+    ∙ matrix_past (integer_count arcs signals) (signal_groups arcs signals pairs) i j (groups_of arcs signals pairs) (after (integer_count arcs signals) c.args.integers j (four_and (integer_count arcs signals)) c.requires.integers g)
   where
     after : (n m j : ℕ) → columns n ≡ 4 + n → m ≡ n → (3 + m) + 1 ≤ j → columns n ≤ j
     after n m j e is h = omega (arith, e, is, h)
@@ -133,7 +133,7 @@ returns-clause-entries_in c =
 pub returns-clause-radii : goal.returns-clause-radii
 returns-clause-radii c =
     let arcs : List Arc = c.args.arcs.now in
-    let ss : List ℕ = c.args.signals.now in
+    let signals : List ℕ = c.args.signals.now in
     let pairs : List PairRows = c.args.pairs.now in
     let k : ℕ = c.loop-pair.pair-index in
     let last : length pairs ≤ k = search rules in
@@ -141,7 +141,7 @@ returns-clause-radii c =
     let none : drop c.loop-pair.pair-index c.args.pairs.now ≡ [] = drop_all k pairs last in
     let within : k * 2 ^ 79 < 2 ^ 100 = radii_range k (length pairs) upper c.requires.few in
     words_are c.loop-pair.radii (k * 2 ^ 79) c.loop-pair.invariant.radii_size within ∙ ap (λ (r : Radii). radius_list r)
-    (sym (radii_end (radii_of c.loop-pair.radii)) ∙ ap (λ (l : List PairRows). add_radii (radii_of c.loop-pair.radii) (radii (signal_groups arcs ss l))) (sym none)
+    (sym (radii_end (radii_of c.loop-pair.radii)) ∙ ap (λ (l : List PairRows). add_radii (radii_of c.loop-pair.radii) (radii (signal_groups arcs signals l))) (sym none)
     ∙ c.loop-pair.invariant.radii)
 
 pub returns-clause-radii_in : goal.returns-clause-radii_in

@@ -5,15 +5,15 @@ use Rattle.normal_sum.proofs.sums.refill.Goals as goal
 
 pub invariant_of-normal : goal.invariant_of-normal
 invariant_of-normal c =
-    let s : Shaped ((3 + c.integer_count-integers.result) + 1) c.fill_table-r.new.table =
+    let is_shaped : Shaped ((3 + c.integer_count-integers.result) + 1) c.fill_table-r.new.table =
     shaped c.args.arcs.now c.args.signals.now c.args.pairs.now c.integer_count-integers.result c.fill_table-r.new.table c.requires.counted c.requires.free c.integer_count-integers.ensures
     c.fill_table-r.ensures.entries in
     record {
-      columns_from = s.from;
-      columns_to = s.to;
-      symmetric = s.symmetric;
+      columns_from = is_shaped.from;
+      columns_to = is_shaped.to;
+      symmetric = is_shaped.symmetric;
       entries_in = c.fill_table-r.ensures.entries_in;
-      nothing_outside = s.outside;
+      nothing_outside = is_shaped.outside;
       radii_in = c.fill_table-r.ensures.radii_in;
     }
 

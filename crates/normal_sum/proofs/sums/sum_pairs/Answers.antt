@@ -11,15 +11,15 @@ fill_table-r-requires-clause-zeros c = λ i j. ap (λ (t : List (List ℤ)). ent
 
 pub invariant_of-result : goal.invariant_of-result
 invariant_of-result c =
-    let s : Shaped ((3 + c.integer_count-integers.result) + 1) c.fill_table-r.new.table =
+    let is_shaped : Shaped ((3 + c.integer_count-integers.result) + 1) c.fill_table-r.new.table =
     shaped c.args.arcs.now c.args.signals.now c.args.pairs.now c.integer_count-integers.result c.fill_table-r.new.table c.requires.counted c.requires.free c.integer_count-integers.ensures
     c.fill_table-r.ensures.entries in
     record {
-      columns_from = s.from;
-      columns_to = s.to;
-      symmetric = s.symmetric;
+      columns_from = is_shaped.from;
+      columns_to = is_shaped.to;
+      symmetric = is_shaped.symmetric;
       entries_in = c.fill_table-r.ensures.entries_in;
-      nothing_outside = s.outside;
+      nothing_outside = is_shaped.outside;
       radii_in = c.fill_table-r.ensures.radii_in;
     }
 

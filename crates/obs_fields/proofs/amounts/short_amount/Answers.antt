@@ -13,8 +13,8 @@ returns c =
     let point : get_or text 10 0 ≡ 46 = omega (arith, c.if-text-ne46.false) in
     let inside : 10 < length text = omega (arith, c.requires) in
     let part = take (length text - 11) (drop 11 text) in
-    let is : text ≡ take 10 text ++ 46 ∷ part = around_point text 10 inside point ∙ ap (λ (l : List _). take 10 text ++ 46 ∷ l) (sym (tail_is 11 text)) in
+    let text_is : text ≡ take 10 text ++ 46 ∷ part = around_point text 10 inside point ∙ ap (λ (l : List _). take 10 text ++ 46 ∷ l) (sym (tail_is 11 text)) in
     let three : length part ≡ 3 = simp (length-take, length-drop) (omega (arith, c.requires)) in
     rw same (sym (ap (λ (z : ℤ). let r : Result ℤ NumberFault = Ok z in r) c.with_sign.ensures
-    ∙ usual_is text (take 10 text) c.without_blanks.result.now c.without_sign-negative.result.1.now part c.without_sign-negative.result.0 c.in_ok-digits.field-0 c.in_ok-size.field-0 is
+    ∙ usual_is text (take 10 text) c.without_blanks.result.now c.without_sign-negative.result.1.now part c.without_sign-negative.result.0 c.in_ok-digits.field-0 c.in_ok-size.field-0 text_is
     c.without_blanks.ensures.behind c.without_sign-negative.ensures.value c.in_ok-digits.ensures.digits c.in_ok-size.ensures.digits three c.in_ok-digits.ensures.small c.in_ok-size.ensures.small))

@@ -6,15 +6,15 @@ use Rattle.obs_fields.proofs.types.add_names.Goals as goal
 
 pub returns-then-has-clause-err : goal.returns-then-has-clause-err
 returns-then-has-clause-err c =
-    let is : is_listed c.names.names (name_in c.args.layout c.args.line.now c.names.first) ≡ true = rw (← c.name_at-name.ensures) (sym c.has.ensures ∙ c.if-has.true) in
-    rw c.types_flaw.ensures (c.names.invariant.value ∙ names_again c.args.layout c.args.line.now c.names.first c.names.left c.names.names c.names-test.true is)
+    let already_listed : is_listed c.names.names (name_in c.args.layout c.args.line.now c.names.first) ≡ true = rw (← c.name_at-name.ensures) (sym c.has.ensures ∙ c.if-has.true) in
+    rw c.types_flaw.ensures (c.names.invariant.value ∙ names_again c.args.layout c.args.line.now c.names.first c.names.left c.names.names c.names-test.true already_listed)
 
 pub names-preserved : goal.names-preserved
 names-preserved c =
-    let is : is_listed c.names.names (name_in c.args.layout c.args.line.now c.names.first) ≡ false = rw (← c.name_at-name.ensures) (sym c.has.ensures ∙ c.if-has.false) in
+    let not_listed : is_listed c.names.names (name_in c.args.layout c.args.line.now c.names.first) ≡ false = rw (← c.name_at-name.ensures) (sym c.has.ensures ∙ c.if-has.false) in
     let longer = ap (λ (l : List (List ℕ)). length l) c.push.ensures ∙ length-append c.names.names (c.name_at-name.result ∷ []) in
     record {
-      value = c.names.invariant.value ∙ names_more c.args.layout c.args.line.now c.names.first c.names.left c.names.names c.names-test.true is
+      value = c.names.invariant.value ∙ names_more c.args.layout c.args.line.now c.names.first c.names.left c.names.names c.names-test.true not_listed
           ∙ rw (c.push.ensures, c.name_at-name.ensures, c.name_step-step.ensures) refl;
       room = omega (arith, longer);
       near = omega (arith, name_step-high c.args.layout, c.name_step-step.ensures);

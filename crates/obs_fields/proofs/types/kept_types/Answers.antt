@@ -8,10 +8,10 @@ pub loop-number-preserved : goal.loop-number-preserved
 loop-number-preserved c =
     let names = c.args.names.now in
     let less : c.loop-number.number < length names = rw (← c.as_slice-name-items.ensures.value) c.loop-number-test.true in
-    let n = c.loop-number.number in
-    let more = kept_more c.args.system names n n [] less in
-    let rest = kept_from c.args.system (n + 1) (drop (n + 1) names) in
-    let assoc = append_assoc c.loop-number.kept.items (kept_at n (kept_type_in c.args.system (get_or names n []))) rest in
+    let number = c.loop-number.number in
+    let more = kept_more c.args.system names number number [] less in
+    let rest = kept_from c.args.system (number + 1) (drop (number + 1) names) in
+    let assoc = append_assoc c.loop-number.kept.items (kept_at number (kept_type_in c.args.system (get_or names number []))) rest in
     let before = c.loop-number.invariant in
     let now = c.in_ok-add_kept.ensures in
     let same = c.as_slice-name-items.ensures.value in

@@ -16,11 +16,11 @@ above b u f h k m e = omega (arith, ints)
 
 pub returns : goal.returns
 returns g c = λ x h.
-    let a : Iv 60 = c.args.clock.now.held in
+    let box : Iv 60 = c.args.clock.now.held in
     let low = c.share_below-low in
     let high = c.share_above-high in
-    let k = below a.lo low.result c.from_ends.result.lo a.low (le_trans_ℤ a.ordered a.high) low.ensures.low
+    let low_share = below box.lo low.result c.from_ends.result.lo box.low (le_trans_ℤ box.ordered box.high) low.ensures.low
     (c.from_ends.ensures.lo ∙ to_z-of_z w64 low.result (record { sfits = low.type_inv })) in
-    let m = above a.hi high.result c.from_ends.result.hi (le_trans_ℤ a.low a.ordered) a.high high.ensures.low
+    let high_share = above box.hi high.result c.from_ends.result.hi (le_trans_ℤ box.low box.ordered) box.high high.ensures.low
     (c.from_ends.ensures.hi ∙ to_z-of_z w64 high.result (record { sfits = high.type_inv })) in
-    subst (λ (b : Iv 60). Holds b (part x)) (sym c.new.ensures) (share_holds a.lo a.hi c.from_ends.result.lo c.from_ends.result.hi x h k m)
+    subst (λ (b : Iv 60). Holds b (part x)) (sym c.new.ensures) (share_holds box.lo box.hi c.from_ends.result.lo c.from_ends.result.hi x h low_share high_share)

@@ -40,16 +40,16 @@ new-requires g c =
     let d : ℤ = to_z w128 (of_z w128 c.args.den) in
     let num = to_z-of_z w128 c.args.num c.ranges.num in
     let den = to_z-of_z w128 c.args.den c.ranges.den in
-    let e = same_ends c.args.num c.args.den n d g.row.K g.row.SIZE num den c.requires.positive c.requires.size in
-    let at = IfOk-at_ok (λ r. (r.lo ≡ floor_div (n *ℤ pos (2 ^ g.row.K)) (unsigned_abs d)) × (r.hi ≡ ceil_div (n *ℤ pos (2 ^ g.row.K)) (unsigned_abs d))) c.unwrap.ensures c.ratio.ensures.ends in
-    let w = IfOk-at_ok (λ r. width_of r ≤ℤ pos 1) c.unwrap.ensures c.ratio.ensures.width in (
+    let same_ends_told = same_ends c.args.num c.args.den n d g.row.K g.row.SIZE num den c.requires.positive c.requires.size in
+    let ends_are = IfOk-at_ok (λ r. (r.lo ≡ floor_div (n *ℤ pos (2 ^ g.row.K)) (unsigned_abs d)) × (r.hi ≡ ceil_div (n *ℤ pos (2 ^ g.row.K)) (unsigned_abs d))) c.unwrap.ensures c.ratio.ensures.ends in
+    let is_narrow = IfOk-at_ok (λ r. width_of r ≤ℤ pos 1) c.unwrap.ensures c.ratio.ensures.width in (
       lit< tt,
       (
         lit< tt,
         (
           same_within c.unwrap.result.lo c.unwrap.result.hi (floor_div (n *ℤ pos (2 ^ g.row.K)) (unsigned_abs d))
-              (ceil_div (n *ℤ pos (2 ^ g.row.K)) (unsigned_abs d)) g.row.SIZE at.0 at.1 e.0 e.1,
-          w,
+              (ceil_div (n *ℤ pos (2 ^ g.row.K)) (unsigned_abs d)) g.row.SIZE ends_are.0 ends_are.1 same_ends_told.0 same_ends_told.1,
+          is_narrow,
         ),
       ),
     )

@@ -20,18 +20,18 @@ no_share a f h e = equal_r (a ∷ f ∷ h ∷ []) ((va 1 ≐ ko (pos 0)) ∷ [])
 pub returns-then-aging-eq0 : goal.returns-then-aging-eq0
 returns-then-aging-eq0 c = λ share small.
     let eph = c.args.eph.now in
-    let a : Rational = value_of eph.af0 in
-    let f : Rational = value_of eph.af2 in
-    let held : Holds c.loose.result.held a = subst (λ (b : Iv 60). Holds b a) (sym c.loose.ensures) (holds_own 60 c.decimal_box-own.result.held a c.decimal_box-own.ensures) in
-    let m = c.mantissa_of-aging.result in
-    let zero : eph.af2.mant ≡ pos 0 = sym c.mantissa_of-aging.ensures ∙ sym (to_z-of_z w64 m (record { sfits = c.mantissa_of-aging.type_inv })) ∙ ap (to_z w64) c.if-aging-eq0.true in
-    InBox-along 60 c.loose.result.held.lo c.loose.result.held.hi a (add_r a (mul_r f share)) (no_share a f share (zero_value eph.af2 zero)) held
+    let bias : Rational = value_of eph.af0 in
+    let aging : Rational = value_of eph.af2 in
+    let held : Holds c.loose.result.held bias = subst (λ (b : Iv 60). Holds b bias) (sym c.loose.ensures) (holds_own 60 c.decimal_box-own.result.held bias c.decimal_box-own.ensures) in
+    let mantissa = c.mantissa_of-aging.result in
+    let zero : eph.af2.mant ≡ pos 0 = sym c.mantissa_of-aging.ensures ∙ sym (to_z-of_z w64 mantissa (record { sfits = c.mantissa_of-aging.type_inv })) ∙ ap (to_z w64) c.if-aging-eq0.true in
+    InBox-along 60 c.loose.result.held.lo c.loose.result.held.hi bias (add_r bias (mul_r aging share)) (no_share bias aging share (zero_value eph.af2 zero)) held
 
 pub returns-else-aging-eq0 : goal.returns-else-aging-eq0
 returns-else-aging-eq0 c = λ share small.
     let eph = c.args.eph.now in
-    let a : Rational = value_of eph.af0 in
-    let f : Rational = value_of eph.af2 in
-    c.widened.ensures a (mul_r f share) (holds_own 60 c.decimal_box-own.result.held a c.decimal_box-own.ensures)
-    (size_looser (mul_r (decimal (pos 1) 12) (two_to_minus 44)) (of_scale 60 (pos 1)) (mul_r f share) (le_pos _ _ (lit≤ tt))
-    (size_mul (decimal (pos 1) 12) (two_to_minus 44) f share (size_of_decimal 1 12 eph.af2 eph.af2_in) small))
+    let bias : Rational = value_of eph.af0 in
+    let aging : Rational = value_of eph.af2 in
+    c.widened.ensures bias (mul_r aging share) (holds_own 60 c.decimal_box-own.result.held bias c.decimal_box-own.ensures)
+    (size_looser (mul_r (decimal (pos 1) 12) (two_to_minus 44)) (of_scale 60 (pos 1)) (mul_r aging share) (le_pos _ _ (lit≤ tt))
+    (size_mul (decimal (pos 1) 12) (two_to_minus 44) aging share (size_of_decimal 1 12 eph.af2 eph.af2_in) small))

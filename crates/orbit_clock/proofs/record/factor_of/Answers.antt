@@ -10,7 +10,7 @@ use Rattle.orbit_clock.proofs.record.factor_of.Goals as goal
 pub returns : goal.returns
 returns c =
     let rel : ℤ = c.args.world.now.rel in
-    let b = bounded c.args.world.now.mu rel c.args.world.now.known in
+    let constants_bounded = bounded c.args.world.now.mu rel c.args.world.now.known in
     let n : ℤ = to_z w128 (of_z w128 (to_z w64 (of_z w64 rel))) in
-    let own : n ≡ rel = omega (arith, ints, b.rel_low, b.rel_high) in
+    let own : n ≡ rel = omega (arith, ints, constants_bounded.rel_low, constants_bounded.rel_high) in
     c.quotient.ensures (times (10 ^ 4) (decimal rel 19)) (factor_ratio rel n _ own refl)

@@ -6,9 +6,9 @@ use Rattle.orbit_clock.proofs.record.relativity.Goals as goal
 
 pub returns : goal.returns
 returns c =
-    let f : Rational = decimal c.args.world.now.rel 19 in
-    let e : Rational = value_of c.args.eph.now.ecc in
-    let a : Rational = value_of c.args.eph.now.root_a in
-    let by_root = c.mul-by_root.ensures.holds (times (10 ^ 4) f) a c.factor_of-factor.ensures c.root_of_axis.ensures in
-    let both = c.mul-both.ensures.holds (mul_r (times (10 ^ 4) f) a) e by_root c.eccentricity.ensures.holds in
-    c.div.ensures.holds (mul_r (mul_r (times (10 ^ 4) f) a) e) (of_whole (pos 10000)) (mul_r (mul_r f e) a) both c.ten_thousand.ensures.holds (relativity_is f e a)
+    let relativity : Rational = decimal c.args.world.now.rel 19 in
+    let ecc : Rational = value_of c.args.eph.now.ecc in
+    let root_axis : Rational = value_of c.args.eph.now.root_a in
+    let by_root = c.mul-by_root.ensures.holds (times (10 ^ 4) relativity) root_axis c.factor_of-factor.ensures c.root_of_axis.ensures in
+    let both = c.mul-both.ensures.holds (mul_r (times (10 ^ 4) relativity) root_axis) ecc by_root c.eccentricity.ensures.holds in
+    c.div.ensures.holds (mul_r (mul_r (times (10 ^ 4) relativity) root_axis) ecc) (of_whole (pos 10000)) (mul_r (mul_r relativity ecc) root_axis) both c.ten_thousand.ensures.holds (relativity_is relativity ecc root_axis)

@@ -19,9 +19,9 @@ within a x d h = (
 
 pub returns : goal.returns
 returns c = λ x y held small.
-    let b : Iv 60 = c.args.bias.now.held in
-    let lo : c.from_ends.result.lo ≡ b.lo -ℤ pos 1 = omega (arith, ints, c.from_ends.ensures.lo, c.lo.ensures) in
-    let hi : c.from_ends.result.hi ≡ b.hi +ℤ pos 1 = omega (arith, ints, c.from_ends.ensures.hi, c.hi.ensures) in
-    let inside : InBox 60 (b.lo -ℤ pos 1) (b.hi +ℤ pos 1) (add_r x y) =
-    box_of_near 60 b.lo b.hi (pos 1) (of_scale 60 (pos 1)) (add_r x y) (le_pos _ _ (lit≤ tt)) (record { inside = x; held = held; near = within x y (of_scale 60 (pos 1)) small }) in
-    subst (λ (h : Iv 60). Holds h (add_r x y)) (sym c.new.ensures) (subst₂ (λ (l h : ℤ). InBox 60 l h (add_r x y)) (sym lo) (sym hi) inside)
+    let box : Iv 60 = c.args.bias.now.held in
+    let low_is : c.from_ends.result.lo ≡ box.lo -ℤ pos 1 = omega (arith, ints, c.from_ends.ensures.lo, c.lo.ensures) in
+    let high_is : c.from_ends.result.hi ≡ box.hi +ℤ pos 1 = omega (arith, ints, c.from_ends.ensures.hi, c.hi.ensures) in
+    let inside : InBox 60 (box.lo -ℤ pos 1) (box.hi +ℤ pos 1) (add_r x y) =
+    box_of_near 60 box.lo box.hi (pos 1) (of_scale 60 (pos 1)) (add_r x y) (le_pos _ _ (lit≤ tt)) (record { inside = x; held = held; near = within x y (of_scale 60 (pos 1)) small }) in
+    subst (λ (h : Iv 60). Holds h (add_r x y)) (sym c.new.ensures) (subst₂ (λ (l h : ℤ). InBox 60 l h (add_r x y)) (sym low_is) (sym high_is) inside)

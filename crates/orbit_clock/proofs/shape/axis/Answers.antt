@@ -7,10 +7,10 @@ use Rattle.orbit_clock.proofs.shape.axis.Goals as goal
 
 pub returns-clause-holds : goal.returns-clause-holds
 returns-clause-holds c = λ x e.
-    let a : Rational = value_of c.args.eph.now.root_a in
-    InBox-along 36 c.square.result.held.lo c.square.result.held.hi (mul_r a a) x (≈_sym x (mul_r a a) e) (c.square.ensures.holds a c.root_of_axis.ensures)
+    let root_axis : Rational = value_of c.args.eph.now.root_a in
+    InBox-along 36 c.square.result.held.lo c.square.result.held.hi (mul_r root_axis root_axis) x (≈_sym x (mul_r root_axis root_axis) e) (c.square.ensures.holds root_axis c.root_of_axis.ensures)
 
 pub returns-clause-least : goal.returns-clause-least
 returns-clause-least c =
-    let a : Rational = value_of c.args.eph.now.root_a in
-    axis_least c.square.result.held a c.args.eph.now.root_a_in.low (c.square.ensures.holds a c.root_of_axis.ensures) c.square.result.narrow
+    let root_axis : Rational = value_of c.args.eph.now.root_a in
+    axis_least c.square.result.held root_axis c.args.eph.now.root_a_in.low (c.square.ensures.holds root_axis c.root_of_axis.ensures) c.square.result.narrow

@@ -6,5 +6,5 @@ use Rattle.orbit_clock.proofs.shape.cube.Goals as goal
 
 pub returns-clause-least : goal.returns-clause-least
 returns-clause-least c =
-    let a : Rational = value_of c.args.eph.now.root_a in
-    cube_least c.mul.result.held a c.args.eph.now.root_a_in.low (c.mul.ensures.holds (mul_r a a) a (c.axis.ensures.holds (mul_r a a) refl) c.root_of_axis.ensures) c.mul.result.narrow
+    let root_axis : Rational = value_of c.args.eph.now.root_a in
+    cube_least c.mul.result.held root_axis c.args.eph.now.root_a_in.low (c.mul.ensures.holds (mul_r root_axis root_axis) root_axis (c.axis.ensures.holds (mul_r root_axis root_axis) refl) c.root_of_axis.ensures) c.mul.result.narrow

@@ -8,13 +8,13 @@ use Rattle.orbit_clock.proofs.shape.mean_motion.Goals as goal
 
 pub returns : goal.returns
 returns c = λ sent q n.
-    let s = n.solves in
-    let a : Rational = value_of c.args.eph.now.root_a in
-    let dn : Rational = value_of c.args.eph.now.dn in
-    let tens = c.mul-tens.ensures.holds q.root_mu (of_whole (pos 10000)) (c.root_of_mu.ensures q.root_mu s.root_of_mu) c.ten_thousand.ensures.holds in
-    let cube = c.cube.ensures.holds q.axis s.semi_major_axis in
-    let computed = c.div-computed.ensures.holds (mul_r q.root_mu (of_whole (pos 10000))) (mul_r q.axis a) (times 10000 q.computed_motion) tens cube
-    (scaled_motion q.computed_motion q.axis a q.root_mu s.computed_mean_motion) in
-    let sum = c.add.ensures.holds (times 10000 q.computed_motion) (times 10000 dn) computed (c.decimal_box-change.ensures.holds (times 10000 dn) refl) in
-    InBox-along 60 c.add.result.held.lo c.add.result.held.hi (add_r (times 10000 q.computed_motion) (times 10000 dn)) (times 10000 q.motion)
-    (scaled_sum q.motion q.computed_motion dn s.corrected_mean_motion) sum
+    let solves = n.solves in
+    let root_axis : Rational = value_of c.args.eph.now.root_a in
+    let motion_change : Rational = value_of c.args.eph.now.dn in
+    let tens = c.mul-tens.ensures.holds q.root_mu (of_whole (pos 10000)) (c.root_of_mu.ensures q.root_mu solves.root_of_mu) c.ten_thousand.ensures.holds in
+    let cube = c.cube.ensures.holds q.axis solves.semi_major_axis in
+    let computed = c.div-computed.ensures.holds (mul_r q.root_mu (of_whole (pos 10000))) (mul_r q.axis root_axis) (times 10000 q.computed_motion) tens cube
+    (scaled_motion q.computed_motion q.axis root_axis q.root_mu solves.computed_mean_motion) in
+    let sum = c.add.ensures.holds (times 10000 q.computed_motion) (times 10000 motion_change) computed (c.decimal_box-change.ensures.holds (times 10000 motion_change) refl) in
+    InBox-along 60 c.add.result.held.lo c.add.result.held.hi (add_r (times 10000 q.computed_motion) (times 10000 motion_change)) (times 10000 q.motion)
+    (scaled_sum q.motion q.computed_motion motion_change solves.corrected_mean_motion) sum

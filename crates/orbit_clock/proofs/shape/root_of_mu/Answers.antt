@@ -10,17 +10,17 @@ use Rattle.orbit_clock.proofs.shape.root_of_mu.Goals as goal
 
 pub new-requires : goal.new-requires
 new-requires c =
-    let s : ℤ = c.scaled_mu-scaled.result in
-    let own = to_z-of_z w64 s (record { sfits = c.scaled_mu-scaled.type_inv }) in
-    let r = root_box s c.from_ends-mu.result.lo c.from_ends-mu.result.hi c.root_to.result.lo c.root_to.result.hi
+    let scaled : ℤ = c.scaled_mu-scaled.result in
+    let own = to_z-of_z w64 scaled (record { sfits = c.scaled_mu-scaled.type_inv }) in
+    let is_root = root_box scaled c.from_ends-mu.result.lo c.from_ends-mu.result.hi c.root_to.result.lo c.root_to.result.hi
     (c.from_ends-mu.ensures.lo ∙ own) (c.from_ends-mu.ensures.hi ∙ own) c.scaled_mu-scaled.ensures.high c.root_to.ensures.not_negative
     c.root_to.result.ordered c.root_to.ensures.near_low c.root_to.ensures.near_high in
-    (lit< tt, (lit< tt, ((r.0, r.1), r.2)))
+    (lit< tt, (lit< tt, ((is_root.0, is_root.1), is_root.2)))
 
 pub returns : goal.returns
 returns c = λ r near.
-    let s : ℤ = c.scaled_mu-scaled.result in
-    let own = to_z-of_z w64 s (record { sfits = c.scaled_mu-scaled.type_inv }) in
-    let held = c.root_to.ensures.holds (of_whole c.args.world.now.mu) r (point_of_mu c.args.world.now.mu s c.from_ends-mu.result.lo
+    let scaled : ℤ = c.scaled_mu-scaled.result in
+    let own = to_z-of_z w64 scaled (record { sfits = c.scaled_mu-scaled.type_inv }) in
+    let held = c.root_to.ensures.holds (of_whole c.args.world.now.mu) r (point_of_mu c.args.world.now.mu scaled c.from_ends-mu.result.lo
     c.from_ends-mu.result.hi c.scaled_mu-scaled.ensures.value (c.from_ends-mu.ensures.lo ∙ own) (c.from_ends-mu.ensures.hi ∙ own)) near in
     subst (λ (b : Iv 36). Holds b r) (sym c.new.ensures) held

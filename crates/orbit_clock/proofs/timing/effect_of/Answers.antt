@@ -12,20 +12,20 @@ use Rattle.orbit_clock.proofs.timing.effect_of.Goals as goal
 
 pub returns : goal.returns
 returns c = λ s q near_sol hs hf.
-    let r = c.args.made.now in
-    let hm = r.motion_in s q near_sol in
+    let made = c.args.made.now in
+    let motion_held = made.motion_in s q near_sol in
     let sol = near_sol.solves in
-    let p : ℤ = c.middle_of.result in
-    let toe : Rational = seconds r.eph.toe.0 in
-    let m0 : Rational = value_of r.eph.m0 in
-    let e : Rational = value_of r.eph.ecc in
-    let point : Holds c.clock_at.result.held (of_scale 60 p) =
-    subst (λ (z : ℤ). Holds c.clock_at.result.held (of_scale 60 z)) (to_z-of_z w64 p (record { sfits = c.middle_of.type_inv })) c.clock_at.ensures in
-    let time = c.time_at-time.ensures (part (sub_r s toe)) (of_scale 60 p) hs point in
-    let mean = c.mean_anomaly-mean.ensures (times 10000 q.motion) (sub_r (part (sub_r s toe)) (part (of_scale 60 p))) hm time in
-    let near = mean_near q.mean m0 q.motion s toe q.clock q.t q.tk c.args.first.now.held.lo c.args.first.now.held.hi p r.motion.held.lo r.motion.held.hi
-    sol.mean_anomaly sol.time_from_epoch sol.time_of_sending hf c.middle_of.ensures.above c.middle_of.ensures.below hm r.motion.within.0 r.motion.within.1 in
+    let middle : ℤ = c.middle_of.result in
+    let toe : Rational = seconds made.eph.toe.0 in
+    let mean_start : Rational = value_of made.eph.m0 in
+    let ecc : Rational = value_of made.eph.ecc in
+    let point : Holds c.clock_at.result.held (of_scale 60 middle) =
+    subst (λ (z : ℤ). Holds c.clock_at.result.held (of_scale 60 z)) (to_z-of_z w64 middle (record { sfits = c.middle_of.type_inv })) c.clock_at.ensures in
+    let time = c.time_at-time.ensures (part (sub_r s toe)) (of_scale 60 middle) hs point in
+    let mean = c.mean_anomaly-mean.ensures (times 10000 q.motion) (sub_r (part (sub_r s toe)) (part (of_scale 60 middle))) motion_held time in
+    let near = mean_near q.mean mean_start q.motion s toe q.clock q.t q.tk c.args.first.now.held.lo c.args.first.now.held.hi middle made.motion.held.lo made.motion.held.hi
+    sol.mean_anomaly sol.time_from_epoch sol.time_of_sending hf c.middle_of.ensures.above c.middle_of.ensures.below motion_held made.motion.within.0 made.motion.within.1 in
     let close : IsNearBox 56 c.mean_anomaly-mean.result.held.lo c.mean_anomaly-mean.result.held.hi (two_to_minus 35) q.mean =
-    record { inside = mean_at m0 q.motion s toe (of_scale 60 p); held = mean; near = near } in
-    let sine = c.sine_near-sine.ensures q.mean e q.eccentric q.eccentric_pair.cos q.eccentric_pair.sin close r.eccentricity_in sol.kepler in
-    c.mul.ensures.holds (mul_r (mul_r (decimal r.world.rel 19) e) (value_of r.eph.root_a)) q.eccentric_pair.sin r.relativity_in sine
+    record { inside = mean_at mean_start q.motion s toe (of_scale 60 middle); held = mean; near = near } in
+    let sine = c.sine_near-sine.ensures q.mean ecc q.eccentric q.eccentric_pair.cos q.eccentric_pair.sin close made.eccentricity_in sol.kepler in
+    c.mul.ensures.holds (mul_r (mul_r (decimal made.world.rel 19) ecc) (value_of made.eph.root_a)) q.eccentric_pair.sin made.relativity_in sine

@@ -18,30 +18,30 @@ use Rattle.orbit_clock.proofs.timing.timing_at.Goals as goal
 
 pub returns : goal.returns
 returns c = λ q n.
-    let s = n.solves in
+    let solves = n.solves in
     let eph = c.args.made.now.eph in
     let world = c.args.made.now.world in
-    let d : Elements = with_share (elements_of eph) n.share in
+    let elements : Elements = with_share (elements_of eph) n.share in
     let sent : Rational = sent_at c.args.tag.0 c.args.code in
     let own = to_z-of_z w64 c.args.code c.ranges.code in
-    let y : Rational = mul_r (mul_r (mul_r (constants_of world).relativity d.ecc) d.root_a) q.eccentric_pair.sin in
-    let same = clock_is d sent q.t q.clock y s.time_of_sending s.clock_correction in
+    let relativity_effect : Rational = mul_r (mul_r (mul_r (constants_of world).relativity elements.ecc) elements.root_a) q.eccentric_pair.sin in
+    let same = clock_is elements sent q.t q.clock relativity_effect solves.time_of_sending solves.clock_correction in
     let motion = c.args.made.now.motion_in sent q n in
-    let from_toe : Holds c.time_since-sent.result.held (part (sub_r sent d.toe)) =
-    subst (λ (k : ℤ). Holds c.time_since-sent.result.held (part (sub_r (sent_at c.args.tag.0 k) d.toe))) own c.time_since-sent.ensures in
-    let terms : HoldsTerms c.of-terms.result d sent = subst (λ (k : ℤ). HoldsTerms c.of-terms.result d (sent_at c.args.tag.0 k)) own (c.of-terms.ensures n.share n.small) in
+    let from_toe : Holds c.time_since-sent.result.held (part (sub_r sent elements.toe)) =
+    subst (λ (k : ℤ). Holds c.time_since-sent.result.held (part (sub_r (sent_at c.args.tag.0 k) elements.toe))) own c.time_since-sent.ensures in
+    let terms : HoldsTerms c.of-terms.result elements sent = subst (λ (k : ℤ). HoldsTerms c.of-terms.result elements (sent_at c.args.tag.0 k)) own (c.of-terms.ensures n.share n.small) in
     let small = clock_small eph world sent q n (sent_size c.args.tag.0 eph.toe.0 c.args.code c.requires.near c.requires.code_low c.requires.code_high) in
     let little = size_looser (mul_r (mul_r (mul_r (decimal (pos 4442807633) 19) (decimal (pos 3125) 5)) (of_whole (pos 6000)))
-    (add_r (of_whole (pos 1)) (two_to_minus 16))) (of_scale 60 (pos 110000000000)) y (le_pos _ _ (lit≤ tt))
-    (effect_size eph world q.eccentric q.eccentric_pair.cos q.eccentric_pair.sin s.kepler.is_pair) in
-    let first = InBox-along 60 c.pass-first.result.held.lo c.pass-first.result.held.hi (correction d sent q.clock y) q.clock same
-    (c.pass-first.ensures d sent q.clock y terms (c.any_clock.ensures q.clock small) (c.any_effect.ensures y little)) in
+    (add_r (of_whole (pos 1)) (two_to_minus 16))) (of_scale 60 (pos 110000000000)) relativity_effect (le_pos _ _ (lit≤ tt))
+    (effect_size eph world q.eccentric q.eccentric_pair.cos q.eccentric_pair.sin solves.kepler.is_pair) in
+    let first = InBox-along 60 c.pass-first.result.held.lo c.pass-first.result.held.hi (correction elements sent q.clock relativity_effect) q.clock same
+    (c.pass-first.ensures elements sent q.clock relativity_effect terms (c.any_clock.ensures q.clock small) (c.any_effect.ensures relativity_effect little)) in
     let effect = c.effect_of-effect.ensures sent q n from_toe first in
-    let second = InBox-along 60 c.pass-second.result.held.lo c.pass-second.result.held.hi (correction d sent q.clock y) q.clock same (c.pass-second.ensures d sent q.clock y terms first effect) in
-    let third = InBox-along 60 c.pass-clock.result.held.lo c.pass-clock.result.held.hi (correction d sent q.clock y) q.clock same (c.pass-clock.ensures d sent q.clock y terms second effect) in
-    let time = InBox-along 60 c.time_at-epoch_time.result.held.lo c.time_at-epoch_time.result.held.hi (sub_r (part (sub_r sent d.toe)) (part q.clock))
-    (part q.tk) (epoch_time_is sent d.toe q.clock q.t q.tk s.time_of_sending s.time_from_epoch)
-    (c.time_at-epoch_time.ensures (part (sub_r sent d.toe)) q.clock from_toe third) in
-    let mean = InBox-along 56 c.mean_anomaly-mean.result.held.lo c.mean_anomaly-mean.result.held.hi (add_r d.m0 (mul_r (times 10000 q.motion) (part q.tk)))
-    q.mean (mean_is q.mean d.m0 q.motion q.tk s.mean_anomaly) (c.mean_anomaly-mean.ensures (times 10000 q.motion) (part q.tk) motion time) in
+    let second = InBox-along 60 c.pass-second.result.held.lo c.pass-second.result.held.hi (correction elements sent q.clock relativity_effect) q.clock same (c.pass-second.ensures elements sent q.clock relativity_effect terms first effect) in
+    let third = InBox-along 60 c.pass-clock.result.held.lo c.pass-clock.result.held.hi (correction elements sent q.clock relativity_effect) q.clock same (c.pass-clock.ensures elements sent q.clock relativity_effect terms second effect) in
+    let time = InBox-along 60 c.time_at-epoch_time.result.held.lo c.time_at-epoch_time.result.held.hi (sub_r (part (sub_r sent elements.toe)) (part q.clock))
+    (part q.tk) (epoch_time_is sent elements.toe q.clock q.t q.tk solves.time_of_sending solves.time_from_epoch)
+    (c.time_at-epoch_time.ensures (part (sub_r sent elements.toe)) q.clock from_toe third) in
+    let mean = InBox-along 56 c.mean_anomaly-mean.result.held.lo c.mean_anomaly-mean.result.held.hi (add_r elements.m0 (mul_r (times 10000 q.motion) (part q.tk)))
+    q.mean (mean_is q.mean elements.m0 q.motion q.tk solves.mean_anomaly) (c.mean_anomaly-mean.ensures (times 10000 q.motion) (part q.tk) motion time) in
     record { clock = third; epoch_time = time; mean = mean }

@@ -7,11 +7,11 @@ use Rattle.orbit_place.proofs.angles.node_of.Goals as goal
 pub returns : goal.returns
 returns c = record {
   holds = λ world eph sent q h s.
-      let t = divided q.tk 10000 (lit< tt) in
+      let time = divided q.tk 10000 (lit< tt) in
       let rate = sub_r (times 10000 eph.node_rate) (times 10000 earth_rate) in
       let turn = mul_r earth_rate eph.toe_second in
       c.wide_rotation_of.ensures.holds q.node q.node_pair
-      (held_along c.longitude_of-angle.result.held (sub_r (add_r eph.node (mul_r rate t)) turn) q.node
+      (held_along c.longitude_of-angle.result.held (sub_r (add_r eph.node (mul_r rate time)) turn) q.node
       (node_with q.node eph.node eph.node_rate earth_rate q.tk eph.toe_second eph.toe_second s.corrected_node refl)
-      (c.longitude_of-angle.ensures.holds eph.node rate t turn h.node h.node_rate h.epoch_time h.earth_turn)) s.node_of_angle;
+      (c.longitude_of-angle.ensures.holds eph.node rate time turn h.node h.node_rate h.epoch_time h.earth_turn)) s.node_of_angle;
 }

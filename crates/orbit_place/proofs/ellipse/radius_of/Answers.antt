@@ -8,7 +8,7 @@ use Rattle.orbit_place.proofs.ellipse.radius_of.Goals as goal
 
 pub returns-clause-holds : goal.returns-clause-holds
 returns-clause-holds c = λ e p h k.
-    let a = c.args.anomaly.now in
+    let anomaly = c.args.anomaly.now in
     let cos : Holds c.cosine.result.held p.cos = subst (λ (b : Iv 60). Holds b p.cos) (sym c.cosine.ensures) k.0 in
     subst (λ (b : Iv 60). Holds b (sub_r one (mul_r e p.cos))) (sym c.new.ensures)
     (c.difference_of.ensures.holds one (mul_r e p.cos) (one_held c.one.result c.one.ensures.lo c.one.ensures.hi) (c.mul-pull.ensures.holds e p.cos h cos))

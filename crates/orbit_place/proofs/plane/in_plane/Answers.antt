@@ -8,19 +8,19 @@ use Rattle.orbit_place.proofs.plane.in_plane.Goals as goal
 
 pub returns : goal.returns
 returns c =
-    let b = c.args.orbit.now in
+    let orbit = c.args.orbit.now in
     let argument = c.latitude_of-argument.result in
     let double_ = c.double-twice.result in
     let change = c.angle_change-change.result.held in
     let correction = c.radius_change-correction.result.held in
     let latitude = c.corrected-latitude.result in
     let radius = c.radius_of-radius.result.held in
-    let phi : ForSolutions b (λ q. HoldsBoth argument.cos argument.sin q.latitude_pair) = λ world eph sent q h s.
+    let phi : ForSolutions orbit (λ q. HoldsBoth argument.cos argument.sin q.latitude_pair) = λ world eph sent q h s.
     pair_along argument.cos argument.sin (turned q.true_pair q.perigee_pair) q.latitude_pair s.argument_of_latitude
     (c.latitude_of-argument.ensures.holds q.true_pair q.perigee_pair
     (c.on_ellipse-ellipse.ensures.true_anomaly eph.ecc q.root_rest q.eccentric_pair q.true_pair h.eccentricity h.anomaly s.root_of_rest
     (s.true_anomaly_cos, s.true_anomaly_sin)) (h.perigee q.perigee_pair s.perigee)) in
-    let twice : ForSolutions b (λ q. HoldsBoth double_.cos double_.sin q.twice_pair) = λ world eph sent q h s.
+    let twice : ForSolutions orbit (λ q. HoldsBoth double_.cos double_.sin q.twice_pair) = λ world eph sent q h s.
     pair_along double_.cos double_.sin (double q.latitude_pair) q.twice_pair s.twice_the_argument (c.double-twice.ensures.holds q.latitude_pair (phi world eph sent q h s)) in
     record {
       radius = λ world eph sent q h s.

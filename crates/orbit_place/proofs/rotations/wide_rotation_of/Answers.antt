@@ -5,15 +5,15 @@ use Rattle.orbit_place.proofs.rotations.wide_rotation_of.Goals as goal
 
 pub new-requires : goal.new-requires
 new-requires g c =
-    let a = c.args.angle.now in
-    let b = c.pair_box-pair.result in
-    let w = c.pair_box-pair.ensures.width_of_seven refl in (
+    let angle = c.args.angle.now in
+    let box = c.pair_box-pair.result in
+    let is_narrow = c.pair_box-pair.ensures.width_of_seven refl in (
       omega arith,
       (
-        ∣ near_circle_7 a.held b.cos b.sin c.pair_box-pair.ensures.holds ∣₁,
+        ∣ near_circle_7 angle.held box.cos box.sin c.pair_box-pair.ensures.holds ∣₁,
         (
-          narrow_7 _ _ g.row.ANGLE_WIDTH g.row.WIDTH a.narrow w.0 c.requires.width,
-          (narrow_7 _ _ g.row.ANGLE_WIDTH g.row.WIDTH a.narrow w.1 c.requires.width, (omega arith, c.requires.fine)),
+          narrow_7 _ _ g.row.ANGLE_WIDTH g.row.WIDTH angle.narrow is_narrow.0 c.requires.width,
+          (narrow_7 _ _ g.row.ANGLE_WIDTH g.row.WIDTH angle.narrow is_narrow.1 c.requires.width, (omega arith, c.requires.fine)),
         ),
       ),
     )

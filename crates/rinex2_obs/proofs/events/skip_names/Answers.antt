@@ -10,19 +10,19 @@ use Rattle.rinex2_obs.proofs.events.skip_names.Goals as goal
 
 pub returns-in_err-line-clause-reads : goal.returns-in_err-line-clause-reads
 returns-in_err-line-clause-reads c = λ h epochs rows.
-    let p = err_from_is_err_and c.from_residual.result c.from_residual.ensures.1 in
-    rw (p.1, p.2) (c.further.invariant.reads h epochs rows
+    let refusal = err_from_is_err_and c.from_residual.result c.from_residual.ensures.1 in
+    rw (refusal.1, refusal.2) (c.further.invariant.reads h epochs rows
     ∙ has_none obs2_rules (more_slips h epochs c.further.left rows) _ _ Truncated _ (finish_slips h epochs c.further.left rows c.further-test.true) c.in_err-line.ensures)
 
 pub further-preserved : goal.further-preserved
 further-preserved c =
     let bytes = c.in_ok-line.line.bytes.now in
-    let n = c.further.left in
+    let left = c.further.left in
     let less = gives_less _ _ _ _ c.in_ok-line.ensures in
     record {
       reads = λ h epochs rows. c.further.invariant.reads h epochs rows
-          ∙ goes_on obs2_rules (more_slips h epochs n rows) (more_slips h epochs (n - 1) rows) (further_mark_of bytes)
-          (λ u. Ok (more_slips h epochs (n - 1) rows)) tt _ _ _ bytes c.in_ok-line.ensures (admit_slips h epochs n rows bytes c.further-test.true)
+          ∙ goes_on obs2_rules (more_slips h epochs left rows) (more_slips h epochs (left - 1) rows) (further_mark_of bytes)
+          (λ u. Ok (more_slips h epochs (left - 1) rows)) tt _ _ _ bytes c.in_ok-line.ensures (admit_slips h epochs left rows bytes c.further-test.true)
           c.in-Ok.ensures refl;
       less = omega arith;
     }
@@ -30,10 +30,10 @@ further-preserved c =
 pub returns-in-Err-clause-reads : goal.returns-in-Err-clause-reads
 returns-in-Err-clause-reads c = λ h epochs rows.
     let bytes = c.in_ok-line.line.bytes.now in
-    let n = c.further.left in
+    let left = c.further.left in
     rw c.at.ensures (c.further.invariant.reads h epochs rows
-    ∙ stops obs2_rules (more_slips h epochs n rows) (further_mark_of bytes) (λ u. Ok (more_slips h epochs (n - 1) rows)) _ _ _ _ bytes c.in_ok-line.ensures
-    (admit_slips h epochs n rows bytes c.further-test.true) c.in-Err.ensures)
+    ∙ stops obs2_rules (more_slips h epochs left rows) (further_mark_of bytes) (λ u. Ok (more_slips h epochs (left - 1) rows)) _ _ _ _ bytes c.in_ok-line.ensures
+    (admit_slips h epochs left rows bytes c.further-test.true) c.in-Err.ensures)
 
 pub returns-clause-reads : goal.returns-clause-reads
 returns-clause-reads c = λ h epochs rows. c.further.invariant.reads h epochs rows

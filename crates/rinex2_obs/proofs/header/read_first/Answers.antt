@@ -8,8 +8,8 @@ use Rattle.rinex2_obs.proofs.header.read_first.Goals as goal
 
 pub returns-in_err-line : goal.returns-in_err-line
 returns-in_err-line c =
-    let p = err_from_is_err_and c.from_residual.result c.from_residual.ensures.1 in
-    rw (p.1, p.2) (has_none obs2_rules First _ _ ObsVersion _ refl c.in_err-line.ensures)
+    let refusal = err_from_is_err_and c.from_residual.result c.from_residual.ensures.1 in
+    rw (refusal.1, refusal.2) (has_none obs2_rules First _ _ ObsVersion _ refl c.in_err-line.ensures)
 
 pub returns-in-Ok : goal.returns-in-Ok
 returns-in-Ok c =

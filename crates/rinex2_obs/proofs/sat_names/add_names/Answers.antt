@@ -5,8 +5,8 @@ use Rattle.rinex2_obs.proofs.sat_names.add_names.Goals as goal
 
 pub returns-in_err-name-clause-err : goal.returns-in_err-name-clause-err
 returns-in_err-name-clause-err c =
-    let p = err_from_is_err_and c.from_residual.result c.from_residual.ensures.1 in
-    rw (p.1, p.2) (c.names.invariant.value ∙ names_stop c.args.line.now c.names.first c.names.left c.names.names c.in_err-name.field-0.0 c.names-test.true c.in_err-name.ensures.value)
+    let refusal = err_from_is_err_and c.from_residual.result c.from_residual.ensures.1 in
+    rw (refusal.1, refusal.2) (c.names.invariant.value ∙ names_stop c.args.line.now c.names.first c.names.left c.names.names c.in_err-name.field-0.0 c.names-test.true c.in_err-name.ensures.value)
 
 pub names-preserved : goal.names-preserved
 names-preserved c =

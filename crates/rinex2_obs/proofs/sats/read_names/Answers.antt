@@ -11,33 +11,33 @@ use Rattle.rinex2_obs.proofs.sats.read_names.Goals as goal
 pub returns-in_err-line-clause-reads : goal.returns-in_err-line-clause-reads
 returns-in_err-line-clause-reads c = λ h epochs tag power.
     let names = c.names.list.names in
-    let n = c.names.list.left in
-    let p = err_from_is_err_and c.from_residual.result c.from_residual.ensures.1 in
-    rw (p.1, p.2) (c.names.invariant.reads h epochs tag power
-    ∙ has_none obs2_rules (more_names h epochs tag power names n) _ _ Truncated _ (finish_names h epochs tag power names n c.names-test.true) c.in_err-line.ensures)
+    let left = c.names.list.left in
+    let refusal = err_from_is_err_and c.from_residual.result c.from_residual.ensures.1 in
+    rw (refusal.1, refusal.2) (c.names.invariant.reads h epochs tag power
+    ∙ has_none obs2_rules (more_names h epochs tag power names left) _ _ Truncated _ (finish_names h epochs tag power names left c.names-test.true) c.in_err-line.ensures)
 
 pub returns-in-Err-clause-reads : goal.returns-in-Err-clause-reads
 returns-in-Err-clause-reads c = λ h epochs tag power.
     let bytes = c.in_ok-line.line.bytes.now in
     let names = c.names.list.names in
-    let n = c.names.list.left in
+    let left = c.names.list.left in
     rw c.at.ensures (c.names.invariant.reads h epochs tag power
-    ∙ stops obs2_rules (more_names h epochs tag power names n) (further_names_of bytes names n)
+    ∙ stops obs2_rules (more_names h epochs tag power names left) (further_names_of bytes names left)
     (λ list. Ok (more_names h epochs tag power list.names list.left)) _ _ _ _ bytes c.in_ok-line.ensures
-    (admit_names h epochs tag power names n bytes c.names-test.true) c.in-Err.ensures.value)
+    (admit_names h epochs tag power names left bytes c.names-test.true) c.in-Err.ensures.value)
 
 pub names-preserved : goal.names-preserved
 names-preserved c =
     let bytes = c.in_ok-line.line.bytes.now in
     let names = c.names.list.names in
-    let n = c.names.list.left in
+    let left = c.names.list.left in
     let list = c.in-Ok.list in
     let less = gives_less _ _ _ _ c.in_ok-line.ensures in
     record {
       reads = λ h epochs tag power. c.names.invariant.reads h epochs tag power
-          ∙ goes_on obs2_rules (more_names h epochs tag power names n) (more_names h epochs tag power list.names list.left)
-          (further_names_of bytes names n) (λ list. Ok (more_names h epochs tag power list.names list.left)) list _ _ _ bytes c.in_ok-line.ensures
-          (admit_names h epochs tag power names n bytes c.names-test.true) c.in-Ok.ensures.value refl;
+          ∙ goes_on obs2_rules (more_names h epochs tag power names left) (more_names h epochs tag power list.names list.left)
+          (further_names_of bytes names left) (λ list. Ok (more_names h epochs tag power list.names list.left)) list _ _ _ bytes c.in_ok-line.ensures
+          (admit_names h epochs tag power names left bytes c.names-test.true) c.in-Ok.ensures.value refl;
       less = omega arith;
       room = c.in-Ok.ensures.room;
     }

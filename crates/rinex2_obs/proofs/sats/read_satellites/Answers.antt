@@ -18,18 +18,18 @@ loop-name-init c = record {
 
 pub returns-in_err-read_satellite-clause-reads : goal.returns-in_err-read_satellite-clause-reads
 returns-in_err-read_satellite-clause-reads c = λ epochs tag power.
-    let h = c.args.header.now in
+    let header = c.args.header.now in
     let names = c.args.names.now in
     let i = c.loop-name.name-index in
     let later = drop (i + 1) names in
     let split : drop i names ≡ get_or names i None ∷ later = drop_more names i None c.loop-name-test.true in
-    let same = ap (λ (l : List (Option ℕ)). rest_gives obs2_rules c.loop-name.lines (more_sats h epochs tag power c.loop-name.sats l)) split in
-    let p = err_from_is_err_and c.from_residual.result c.from_residual.ensures.1 in
-    rw (p.1, p.2) (handed_on _ _ c.in_err-read_satellite.field-0.0 (c.loop-name.invariant.reads epochs tag power ∙ same) (c.in_err-read_satellite.ensures.reads epochs tag power later))
+    let same = ap (λ (l : List (Option ℕ)). rest_gives obs2_rules c.loop-name.lines (more_sats header epochs tag power c.loop-name.sats l)) split in
+    let refusal = err_from_is_err_and c.from_residual.result c.from_residual.ensures.1 in
+    rw (refusal.1, refusal.2) (handed_on _ _ c.in_err-read_satellite.field-0.0 (c.loop-name.invariant.reads epochs tag power ∙ same) (c.in_err-read_satellite.ensures.reads epochs tag power later))
 
 pub loop-name-preserved : goal.loop-name-preserved
 loop-name-preserved c =
-    let h = c.args.header.now in
+    let header = c.args.header.now in
     let names = c.args.names.now in
     let i = c.loop-name.name-index in
     let name = get_or names i None in
@@ -39,7 +39,7 @@ loop-name-preserved c =
     let new : AreNew c.loop-name.sats (name ∷ later) = subst (λ (l : List (Option ℕ)). AreNew c.loop-name.sats l) split c.loop-name.invariant.new in
     record {
       reads = λ epochs tag power. c.loop-name.invariant.reads epochs tag power
-          ∙ ap (λ (l : List (Option ℕ)). rest_gives obs2_rules c.loop-name.lines (more_sats h epochs tag power c.loop-name.sats l)) split
+          ∙ ap (λ (l : List (Option ℕ)). rest_gives obs2_rules c.loop-name.lines (more_sats header epochs tag power c.loop-name.sats l)) split
           ∙ c.in_ok-read_satellite.ensures.reads epochs tag power later;
       named = names_behind name later named;
       new = next_new name later c.loop-name.sats c.read_satellite.new.sats named new c.in_ok-read_satellite.ensures.added;

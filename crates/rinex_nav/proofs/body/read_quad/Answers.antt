@@ -14,9 +14,9 @@ returns-in_err-line-clause-reads c = λ system raws s quads at. hands_on system 
 pub returns-in-Ok-clause-reads : goal.returns-in-Ok-clause-reads
 returns-in-Ok-clause-reads c = λ system raws s quads at.
     let bytes = c.in_ok-line.line.bytes.now in
-    let q = c.in-Ok.quad in
-    goes_on (nav_rules system) (Further raws s quads) (behind raws s (quads ++ q ∷ [])) (continuation_of (length quads) bytes)
-    (λ p. Ok (behind raws s (quads ++ p ∷ []))) q _ _ _ bytes c.in_ok-line.ensures refl (rw at c.in-Ok.ensures) refl
+    let quad = c.in-Ok.quad in
+    goes_on (nav_rules system) (Further raws s quads) (behind raws s (quads ++ quad ∷ [])) (continuation_of (length quads) bytes)
+    (λ p. Ok (behind raws s (quads ++ p ∷ []))) quad _ _ _ bytes c.in_ok-line.ensures refl (rw at c.in-Ok.ensures) refl
 
 pub returns-in-Err-clause-reads : goal.returns-in-Err-clause-reads
 returns-in-Err-clause-reads c = λ system raws s quads at.

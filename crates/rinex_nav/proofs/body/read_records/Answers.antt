@@ -42,11 +42,11 @@ records-preserved c =
     let bytes = c.in-Ok-Some.line.bytes.now in
     let gives = rw c.in-Ok-Some.field-0-is at c.in-Ok-Some.ensures in
     let count : length raws ≡ length c.all.result.now = ap (λ (rs : List Raw). length rs) (sym c.all.ensures) in
-    let s = c.in-Ok-Record.start in
+    let start = c.in-Ok-Record.start in
     let added = c.in-Ok-push.ensures.added in
     rw added (c.records.invariant
-    ∙ goes_on (nav_rules c.args.system) (Body raws skipping) (Further raws s []) (body_line_of c.args.system (length raws) skipping bytes) (λ l.
-    Ok (after_body raws skipping l)) (line.Record s) _ _ _ bytes gives refl (rw count (rw c.in-Ok-Record.field-0-is at c.in-Ok-Record.ensures)) refl
+    ∙ goes_on (nav_rules c.args.system) (Body raws skipping) (Further raws start []) (body_line_of c.args.system (length raws) skipping bytes) (λ l.
+    Ok (after_body raws skipping l)) (line.Record start) _ _ _ bytes gives refl (rw count (rw c.in-Ok-Record.field-0-is at c.in-Ok-Record.ensures)) refl
     ∙ (rw c.in-Ok-Record.field-0-is at (c.in-Ok.ensures.reads c.args.system raws)))
 
 pub returns-in-Err-read_record : goal.returns-in-Err-read_record
@@ -56,9 +56,9 @@ returns-in-Err-read_record c =
     let bytes = c.in-Ok-Some.line.bytes.now in
     let gives = rw c.in-Ok-Some.field-0-is at c.in-Ok-Some.ensures in
     let count : length raws ≡ length c.all.result.now = ap (λ (rs : List Raw). length rs) (sym c.all.ensures) in
-    let s = c.in-Ok-Record.start in
-    c.records.invariant ∙ goes_on (nav_rules c.args.system) (Body raws skipping) (Further raws s []) (body_line_of c.args.system (length raws) skipping bytes)
-    (λ l. Ok (after_body raws skipping l)) (line.Record s) _ _ _ bytes gives refl (rw count (rw c.in-Ok-Record.field-0-is at c.in-Ok-Record.ensures)) refl
+    let start = c.in-Ok-Record.start in
+    c.records.invariant ∙ goes_on (nav_rules c.args.system) (Body raws skipping) (Further raws start []) (body_line_of c.args.system (length raws) skipping bytes)
+    (λ l. Ok (after_body raws skipping l)) (line.Record start) _ _ _ bytes gives refl (rw count (rw c.in-Ok-Record.field-0-is at c.in-Ok-Record.ensures)) refl
     ∙ (rw c.in-Ok-Record.field-0-is at (c.in-Err-read_record.ensures.reads c.args.system raws))
 
 pub returns-in-Err-body_line : goal.returns-in-Err-body_line

@@ -8,29 +8,29 @@ use Rattle.round_steps.proofs.StepLaws.{entry_word, narrow_numbers, settled_form
 use Rattle.round_steps.proofs.coarse.coarse_step.Goals as goal
 
 pub first_over-requires : goal.first_over-requires
-first_over-requires c = let f : IsFloatOf c.args.session.now c.in_ok-numbers.numbers = c.in_ok-numbers.ensures.float in
-    narrow_numbers f.form c.in_ok-numbers.numbers f.numbers f.narrow
+first_over-requires c = let is_float : IsFloatOf c.args.session.now c.in_ok-numbers.numbers = c.in_ok-numbers.ensures.float in
+    narrow_numbers is_float.form c.in_ok-numbers.numbers is_float.numbers is_float.narrow
 
 pub returns-in_default-clause-step : goal.returns-in_default-clause-step
 returns-in_default-clause-step c = settled_form c.args.session.now c.in_ok-numbers.numbers c.in_ok-numbers.ensures.float c.in_default.ensures
 
 pub returns-then-last-clause-declined : goal.returns-then-last-clause-declined
 returns-then-last-clause-declined c =
-    let f : IsFloatOf c.args.session.now c.in_ok-numbers.numbers = c.in_ok-numbers.ensures.float in (
+    let is_float : IsFloatOf c.args.session.now c.in_ok-numbers.numbers = c.in_ok-numbers.ensures.float in (
       c.if-last.true,
       (
         c.in_ok-numbers.numbers,
         record {
-          float = f;
+          float = is_float;
           first = subst (IsFirstOver c.args.session.now.scale c.in_ok-numbers.numbers)
-              (sym (entry_word c.args.session.now.scale c.in_ok-numbers.numbers c.in-Some.entry c.in-Some.ensures (narrow_numbers f.form c.in_ok-numbers.numbers f.numbers f.narrow))) c.in-Some.ensures;
+              (sym (entry_word c.args.session.now.scale c.in_ok-numbers.numbers c.in-Some.entry c.in-Some.ensures (narrow_numbers is_float.form c.in_ok-numbers.numbers is_float.numbers is_float.narrow))) c.in-Some.ensures;
         },
       ),
     )
 
 pub moved_point-point-requires-clause-numbers : goal.moved_point-point-requires-clause-numbers
-moved_point-point-requires-clause-numbers c = let f : IsFloatOf c.args.session.now c.in_ok-numbers.numbers = c.in_ok-numbers.ensures.float in
-    narrow_numbers f.form c.in_ok-numbers.numbers f.numbers f.narrow
+moved_point-point-requires-clause-numbers c = let is_float : IsFloatOf c.args.session.now c.in_ok-numbers.numbers = c.in_ok-numbers.ensures.float in
+    narrow_numbers is_float.form c.in_ok-numbers.numbers is_float.numbers is_float.narrow
 
 pub returns-then-not-is_receiver_point-clause-declined : goal.returns-then-not-is_receiver_point-clause-declined
 returns-then-not-is_receiver_point-clause-declined c = inr (inr (
@@ -62,5 +62,5 @@ returns-clause-step c = (
 
 pub returns-in_err-numbers-clause-declined : goal.returns-in_err-numbers-clause-declined
 returns-in_err-numbers-clause-declined c =
-    let p = err_from_is_err_and c.from_residual.result c.from_residual.ensures.1 in
-    rw (p.1, p.2) (c.in_err-numbers.ensures.refused c.args.last)
+    let err_parts = err_from_is_err_and c.from_residual.result c.from_residual.ensures.1 in
+    rw (err_parts.1, err_parts.2) (c.in_err-numbers.ensures.refused c.args.last)

@@ -24,22 +24,22 @@ returns-in-Err-clause-refused c = λ last. refused_elimination last c.args.sessi
 
 pub returns-in-Err-baseline_of-clause-refused : goal.returns-in-Err-baseline_of-clause-refused
 returns-in-Err-baseline_of-clause-refused c =
-    let h : HasNumbers c.args.tables.now.normal _ = numbers_of_front c.args.tables.now.normal c.refill_front.new.front c.in-Ok.ensures.front c.requires.no_integers in
+    let has_numbers : HasNumbers c.args.tables.now.normal _ = numbers_of_front c.args.tables.now.normal c.refill_front.new.front c.in-Ok.ensures.front c.requires.no_integers in
     λ last. inr (inl (
       c.in-Err-baseline_of.ensures.place,
       record {
-        form = h.form;
-        of_rows = record { normal = c.args.tables.now.normal; of_rows = c.requires.of_rows; lowered = h.lowered };
-        wide = subst HasWide (sym h.numbers) (c.in-Err-baseline_of.ensures.refused.0 refl);
+        form = has_numbers.form;
+        of_rows = record { normal = c.args.tables.now.normal; of_rows = c.requires.of_rows; lowered = has_numbers.lowered };
+        wide = subst HasWide (sym has_numbers.numbers) (c.in-Err-baseline_of.ensures.refused.0 refl);
       },
     ))
 
 pub returns-in-Ok-baseline_of-clause-float : goal.returns-in-Ok-baseline_of-clause-float
 returns-in-Ok-baseline_of-clause-float c =
-    let h : HasNumbers c.args.tables.now.normal _ = numbers_of_front c.args.tables.now.normal c.refill_front.new.front c.in-Ok.ensures.front c.requires.no_integers in
+    let has_numbers : HasNumbers c.args.tables.now.normal _ = numbers_of_front c.args.tables.now.normal c.refill_front.new.front c.in-Ok.ensures.front c.requires.no_integers in
     record {
-      form = h.form;
-      of_rows = record { normal = c.args.tables.now.normal; of_rows = c.requires.of_rows; lowered = h.lowered };
-      narrow = λ w. false≢true (c.in-Ok-baseline_of.ensures.refused.1 (subst HasWide h.numbers w));
-      numbers = λ j. c.padded.ensures j ∙ ap (λ (x : List ℤ). item x j) (c.in-Ok-baseline_of.ensures.ok ∙ sym h.numbers);
+      form = has_numbers.form;
+      of_rows = record { normal = c.args.tables.now.normal; of_rows = c.requires.of_rows; lowered = has_numbers.lowered };
+      narrow = λ w. false≢true (c.in-Ok-baseline_of.ensures.refused.1 (subst HasWide has_numbers.numbers w));
+      numbers = λ j. c.padded.ensures j ∙ ap (λ (x : List ℤ). item x j) (c.in-Ok-baseline_of.ensures.ok ∙ sym has_numbers.numbers);
     }

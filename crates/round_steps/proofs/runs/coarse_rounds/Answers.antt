@@ -10,16 +10,16 @@ use Rattle.round_steps.proofs.runs.coarse_rounds.Goals as goal
 pub returns-in-Ok-None-clause-end : goal.returns-in-Ok-None-clause-end
 returns-in-Ok-None-clause-end g c =
     let rules : Rules = g.R.Rounds.rules c.args.rounds.now in
-    let s = c.in-Some.session in
-    let k : IsSessionOf rules (coarse c.rounds.point c.args.arcs.now) s = session_at rules (coarse c.rounds.point c.args.arcs.now) c.in_ok-session.field-0 s c.in-Some.is (same_session rules (g.R.Rounds.rules c.rounds.rounds) c.rounds.invariant.rules (coarse c.rounds.point c.args.arcs.now) c.in_ok-session.field-0 c.in_ok-session.ensures.session) in
-    let t : (form : Form) × IsSettledForm s form = subst (IsCoarseStep (nat_eq c.rounds.made (most_rounds COARSE_SCALE)) s) c.in-Ok-None.field-0-is c.in-Ok-None.ensures.step in
-    coarse_settles rules c.rounds.point c.args.arcs.now c.rounds.made s t.0 c.rounds.invariant.so_far k t.1
+    let session = c.in-Some.session in
+    let is_session : IsSessionOf rules (coarse c.rounds.point c.args.arcs.now) session = session_at rules (coarse c.rounds.point c.args.arcs.now) c.in_ok-session.field-0 session c.in-Some.is (same_session rules (g.R.Rounds.rules c.rounds.rounds) c.rounds.invariant.rules (coarse c.rounds.point c.args.arcs.now) c.in_ok-session.field-0 c.in_ok-session.ensures.session) in
+    let is_settled : (form : Form) × IsSettledForm session form = subst (IsCoarseStep (nat_eq c.rounds.made (most_rounds COARSE_SCALE)) session) c.in-Ok-None.field-0-is c.in-Ok-None.ensures.step in
+    coarse_settles rules c.rounds.point c.args.arcs.now c.rounds.made session is_settled.0 c.rounds.invariant.so_far is_session is_settled.1
 
 pub rounds-smaller : goal.rounds-smaller
 rounds-smaller g c =
-    let m : (nat_eq c.rounds.made (most_rounds COARSE_SCALE) ≡ false) × ((numbers : List ℤ) × IsMoved c.in-Some.session numbers c.in-Ok-Some.moved) =
+    let is_moved : (nat_eq c.rounds.made (most_rounds COARSE_SCALE) ≡ false) × ((numbers : List ℤ) × IsMoved c.in-Some.session numbers c.in-Ok-Some.moved) =
     subst (IsCoarseStep (nat_eq c.rounds.made (most_rounds COARSE_SCALE)) c.in-Some.session) c.in-Ok-Some.field-0-is c.in-Ok-Some.ensures.step in
-    less c.rounds.made (one_more c.rounds.made (most_rounds COARSE_SCALE) c.rounds.invariant.so_far.few m.0)
+    less c.rounds.made (one_more c.rounds.made (most_rounds COARSE_SCALE) c.rounds.invariant.so_far.few is_moved.0)
   where
     less : (n : ℕ) → n + 1 ≤ most_rounds COARSE_SCALE → most_rounds COARSE_SCALE - (n + 1) < most_rounds COARSE_SCALE - n
     less n h = omega arith
@@ -27,15 +27,15 @@ rounds-smaller g c =
 pub rounds-preserved : goal.rounds-preserved
 rounds-preserved g c =
     let rules : Rules = g.R.Rounds.rules c.args.rounds.now in
-    let s = c.in-Some.session in
-    let k : IsSessionOf rules (coarse c.rounds.point c.args.arcs.now) s = session_at rules (coarse c.rounds.point c.args.arcs.now) c.in_ok-session.field-0 s c.in-Some.is (same_session rules (g.R.Rounds.rules c.rounds.rounds) c.rounds.invariant.rules (coarse c.rounds.point c.args.arcs.now) c.in_ok-session.field-0 c.in_ok-session.ensures.session) in
-    let m : (nat_eq c.rounds.made (most_rounds COARSE_SCALE) ≡ false) × ((numbers : List ℤ) × IsMoved s numbers c.in-Ok-Some.moved) =
-    subst (IsCoarseStep (nat_eq c.rounds.made (most_rounds COARSE_SCALE)) s) c.in-Ok-Some.field-0-is c.in-Ok-Some.ensures.step in
+    let session = c.in-Some.session in
+    let is_session : IsSessionOf rules (coarse c.rounds.point c.args.arcs.now) session = session_at rules (coarse c.rounds.point c.args.arcs.now) c.in_ok-session.field-0 session c.in-Some.is (same_session rules (g.R.Rounds.rules c.rounds.rounds) c.rounds.invariant.rules (coarse c.rounds.point c.args.arcs.now) c.in_ok-session.field-0 c.in_ok-session.ensures.session) in
+    let is_moved : (nat_eq c.rounds.made (most_rounds COARSE_SCALE) ≡ false) × ((numbers : List ℤ) × IsMoved session numbers c.in-Ok-Some.moved) =
+    subst (IsCoarseStep (nat_eq c.rounds.made (most_rounds COARSE_SCALE)) session) c.in-Ok-Some.field-0-is c.in-Ok-Some.ensures.step in
     let ended = c.in_ok-session.ensures in
     let given = c.rounds.invariant.sessions in
     let one = ended.made in
     record {
-      so_far = coarse_moves rules c.rounds.point c.args.arcs.now c.rounds.made s m.1.0 c.in-Ok-Some.moved c.rounds.invariant.so_far k m.0 m.1.1;
+      so_far = coarse_moves rules c.rounds.point c.args.arcs.now c.rounds.made session is_moved.1.0 c.in-Ok-Some.moved c.rounds.invariant.so_far is_session is_moved.0 is_moved.1.1;
       rules = stays_on rules (g.R.Rounds.rules c.rounds.rounds) (g.R.Rounds.rules c.session.new.self) c.rounds.invariant.rules ended.rules;
       ready = ended.ready;
       sessions = omega arith;
@@ -44,6 +44,6 @@ rounds-preserved g c =
 pub returns-in-Err-clause-end : goal.returns-in-Err-clause-end
 returns-in-Err-clause-end g c =
     let rules : Rules = g.R.Rounds.rules c.args.rounds.now in
-    let s = c.in-Some.session in
-    let k : IsSessionOf rules (coarse c.rounds.point c.args.arcs.now) s = session_at rules (coarse c.rounds.point c.args.arcs.now) c.in_ok-session.field-0 s c.in-Some.is (same_session rules (g.R.Rounds.rules c.rounds.rounds) c.rounds.invariant.rules (coarse c.rounds.point c.args.arcs.now) c.in_ok-session.field-0 c.in_ok-session.ensures.session) in
-    coarse_declines rules c.rounds.point c.args.arcs.now c.rounds.made s c.in-Err.tail c.rounds.invariant.so_far k c.in-Err.ensures.declined
+    let session = c.in-Some.session in
+    let is_session : IsSessionOf rules (coarse c.rounds.point c.args.arcs.now) session = session_at rules (coarse c.rounds.point c.args.arcs.now) c.in_ok-session.field-0 session c.in-Some.is (same_session rules (g.R.Rounds.rules c.rounds.rounds) c.rounds.invariant.rules (coarse c.rounds.point c.args.arcs.now) c.in_ok-session.field-0 c.in_ok-session.ensures.session) in
+    coarse_declines rules c.rounds.point c.args.arcs.now c.rounds.made session c.in-Err.tail c.rounds.invariant.so_far is_session c.in-Err.ensures.declined

@@ -44,22 +44,22 @@ returns-in_default-clause-end g c =
 pub returns-in-Ok-Settled-clause-end : goal.returns-in-Ok-Settled-clause-end
 returns-in-Ok-Settled-clause-end g c =
     let rules : Rules = g.R.Rounds.rules c.args.rounds.now in
-    let s = c.in-Some.session in
-    let a : List Arc = c.rounds.arcs.items in
-    let k : IsSessionOf rules (fine c.rounds.point a) s =
-    session_at rules (fine c.rounds.point a) c.in_ok-session.field-0 s c.in-Some.is
-    (subst (λ (a : List Arc). IsSessionAt rules (fine c.rounds.point a) c.in_ok-session.field-0) c.as_slice.ensures.value
+    let session = c.in-Some.session in
+    let arcs : List Arc = c.rounds.arcs.items in
+    let is_session : IsSessionOf rules (fine c.rounds.point arcs) session =
+    session_at rules (fine c.rounds.point arcs) c.in_ok-session.field-0 session c.in-Some.is
+    (subst (λ (arcs : List Arc). IsSessionAt rules (fine c.rounds.point arcs) c.in_ok-session.field-0) c.as_slice.ensures.value
     (same_session rules (g.R.Rounds.rules c.rounds.rounds) c.rounds.invariant.rules (fine c.rounds.point c.as_slice.result.now) c.in_ok-session.field-0 c.in_ok-session.ensures.session)) in
-    let t : IsSettledForm s c.in-Ok-Settled.form = subst (IsStep (nat_eq c.rounds.fine (most_rounds 0)) s) c.in-Ok-Settled.field-0-is c.in-Ok-Settled.ensures.step in
-    fine_decides rules c.rounds.point a c.args.coarse c.rounds.fine c.args.ratio c.args.budget s c.in-Ok-Settled.form c.decide_settled-tail.result
-    c.rounds.invariant.so_far k t c.decide_settled-tail.ensures.decision
+    let is_settled : IsSettledForm session c.in-Ok-Settled.form = subst (IsStep (nat_eq c.rounds.fine (most_rounds 0)) session) c.in-Ok-Settled.field-0-is c.in-Ok-Settled.ensures.step in
+    fine_decides rules c.rounds.point arcs c.args.coarse c.rounds.fine c.args.ratio c.args.budget session c.in-Ok-Settled.form c.decide_settled-tail.result
+    c.rounds.invariant.so_far is_session is_settled c.decide_settled-tail.ensures.decision
 
 pub grown-requires-clause-numbers : goal.grown-requires-clause-numbers
 grown-requires-clause-numbers g c =
-    let m : (nat_eq c.rounds.fine (most_rounds 0) ≡ false) × IsMoved c.in-Some.session c.in-Ok-Moved.numbers c.in-Ok-Moved.moved =
+    let is_moved : (nat_eq c.rounds.fine (most_rounds 0) ≡ false) × IsMoved c.in-Some.session c.in-Ok-Moved.numbers c.in-Ok-Moved.moved =
     subst (IsStep (nat_eq c.rounds.fine (most_rounds 0)) c.in-Some.session) c.in-Ok-Moved.field-0-is c.in-Ok-Moved.ensures.step in
-    let f = m.1.unsettled.float in
-    narrow_numbers f.form c.in-Ok-Moved.numbers f.numbers f.narrow
+    let is_float = is_moved.1.unsettled.float in
+    narrow_numbers is_float.form c.in-Ok-Moved.numbers is_float.numbers is_float.narrow
 
 pub grown-requires-clause-shifts : goal.grown-requires-clause-shifts
 grown-requires-clause-shifts g c = narrow_shifts c.rounds.fine c.rounds.arcs.items c.as_slice-in-Ok-Moved.result.now c.rounds.invariant.so_far.few
@@ -68,34 +68,34 @@ grown-requires-clause-shifts g c = narrow_shifts c.rounds.fine c.rounds.arcs.ite
 pub returns-in-Err-clause-end : goal.returns-in-Err-clause-end
 returns-in-Err-clause-end g c =
     let rules : Rules = g.R.Rounds.rules c.args.rounds.now in
-    let s = c.in-Some.session in
-    let a : List Arc = c.rounds.arcs.items in
-    let k : IsSessionOf rules (fine c.rounds.point a) s =
-    session_at rules (fine c.rounds.point a) c.in_ok-session.field-0 s c.in-Some.is
-    (subst (λ (a : List Arc). IsSessionAt rules (fine c.rounds.point a) c.in_ok-session.field-0) c.as_slice.ensures.value
+    let session = c.in-Some.session in
+    let arcs : List Arc = c.rounds.arcs.items in
+    let is_session : IsSessionOf rules (fine c.rounds.point arcs) session =
+    session_at rules (fine c.rounds.point arcs) c.in_ok-session.field-0 session c.in-Some.is
+    (subst (λ (arcs : List Arc). IsSessionAt rules (fine c.rounds.point arcs) c.in_ok-session.field-0) c.as_slice.ensures.value
     (same_session rules (g.R.Rounds.rules c.rounds.rounds) c.rounds.invariant.rules (fine c.rounds.point c.as_slice.result.now) c.in_ok-session.field-0 c.in_ok-session.ensures.session)) in
-    fine_declines rules c.rounds.point a c.args.coarse c.rounds.fine c.args.ratio c.args.budget s c.in-Err.tail c.rounds.invariant.so_far k c.in-Err.ensures.declined
+    fine_declines rules c.rounds.point arcs c.args.coarse c.rounds.fine c.args.ratio c.args.budget session c.in-Err.tail c.rounds.invariant.so_far is_session c.in-Err.ensures.declined
 
 pub rounds-preserved : goal.rounds-preserved
 rounds-preserved g c =
     let rules : Rules = g.R.Rounds.rules c.args.rounds.now in
-    let s = c.in-Some.session in
-    let a : List Arc = c.rounds.arcs.items in
-    let k : IsSessionOf rules (fine c.rounds.point a) s =
-    session_at rules (fine c.rounds.point a) c.in_ok-session.field-0 s c.in-Some.is
-    (subst (λ (a : List Arc). IsSessionAt rules (fine c.rounds.point a) c.in_ok-session.field-0) c.as_slice.ensures.value
+    let session = c.in-Some.session in
+    let arcs : List Arc = c.rounds.arcs.items in
+    let is_session : IsSessionOf rules (fine c.rounds.point arcs) session =
+    session_at rules (fine c.rounds.point arcs) c.in_ok-session.field-0 session c.in-Some.is
+    (subst (λ (arcs : List Arc). IsSessionAt rules (fine c.rounds.point arcs) c.in_ok-session.field-0) c.as_slice.ensures.value
     (same_session rules (g.R.Rounds.rules c.rounds.rounds) c.rounds.invariant.rules (fine c.rounds.point c.as_slice.result.now) c.in_ok-session.field-0 c.in_ok-session.ensures.session)) in
-    let m : (nat_eq c.rounds.fine (most_rounds 0) ≡ false) × IsMoved s c.in-Ok-Moved.numbers c.in-Ok-Moved.moved =
-    subst (IsStep (nat_eq c.rounds.fine (most_rounds 0)) s) c.in-Ok-Moved.field-0-is c.in-Ok-Moved.ensures.step in
-    let v = c.as_slice-in-Ok-Moved.ensures.value in
+    let is_moved : (nat_eq c.rounds.fine (most_rounds 0) ≡ false) × IsMoved session c.in-Ok-Moved.numbers c.in-Ok-Moved.moved =
+    subst (IsStep (nat_eq c.rounds.fine (most_rounds 0)) session) c.in-Ok-Moved.field-0-is c.in-Ok-Moved.ensures.step in
+    let same_arcs = c.as_slice-in-Ok-Moved.ensures.value in
     let ended = c.in_ok-session.ensures in
     let given = c.rounds.invariant.sessions in
     let one = ended.made in
     record {
-      so_far = fine_moves rules c.rounds.point a c.args.coarse c.rounds.fine s c.in-Ok-Moved.numbers c.in-Ok-Moved.moved c.in_ok-arcs-in-Ok-Moved.arcs.items c.rounds.invariant.so_far k m.0 m.1
-          (subst (λ (ss : List ℕ). AreGrown a ss c.in-Ok-Moved.numbers c.in_ok-arcs-in-Ok-Moved.arcs.items) c.fine_signals.ensures.value
-          (subst (λ (b : List Arc). AreGrown b c.fine_signals.result.now c.in-Ok-Moved.numbers c.in_ok-arcs-in-Ok-Moved.arcs.items) v c.in_ok-arcs-in-Ok-Moved.ensures.grown))
-          (λ n h z. c.in_ok-arcs-in-Ok-Moved.ensures.below n (subst (AreShiftsBelow n) (sym v) h) z);
+      so_far = fine_moves rules c.rounds.point arcs c.args.coarse c.rounds.fine session c.in-Ok-Moved.numbers c.in-Ok-Moved.moved c.in_ok-arcs-in-Ok-Moved.arcs.items c.rounds.invariant.so_far is_session is_moved.0 is_moved.1
+          (subst (λ (ss : List ℕ). AreGrown arcs ss c.in-Ok-Moved.numbers c.in_ok-arcs-in-Ok-Moved.arcs.items) c.fine_signals.ensures.value
+          (subst (λ (b : List Arc). AreGrown b c.fine_signals.result.now c.in-Ok-Moved.numbers c.in_ok-arcs-in-Ok-Moved.arcs.items) same_arcs c.in_ok-arcs-in-Ok-Moved.ensures.grown))
+          (λ n h z. c.in_ok-arcs-in-Ok-Moved.ensures.below n (subst (AreShiftsBelow n) (sym same_arcs) h) z);
       rules = stays_on rules (g.R.Rounds.rules c.rounds.rounds) (g.R.Rounds.rules c.session.new.self) c.rounds.invariant.rules ended.rules;
       ready = ended.ready;
       sessions = omega arith;

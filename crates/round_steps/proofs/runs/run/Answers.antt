@@ -7,8 +7,8 @@ use Rattle.round_steps.proofs.runs.run.Goals as goal
 pub fine_rounds-requires-clause-first : goal.fine_rounds-requires-clause-first
 fine_rounds-requires-clause-first g c =
     let old : Rules = g.R.Rounds.rules c.args.rounds.now in
-    let at : SettlesAt old c.in-Settled.made c.in-Settled.point = subst (IsCoarseEnd old) c.in-Settled.is c.in_ok-made.ensures.end in
-    settles old (g.R.Rounds.rules c.coarse_rounds.new.rounds) c.coarse_rounds.ensures.rules c.in-Settled.made c.in-Settled.point at
+    let settles_at : SettlesAt old c.in-Settled.made c.in-Settled.point = subst (IsCoarseEnd old) c.in-Settled.is c.in_ok-made.ensures.end in
+    settles old (g.R.Rounds.rules c.coarse_rounds.new.rounds) c.coarse_rounds.ensures.rules c.in-Settled.made c.in-Settled.point settles_at
 
 pub returns-in-Settled-clause-end : goal.returns-in-Settled-clause-end
 returns-in-Settled-clause-end g c =

@@ -54,15 +54,15 @@ returns-clause-step c =
 
 pub returns-in_err-solved-clause-declined : goal.returns-in_err-solved-clause-declined
 returns-in_err-solved-clause-declined c =
-    let p = err_from_is_err_and c.from_residual.result c.from_residual.ensures.1 in
-    rw (p.1, p.2) (c.in_err-solved.ensures.refused c.args.last)
+    let err_parts = err_from_is_err_and c.from_residual.result c.from_residual.ensures.1 in
+    rw (err_parts.1, err_parts.2) (c.in_err-solved.ensures.refused c.args.last)
 
 pub returns-in_err-solved-clause-fits : goal.returns-in_err-solved-clause-fits
 returns-in_err-solved-clause-fits c =
-    let p = err_from_is_err_and c.from_residual.result c.from_residual.ensures.1 in
-    rw (p.1, p.2) (declined_fits c.args.last c.args.session.now c.in_err-solved.field-0.0 (c.in_err-solved.ensures.refused c.args.last))
+    let err_parts = err_from_is_err_and c.from_residual.result c.from_residual.ensures.1 in
+    rw (err_parts.1, err_parts.2) (declined_fits c.args.last c.args.session.now c.in_err-solved.field-0.0 (c.in_err-solved.ensures.refused c.args.last))
 
 pub returns-in_err-solved-clause-never_fixed : goal.returns-in_err-solved-clause-never_fixed
 returns-in_err-solved-clause-never_fixed c =
-    let p = err_from_is_err_and c.from_residual.result c.from_residual.ensures.1 in
-    rw (p.1, p.2) (declined_best c.args.last c.args.session.now c.in_err-solved.field-0.0 (c.in_err-solved.ensures.refused c.args.last))
+    let err_parts = err_from_is_err_and c.from_residual.result c.from_residual.ensures.1 in
+    rw (err_parts.1, err_parts.2) (declined_best c.args.last c.args.session.now c.in_err-solved.field-0.0 (c.in_err-solved.ensures.refused c.args.last))

@@ -30,30 +30,30 @@ result_is c = to_z-of_z w64 c.nearest_iota.result (record { sfits = c.nearest_io
 
 pub returns-clause-near : goal.returns-clause-near
 returns-clause-near c = λ p h b r a.
-    let x = c.prefit_of-prefit.result in
-    let g : ℤ = c.nearest_iota.result in
-    let w : IsWithinHalf (pos 1) (sub_r (less_pseudoranges 2 c.args.amount b r) (of_whole g)) = within_half (pos 1) x.lo x.hi g (less_pseudoranges 2 c.args.amount b r)
-    (half_group x.lo x.hi g x.narrow (nearest c)) (held c p h b r a) in
-    let y : IsWithinHalf (pos 1) (y_of 2 c.args.amount g (pos 0) b r) = InBox-along 15 (neg_ℤ (pos (2 ^ 14))) (pos (2 ^ 14) +ℤ prefit_width)
-    (sub_r (less_pseudoranges 2 c.args.amount b r) (of_whole g)) (y_of 2 c.args.amount g (pos 0) b r) (y_is 2 c.args.amount g (pos 0) g b r (no_shift g)) w in
-    subst (λ (z : ℤ). IsWithinHalf (pos 1) (y_of 2 c.args.amount z (pos 0) b r)) (sym (result_is c)) y
+    let prefit = c.prefit_of-prefit.result in
+    let chosen_group : ℤ = c.nearest_iota.result in
+    let prefit_within_half : IsWithinHalf (pos 1) (sub_r (less_pseudoranges 2 c.args.amount b r) (of_whole chosen_group)) = within_half (pos 1) prefit.lo prefit.hi chosen_group (less_pseudoranges 2 c.args.amount b r)
+    (half_group prefit.lo prefit.hi chosen_group prefit.narrow (nearest c)) (held c p h b r a) in
+    let row_within_half : IsWithinHalf (pos 1) (y_of 2 c.args.amount chosen_group (pos 0) b r) = InBox-along 15 (neg_ℤ (pos (2 ^ 14))) (pos (2 ^ 14) +ℤ prefit_width)
+    (sub_r (less_pseudoranges 2 c.args.amount b r) (of_whole chosen_group)) (y_of 2 c.args.amount chosen_group (pos 0) b r) (y_is 2 c.args.amount chosen_group (pos 0) chosen_group b r (no_shift chosen_group)) prefit_within_half in
+    subst (λ (z : ℤ). IsWithinHalf (pos 1) (y_of 2 c.args.amount z (pos 0) b r)) (sym (result_is c)) row_within_half
 
 pub returns-clause-allowed : goal.returns-clause-allowed
 returns-clause-allowed c = λ scale p t both.
-    let x = c.prefit_of-prefit.result in
-    let g : ℤ = c.nearest_iota.result in
-    let k = half_group x.lo x.hi g x.narrow (nearest c) in
-    let f : ℤ = floor_div (x.lo -ℤ (g *ℤ pos 32768)) (2 ^ (scale + 2)) in
-    let h : ℤ = ceil_div (x.hi -ℤ (g *ℤ pos 32768)) (2 ^ (scale + 2)) in
-    let m : ℤ = floor_div (f +ℤ h) 2 in
-    let u : ℤ = h -ℤ m in
-    let e : AreYEnds scale x.lo x.hi g m u = middle_ends scale x.lo x.hi g t x.ordered x.narrow in
-    let y : IsAllowedGroup p scale c.args.amount g = record {
-      centre = m;
-      radius = u;
-      narrow = y_radius scale x.lo x.hi g m u e;
-      holds = λ b r a. Near-along m u (in_row_unit scale (sub_r (less_pseudoranges 2 c.args.amount b r) (of_whole g))) (y_in_rows scale 2 c.args.amount g (pos 0) b r)
-          (y_in_rows_is scale 2 c.args.amount g (pos 0) g b r (no_shift g)) (y_holds scale x.lo x.hi g m u (less_pseudoranges 2 c.args.amount b r) e (held c p both b r a));
-      meets = y_meets scale x.lo x.hi g m u e k.0 k.1;
+    let prefit = c.prefit_of-prefit.result in
+    let chosen_group : ℤ = c.nearest_iota.result in
+    let half_group_holds = half_group prefit.lo prefit.hi chosen_group prefit.narrow (nearest c) in
+    let low_end : ℤ = floor_div (prefit.lo -ℤ (chosen_group *ℤ pos 32768)) (2 ^ (scale + 2)) in
+    let high_end : ℤ = ceil_div (prefit.hi -ℤ (chosen_group *ℤ pos 32768)) (2 ^ (scale + 2)) in
+    let centre_of_ends : ℤ = floor_div (low_end +ℤ high_end) 2 in
+    let radius_of_ends : ℤ = high_end -ℤ centre_of_ends in
+    let are_ends : AreYEnds scale prefit.lo prefit.hi chosen_group centre_of_ends radius_of_ends = middle_ends scale prefit.lo prefit.hi chosen_group t prefit.ordered prefit.narrow in
+    let is_allowed : IsAllowedGroup p scale c.args.amount chosen_group = record {
+      centre = centre_of_ends;
+      radius = radius_of_ends;
+      narrow = y_radius scale prefit.lo prefit.hi chosen_group centre_of_ends radius_of_ends are_ends;
+      holds = λ b r a. Near-along centre_of_ends radius_of_ends (in_row_unit scale (sub_r (less_pseudoranges 2 c.args.amount b r) (of_whole chosen_group))) (y_in_rows scale 2 c.args.amount chosen_group (pos 0) b r)
+          (y_in_rows_is scale 2 c.args.amount chosen_group (pos 0) chosen_group b r (no_shift chosen_group)) (y_holds scale prefit.lo prefit.hi chosen_group centre_of_ends radius_of_ends (less_pseudoranges 2 c.args.amount b r) are_ends (held c p both b r a));
+      meets = y_meets scale prefit.lo prefit.hi chosen_group centre_of_ends radius_of_ends are_ends half_group_holds.0 half_group_holds.1;
     } in
-    subst (λ (z : ℤ). IsAllowedGroup p scale c.args.amount z) (sym (result_is c)) y
+    subst (λ (z : ℤ). IsAllowedGroup p scale c.args.amount z) (sym (result_is c)) is_allowed

@@ -31,14 +31,14 @@ result_is c = to_z-of_z w64 c.nearest_cycle.result (record { sfits = c.nearest_c
 
 pub returns-clause-near : goal.returns-clause-near
 returns-clause-near c = λ p h b r a.
-    let s : ℕ = c.args.signal in
-    let x = c.prefit_of-prefit.result in
-    let g : ℤ = c.args.group in
+    let signal : ℕ = c.args.signal in
+    let prefit = c.prefit_of-prefit.result in
+    let chosen_group : ℤ = c.args.group in
     let k : ℤ = c.nearest_cycle.result in
-    let l : ℤ = wavelength s in
-    let q : Rational = less_pseudoranges s c.args.amount b r in
-    let w : IsWithinHalf l (sub_r q (of_whole (g +ℤ (l *ℤ k)))) = within_half l x.lo x.hi (g +ℤ (l *ℤ k)) q
-    (half_cycle x.lo x.hi g k l (unsigned_abs l * 2 ^ 15) (cycle_units s c.requires.signal c.requires.phase) x.narrow (nearest c)) (held c p h b r a) in
-    let y : IsWithinHalf l (y_of s c.args.amount g k b r) = InBox-along 15 _ _ (sub_r q (of_whole (g +ℤ (l *ℤ k)))) (y_of s c.args.amount g k b r)
-    (y_is s c.args.amount g k (g +ℤ (l *ℤ k)) b r refl) w in
-    subst (λ (z : ℤ). IsWithinHalf l (y_of s c.args.amount g z b r)) (sym (result_is c)) y
+    let l : ℤ = wavelength signal in
+    let q : Rational = less_pseudoranges signal c.args.amount b r in
+    let prefit_within_half : IsWithinHalf l (sub_r q (of_whole (chosen_group +ℤ (l *ℤ k)))) = within_half l prefit.lo prefit.hi (chosen_group +ℤ (l *ℤ k)) q
+    (half_cycle prefit.lo prefit.hi chosen_group k l (unsigned_abs l * 2 ^ 15) (cycle_units signal c.requires.signal c.requires.phase) prefit.narrow (nearest c)) (held c p h b r a) in
+    let row_within_half : IsWithinHalf l (y_of signal c.args.amount chosen_group k b r) = InBox-along 15 _ _ (sub_r q (of_whole (chosen_group +ℤ (l *ℤ k)))) (y_of signal c.args.amount chosen_group k b r)
+    (y_is signal c.args.amount chosen_group k (chosen_group +ℤ (l *ℤ k)) b r refl) prefit_within_half in
+    subst (λ (z : ℤ). IsWithinHalf l (y_of signal c.args.amount chosen_group z b r)) (sym (result_is c)) row_within_half

@@ -27,14 +27,14 @@ are c = record {
 
 pub invariant_of-result : goal.invariant_of-result
 invariant_of-result c =
-    let h = c.observed_box-held in
-    let b : Pseudorange = c.args.base.now in
-    let r : Pseudorange = c.args.rover.now in
+    let observed_held = c.observed_box-held in
+    let base : Pseudorange = c.args.base.now in
+    let rover : Pseudorange = c.args.rover.now in
     record {
-      ordered = rw (lo_is c, hi_is c) (prefit_ordered h.result.lo h.result.hi b.lo b.hi r.lo r.hi (are c));
-      narrow = rw (lo_is c, hi_is c) (prefit_narrow h.result.lo h.result.hi b.lo b.hi r.lo r.hi (are c));
-      lo_size = rw (lo_is c) (prefit_size (2 ^ 67) (2 ^ 68) h.result.lo r.hi b.lo (lit≤ tt) h.ensures.lo_size r.hi_size b.lo_size);
-      hi_size = rw (hi_is c) (prefit_size (2 ^ 67) (2 ^ 68) h.result.hi r.lo b.hi (lit≤ tt) h.ensures.hi_size r.lo_size b.hi_size);
+      ordered = rw (lo_is c, hi_is c) (prefit_ordered observed_held.result.lo observed_held.result.hi base.lo base.hi rover.lo rover.hi (are c));
+      narrow = rw (lo_is c, hi_is c) (prefit_narrow observed_held.result.lo observed_held.result.hi base.lo base.hi rover.lo rover.hi (are c));
+      lo_size = rw (lo_is c) (prefit_size (2 ^ 67) (2 ^ 68) observed_held.result.lo rover.hi base.lo (lit≤ tt) observed_held.ensures.lo_size rover.hi_size base.lo_size);
+      hi_size = rw (hi_is c) (prefit_size (2 ^ 67) (2 ^ 68) observed_held.result.hi rover.lo base.hi (lit≤ tt) observed_held.ensures.hi_size rover.lo_size base.hi_size);
     }
 
 plain_amount : (c : goal.After-less-2) → to_z w64 (of_z w64 c.args.amount) ≡ c.args.amount
@@ -42,23 +42,23 @@ plain_amount c = to_z-of_z w64 c.args.amount c.ranges.amount
 
 pub returns-clause-holds : goal.returns-clause-holds
 returns-clause-holds c = λ b r i j.
-    let h = c.observed_box-held in
-    let x : Pseudorange = c.args.base.now in
-    let y : Pseudorange = c.args.rover.now in
-    let held : InBox iota_exponent (h.result.lo -ℤ (y.hi -ℤ x.lo)) (h.result.hi -ℤ (y.lo -ℤ x.hi)) (sub_r (observed c.args.signal c.args.amount) (sub_r r b)) =
-    prefit_holds h.result.lo h.result.hi x.lo x.hi y.lo y.hi (observed c.args.signal c.args.amount) b r
-    (subst (λ (z : ℤ). InBox iota_exponent h.result.lo h.result.hi (observed c.args.signal z)) (plain_amount c.before) h.ensures.holds) i j in
+    let observed_held = c.observed_box-held in
+    let base : Pseudorange = c.args.base.now in
+    let rover : Pseudorange = c.args.rover.now in
+    let held : InBox iota_exponent (observed_held.result.lo -ℤ (rover.hi -ℤ base.lo)) (observed_held.result.hi -ℤ (rover.lo -ℤ base.hi)) (sub_r (observed c.args.signal c.args.amount) (sub_r r b)) =
+    prefit_holds observed_held.result.lo observed_held.result.hi base.lo base.hi rover.lo rover.hi (observed c.args.signal c.args.amount) b r
+    (subst (λ (z : ℤ). InBox iota_exponent observed_held.result.lo observed_held.result.hi (observed c.args.signal z)) (plain_amount c.before) observed_held.ensures.holds) i j in
     subst (λ (z : ℤ). InBox iota_exponent z (to_z w128 (of_z w128 c.less-2.result)) (sub_r (observed c.args.signal c.args.amount) (sub_r r b))) (sym (lo_is c.before))
-    (subst (λ (z : ℤ). InBox iota_exponent (h.result.lo -ℤ (y.hi -ℤ x.lo)) z (sub_r (observed c.args.signal c.args.amount) (sub_r r b))) (sym (hi_is c.before)) held)
+    (subst (λ (z : ℤ). InBox iota_exponent (observed_held.result.lo -ℤ (rover.hi -ℤ base.lo)) z (sub_r (observed c.args.signal c.args.amount) (sub_r r b))) (sym (hi_is c.before)) held)
 
 pub returns-clause-code : goal.returns-clause-code
 returns-clause-code c = λ s a.
-    let h = c.observed_box-held in
-    rw (lo_is c.before) (prefit_size (2 ^ 56) (2 ^ 57) h.result.lo c.args.rover.now.hi c.args.base.now.lo (lit≤ tt)
-    (h.ensures.code s (subst (λ (z : ℤ). unsigned_abs z < 2 ^ 37) (sym (plain_amount c.before)) a)) c.args.rover.now.hi_size c.args.base.now.lo_size)
+    let observed_held = c.observed_box-held in
+    rw (lo_is c.before) (prefit_size (2 ^ 56) (2 ^ 57) observed_held.result.lo c.args.rover.now.hi c.args.base.now.lo (lit≤ tt)
+    (observed_held.ensures.code s (subst (λ (z : ℤ). unsigned_abs z < 2 ^ 37) (sym (plain_amount c.before)) a)) c.args.rover.now.hi_size c.args.base.now.lo_size)
 
 pub returns-clause-phase : goal.returns-clause-phase
 returns-clause-phase c = λ s.
-    let h = c.observed_box-held in
-    rw (lo_is c.before) (prefit_phase (unsigned_abs (wavelength c.args.signal) * 2 ^ 63) h.result.lo c.args.rover.now.hi c.args.base.now.lo
-    (h.ensures.phase s) c.args.rover.now.hi_size c.args.base.now.lo_size)
+    let observed_held = c.observed_box-held in
+    rw (lo_is c.before) (prefit_phase (unsigned_abs (wavelength c.args.signal) * 2 ^ 63) observed_held.result.lo c.args.rover.now.hi c.args.base.now.lo
+    (observed_held.ensures.phase s) c.args.rover.now.hi_size c.args.base.now.lo_size)

@@ -25,15 +25,15 @@ hi_is c = to_z-of_z w64 c.above.result (record { sfits = c.above.type_inv })
 -- what the two ends are rounded from
 low_metres : (c : goal.After-above) → c.less_clock.result ≡ metres c.args.range.now.lo c.args.clock.now.hi
 low_metres c =
-    let r = c.args.range.now in
-    let t = c.args.clock.now in
-    c.less_clock.ensures.value ∙ ap₂ metres (end_cast r.lo r.low (le_trans_ℤ r.ordered r.high)) (end_cast t.hi (le_trans_ℤ t.low t.ordered) t.high)
+    let range = c.args.range.now in
+    let clock = c.args.clock.now in
+    c.less_clock.ensures.value ∙ ap₂ metres (end_cast range.lo range.low (le_trans_ℤ range.ordered range.high)) (end_cast clock.hi (le_trans_ℤ clock.low clock.ordered) clock.high)
 
 high_metres : (c : goal.After-above) → c.less_clock-2.result ≡ metres c.args.range.now.hi c.args.clock.now.lo
 high_metres c =
-    let r = c.args.range.now in
-    let t = c.args.clock.now in
-    c.less_clock-2.ensures.value ∙ ap₂ metres (end_cast r.hi (le_trans_ℤ r.low r.ordered) r.high) (end_cast t.lo t.low (le_trans_ℤ t.ordered t.high))
+    let range = c.args.range.now in
+    let clock = c.args.clock.now in
+    c.less_clock-2.ensures.value ∙ ap₂ metres (end_cast range.hi (le_trans_ℤ range.low range.ordered) range.high) (end_cast clock.lo clock.low (le_trans_ℤ clock.ordered clock.high))
 
 is_floor : (c : goal.After-above) → IsFloor (metres c.args.range.now.lo c.args.clock.now.hi *ℤ pos METRE_UNITS) (HALF_LIGHT_SPEED * 2 ^ 39) c.below.result
 is_floor c = subst (λ (v : ℤ). IsFloor (v *ℤ pos METRE_UNITS) (HALF_LIGHT_SPEED * 2 ^ 39) c.below.result)
@@ -51,25 +51,25 @@ narrow rl rh tl th h k = omega (arith, ints)
 
 pub invariant_of-result : goal.invariant_of-result
 invariant_of-result c =
-    let r = c.args.range.now in
-    let t = c.args.clock.now in
-    let v : ℤ = metres r.lo t.hi in
-    let w : ℤ = metres r.hi t.lo in
-    let f : ℤ = c.below.result in
-    let g : ℤ = c.above.result in
+    let range = c.args.range.now in
+    let clock = c.args.clock.now in
+    let least_metres : ℤ = metres range.lo clock.hi in
+    let most_metres : ℤ = metres range.hi clock.lo in
+    let low_end : ℤ = c.below.result in
+    let high_end : ℤ = c.above.result in
     record {
-      ordered = rw (lo_is c, hi_is c) (pseudorange_ordered f g v w (rising r.lo r.hi t.lo t.hi r.ordered t.ordered) (is_floor c) (is_ceil c));
-      narrow = rw (lo_is c, hi_is c) (pseudorange_narrow f g v w (narrow r.lo r.hi t.lo t.hi c.requires.range_narrow c.requires.clock_narrow) (is_floor c) (is_ceil c));
+      ordered = rw (lo_is c, hi_is c) (pseudorange_ordered low_end high_end least_metres most_metres (rising range.lo range.hi clock.lo clock.hi range.ordered clock.ordered) (is_floor c) (is_ceil c));
+      narrow = rw (lo_is c, hi_is c) (pseudorange_narrow low_end high_end least_metres most_metres (narrow range.lo range.hi clock.lo clock.hi c.requires.range_narrow c.requires.clock_narrow) (is_floor c) (is_ceil c));
       lo_size = rw (lo_is c) c.below.ensures.size;
       hi_size = rw (hi_is c) c.above.ensures.size;
     }
 
 pub returns : goal.returns
 returns c = λ r t h i.
-    let x = c.args.range.now in
-    let y = c.args.clock.now in
+    let range = c.args.range.now in
+    let clock = c.args.clock.now in
     let held : InBox iota_exponent c.before.below.result c.before.above.result (pseudorange r t) =
-    pseudorange_holds x.lo x.hi y.lo y.hi c.before.below.result c.before.above.result r t (is_floor c.before)
+    pseudorange_holds range.lo range.hi clock.lo clock.hi c.before.below.result c.before.above.result r t (is_floor c.before)
     (is_ceil c.before) h i in
     subst (λ (z : ℤ). InBox iota_exponent z (to_z w64 (of_z w64 c.above.result)) (pseudorange r t)) (sym (lo_is c.before))
     (subst (λ (z : ℤ). InBox iota_exponent c.below.result z (pseudorange r t)) (sym (hi_is c.before)) held)

@@ -21,26 +21,26 @@ corner_in s a b c e = subst (λ (t : List (Iv 36)). HoldsPlace t (corner_of a b 
 
 -- what is held by name
 named : (s : List (Iv 36)) (a b c : Iv 36) (p : Place) → s ≡ a ∷ b ∷ c ∷ [] → HoldsPlace s p → Holds a p.x × Holds b p.y × Holds c p.z
-named s a b c p e h = let k : HoldsPlace (a ∷ b ∷ c ∷ []) p = subst (λ (t : List (Iv 36)). HoldsPlace t p) e h in (k.0, k.1.0, k.1.1.0)
+named s a b c p e h = let holds_place : HoldsPlace (a ∷ b ∷ c ∷ []) p = subst (λ (t : List (Iv 36)). HoldsPlace t p) e h in (holds_place.0, holds_place.1.0, holds_place.1.1.0)
 
 pub returns : goal.returns
 returns c =
-    let d : Iv 36 = c.index-sv-0.result in
+    let first_box : Iv 36 = c.index-sv-0.result in
     let boxes : List (Iv 36) = c.args.sv.now.place in
     let point : List ℤ = c.args.point.now in
-    let x : Iv 36 = get_or boxes 0 d in
-    let y : Iv 36 = get_or boxes 1 d in
-    let z : Iv 36 = get_or boxes 2 d in
-    let l : length boxes ≡ 3 = omega arith in
-    let m : length point ≡ 3 = omega arith in
-    let e : boxes ≡ x ∷ y ∷ z ∷ [] = three_items boxes d d d l in
+    let x : Iv 36 = get_or boxes 0 first_box in
+    let y : Iv 36 = get_or boxes 1 first_box in
+    let z : Iv 36 = get_or boxes 2 first_box in
+    let three_boxes : length boxes ≡ 3 = omega arith in
+    let three_coordinates : length point ≡ 3 = omega arith in
+    let boxes_are_three : boxes ≡ x ∷ y ∷ z ∷ [] = three_items boxes first_box first_box first_box three_boxes in
     let place : IsReceiverPlace (place_at point) = receiver_place (get_or point 0 (pos 0)) (get_or point 1 (pos 0)) (get_or point 2 (pos 0))
-    (subst (λ (s : List ℤ). IsReceiverPoint s) (three_items point (pos 0) (pos 0) (pos 0) m) c.requires) in
+    (subst (λ (s : List ℤ). IsReceiverPoint s) (three_items point (pos 0) (pos 0) (pos 0) three_coordinates) c.requires) in
     let every : (sent : Place) → HoldsPlace boxes sent → HasSeenPlace sent (place_at point) = λ sent h.
-    let k = named boxes x y z sent e h in
-    seen_place_exists sent (place_at point) (c.args.sv.now.away x y z e sent.x sent.y sent.z k.0 k.1 k.2) place in
+    let holds_each = named boxes x y z sent boxes_are_three h in
+    seen_place_exists sent (place_at point) (c.args.sv.now.away x y z boxes_are_three sent.x sent.y sent.z holds_each.0 holds_each.1 holds_each.2) place in
     let sent : Place = corner_of x y z in
-    let held : HoldsPlace boxes sent = corner_in boxes x y z e in
+    let held : HoldsPlace boxes sent = corner_in boxes x y z boxes_are_three in
     let seen : HasSeenPlace sent (place_at point) = every sent held in
     record {
       sighting = record { sent = sent; clock = of_scale 60 c.args.sv.now.clock.lo; seen = seen.seen; travel = seen.travel };

@@ -18,13 +18,13 @@ use Rattle.row_boxes.proofs.terms.observations_of.Goals as goal
 
 pub returns-in_err-centre-clause-far : goal.returns-in_err-centre-clause-far
 returns-in_err-centre-clause-far c = λ e p h t.
-    let i : ℕ = c.loop-signal.signal-index in
-    let s : ℕ = get_or c.args.ss.now i 0 in
+    let signal_place : ℕ = c.loop-signal.signal-index in
+    let signal : ℕ = get_or c.args.ss.now signal_place 0 in
     let box = c.y_of_signal-more in
-    let inside : i < length c.args.ss.now = search rules in
+    let inside : signal_place < length c.args.ss.now = search rules in
     let far : 2 ^ 34 < unsigned_abs box.result.centre = search rules in
-    far_signal p c.args.ss.now c.args.scale i s c.args.amounts.now c.args.shift.now c.args.group box.result.centre box.result.radius (slice_get-get_or c.args.ss.now i 0 inside) box.result.most far
-    (subst (λ (g : ℤ). HoldsY p c.args.scale s (number_at c.args.amounts.now s) g (number_at c.args.shift.now (band s)) box.result.centre box.result.radius)
+    far_signal p c.args.ss.now c.args.scale signal_place signal c.args.amounts.now c.args.shift.now c.args.group box.result.centre box.result.radius (slice_get-get_or c.args.ss.now signal_place 0 inside) box.result.most far
+    (subst (λ (g : ℤ). HoldsY p c.args.scale signal (number_at c.args.amounts.now signal) g (number_at c.args.shift.now (band signal)) box.result.centre box.result.radius)
     (to_z-of_z w64 c.args.group c.ranges.group) (box.ensures.holds p h)) t
 
 next : (k i : ℕ) → k < i → k < i + 1
@@ -32,21 +32,21 @@ next k i h = omega arith
 
 pub loop-signal-preserved : goal.loop-signal-preserved
 loop-signal-preserved c =
-    let i : ℕ = c.loop-signal.signal-index in
-    let s : ℕ = get_or c.args.ss.now i 0 in
-    let g : ℤ = to_z w64 (of_z w64 c.args.group) in
+    let signal_place : ℕ = c.loop-signal.signal-index in
+    let signal : ℕ = get_or c.args.ss.now signal_place 0 in
+    let group : ℤ = to_z w64 (of_z w64 c.args.group) in
     let centre : to_z w64 (of_z w64 c.in_ok-centre.centre) ≡ c.y_of_signal-more.result.centre = search rules in
     let size : IsWithin (2 ^ 34) (to_z w64 (of_z w64 c.in_ok-centre.centre)) = search rules in
     let old : to_z w64 c.loop-signal.ry-bits ≤ℤ to_z w64 (of_z w64 c.wider-ry.result) = search rules in
     let new : c.y_of_signal-more.result.radius ≤ℤ to_z w64 (of_z w64 c.wider-ry.result) = search rules in
-    let within : s < length c.loop-signal.y = search rules in
+    let within : signal < length c.loop-signal.y = search rules in
     record {
-      holds = λ k hk p h. one_more p c.args.scale c.args.amounts.now g c.args.shift.now c.loop-signal.y c.args.ss.now i _ c.y_of_signal-more.result.radius _ _ within old new
-          (subst (λ (x : ℤ). HoldsY p c.args.scale s (number_at c.args.amounts.now s) g (number_at c.args.shift.now (band s)) x c.y_of_signal-more.result.radius) (sym centre)
+      holds = λ k hk p h. one_more p c.args.scale c.args.amounts.now group c.args.shift.now c.loop-signal.y c.args.ss.now signal_place _ c.y_of_signal-more.result.radius _ _ within old new
+          (subst (λ (x : ℤ). HoldsY p c.args.scale signal (number_at c.args.amounts.now signal) group (number_at c.args.shift.now (band signal)) x c.y_of_signal-more.result.radius) (sym centre)
           (c.y_of_signal-more.ensures.holds p h))
           (λ j hj. c.loop-signal.invariant.holds j hj p h) k hk;
-      others = λ t h. zero_off c.loop-signal.y s t _ (h i (lt-add-one i)) (c.loop-signal.invariant.others t (λ k hk. h k (next k i hk)));
-      sizes = All-set (IsWithin (2 ^ 34)) c.loop-signal.y s _ size c.loop-signal.invariant.sizes;
+      others = λ t h. zero_off c.loop-signal.y signal t _ (h signal_place (lt-add-one signal_place)) (c.loop-signal.invariant.others t (λ k hk. h k (next k signal_place hk)));
+      sizes = All-set (IsWithin (2 ^ 34)) c.loop-signal.y signal _ size c.loop-signal.invariant.sizes;
       six = search rules;
       least = search rules;
       most = search rules;

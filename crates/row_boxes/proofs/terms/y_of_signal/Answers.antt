@@ -19,18 +19,18 @@ whole_is c = to_z-of_z w64 c.whole_of.result (record { sfits = c.whole_of.type_i
 
 read_amount : (c : goal.After-y_box) → to_z w64 (of_z w64 (number_at c.args.amounts.now c.args.signal)) ≡ number_at c.args.amounts.now c.args.signal
 read_amount c =
-    let l : length c.args.amounts.now ≡ SIGNALS = omega arith in
-    let i : c.args.signal < length c.args.amounts.now = omega arith in
-    read_small (number_at c.args.amounts.now c.args.signal) (c.requires.amounts c.args.signal (pos 0) i)
+    let amounts_length : length c.args.amounts.now ≡ SIGNALS = omega arith in
+    let signal_within : c.args.signal < length c.args.amounts.now = omega arith in
+    read_small (number_at c.args.amounts.now c.args.signal) (c.requires.amounts c.args.signal (pos 0) signal_within)
 
 pub returns-clause-holds : goal.returns-clause-holds
 returns-clause-holds c = λ p h base rover a.
-    let s : ℕ = c.args.signal in
-    let n : ℤ = number_at c.args.amounts.now s in
-    let w : ℤ = to_z w64 (of_z w64 c.whole_of.result) in
-    let held : InBox iota_exponent c.prefit_of-prefit.result.lo c.prefit_of-prefit.result.hi (less_pseudoranges s n base rover) =
-    subst (λ (z : ℤ). InBox iota_exponent c.prefit_of-prefit.result.lo c.prefit_of-prefit.result.hi (less_pseudoranges s z base rover)) (read_amount c)
+    let signal : ℕ = c.args.signal in
+    let amount : ℤ = number_at c.args.amounts.now signal in
+    let whole : ℤ = to_z w64 (of_z w64 c.whole_of.result) in
+    let held : InBox iota_exponent c.prefit_of-prefit.result.lo c.prefit_of-prefit.result.hi (less_pseudoranges signal amount base rover) =
+    subst (λ (z : ℤ). InBox iota_exponent c.prefit_of-prefit.result.lo c.prefit_of-prefit.result.hi (less_pseudoranges signal z base rover)) (read_amount c)
     (c.prefit_of-prefit.ensures.holds (pseudorange (range_of base.travel) base.clock) (pseudorange (range_of rover.travel) rover.clock) (h.base_held base a.base_is) (h.rover_held rover a.rover_is)) in
-    Near-along c.y_box.result.centre c.y_box.result.radius (in_row_unit c.args.scale (sub_r (less_pseudoranges s n base rover) (of_whole w)))
-    (y_in_rows c.args.scale s n c.args.group (number_at c.args.shift.now (band s)) base rover)
-    (y_in_rows_is c.args.scale s n c.args.group (number_at c.args.shift.now (band s)) w base rover (whole_is c)) (c.y_box.ensures.holds (less_pseudoranges s n base rover) held)
+    Near-along c.y_box.result.centre c.y_box.result.radius (in_row_unit c.args.scale (sub_r (less_pseudoranges signal amount base rover) (of_whole whole)))
+    (y_in_rows c.args.scale signal amount c.args.group (number_at c.args.shift.now (band signal)) base rover)
+    (y_in_rows_is c.args.scale signal amount c.args.group (number_at c.args.shift.now (band signal)) whole base rover (whole_is c)) (c.y_box.ensures.holds (less_pseudoranges signal amount base rover) held)

@@ -21,22 +21,22 @@ row_in P rows r all e = subst P (get_or_from_slice_get rows 0 r r e) (all 0 r (s
 
 pub returns-clause-rows : goal.returns-clause-rows
 returns-clause-rows c =
-    let t = setting_from c.args.from.now c.args.scale in
-    let p = c.finish.result in
-    let f = c.first_entry-first.result.sv.now in
-    let g : ℤ = c.group_of-group.result in
-    let plain : to_z w64 (of_z w64 g) ≡ g = to_z-of_z w64 g (record { sfits = c.group_of-group.type_inv }) in
-    let group : p.group ≡ g = c.finish.ensures.group ∙ c.in_ok-rows.ensures.group ∙ c.in_ok-empty.ensures.group ∙ plain in
-    let arcs : map (λ (r : Row). r.arc) p.rows ≡ arcs_at c.args.from.now.arcs.now c.args.pair =
+    let setting = setting_from c.args.from.now c.args.scale in
+    let finished = c.finish.result in
+    let entry_used = c.first_entry-first.result.sv.now in
+    let chosen_group : ℤ = c.group_of-group.result in
+    let plain : to_z w64 (of_z w64 chosen_group) ≡ chosen_group = to_z-of_z w64 chosen_group (record { sfits = c.group_of-group.type_inv }) in
+    let group : finished.group ≡ chosen_group = c.finish.ensures.group ∙ c.in_ok-rows.ensures.group ∙ c.in_ok-empty.ensures.group ∙ plain in
+    let arcs : map (λ (r : Row). r.arc) finished.rows ≡ arcs_at c.args.from.now.arcs.now c.args.pair =
     ap (λ (rs : List Row). map (λ (r : Row). r.arc) rs) c.finish.ensures.rows ∙ c.in_ok-rows.ensures.arcs ∙ c.as_slice-held.ensures.value ∙ c.in_ok-held.ensures in
-    let rows : All (IsRow t c.args.pair p.group) p.rows =
-    subst (λ (rs : List Row). All (IsRow t c.args.pair p.group) rs) (sym c.finish.ensures.rows)
-    (subst₂ (λ (n : ℕ) (k : ℤ). All (IsRow t n k) c.in_ok-rows.rows.rows) c.in_ok-empty.ensures.number (sym (c.finish.ensures.group ∙ c.in_ok-rows.ensures.group)) c.in_ok-rows.ensures.rows) in
+    let rows : All (IsRow setting c.args.pair finished.group) finished.rows =
+    subst (λ (rs : List Row). All (IsRow setting c.args.pair finished.group) rs) (sym c.finish.ensures.rows)
+    (subst₂ (λ (n : ℕ) (k : ℤ). All (IsRow setting n k) c.in_ok-rows.rows.rows) c.in_ok-empty.ensures.number (sym (c.finish.ensures.group ∙ c.in_ok-rows.ensures.group)) c.in_ok-rows.ensures.rows) in
     record {
       number = c.finish.ensures.number ∙ c.in_ok-rows.ensures.number ∙ c.in_ok-empty.ensures.number;
       tag = record {
         sat = c.first_entry-first.ensures.entry.arc.sat;
-        entry = f;
+        entry = entry_used;
         entry_is = c.first_entry-first.ensures.entry.entry_is;
         tag_is =
             sym (c.finish.ensures.tag ∙ c.in_ok-rows.ensures.tag ∙ c.in_ok-empty.ensures.tag);
@@ -44,25 +44,25 @@ returns-clause-rows c =
       arcs = arcs;
       rows = rows;
       group = λ r e.
-          first_meets c.args.from.now.screened.now.used t c.args.pair p.group r f c.args.from.now.screened.now.matched c.args.from.now.screened.now.ranges c.first_entry-first.ensures.entry
-          (ap (λ (xs : List ℕ). slice_get xs 0) (sym arcs) ∙ slice_get-map (λ (q : Row). q.arc) p.rows 0 ∙ ap (λ (o : Option Row). option_map (λ (q : Row). q.arc) o) e)
-          (row_in (IsRow t c.args.pair p.group) p.rows r rows e) (both_see c.first_entry-first.result c.args.from.now.base.now c.args.from.now.point.now c.first_entry-first.ensures.seen)
-          (subst (λ (k : ℤ). (b q : Sighting) → AreSightings (seen_by f c.args.from.now.base.now c.args.from.now.point.now) b q
-          → IsWithinHalf (pos 1) (y_of 2 (number_at f.observed 2) k (pos 0) b q)) (sym group)
+          first_meets c.args.from.now.screened.now.used setting c.args.pair finished.group r entry_used c.args.from.now.screened.now.matched c.args.from.now.screened.now.ranges c.first_entry-first.ensures.entry
+          (ap (λ (xs : List ℕ). slice_get xs 0) (sym arcs) ∙ slice_get-map (λ (q : Row). q.arc) finished.rows 0 ∙ ap (λ (o : Option Row). option_map (λ (q : Row). q.arc) o) e)
+          (row_in (IsRow setting c.args.pair finished.group) finished.rows r rows e) (both_see c.first_entry-first.result c.args.from.now.base.now c.args.from.now.point.now c.first_entry-first.ensures.seen)
+          (subst (λ (k : ℤ). (b q : Sighting) → AreSightings (seen_by entry_used c.args.from.now.base.now c.args.from.now.point.now) b q
+          → IsWithinHalf (pos 1) (y_of 2 (number_at entry_used.observed 2) k (pos 0) b q)) (sym group)
           (c.group_of-group.ensures.near c.args.from.now.base.now c.args.from.now.point.now c.first_entry-first.ensures.seen));
     }
 
 pub returns-in_err-rows-clause-overwidth : goal.returns-in_err-rows-clause-overwidth
 returns-in_err-rows-clause-overwidth c = λ e.
     let answered = err_from_is_err_and c.from_residual-in_err-rows.result c.from_residual-in_err-rows.ensures.1 in
-    let t = setting_from c.args.from.now c.args.scale in
-    let g : ℤ = c.group_of-group.result in
-    let plain : to_z w64 (of_z w64 g) ≡ g = to_z-of_z w64 g (record { sfits = c.group_of-group.type_inv }) in
-    let allowed : IsGroup t c.args.pair g = record {
+    let setting = setting_from c.args.from.now c.args.scale in
+    let chosen_group : ℤ = c.group_of-group.result in
+    let plain : to_z w64 (of_z w64 chosen_group) ≡ chosen_group = to_z-of_z w64 chosen_group (record { sfits = c.group_of-group.type_inv }) in
+    let allowed : IsGroup setting c.args.pair chosen_group = record {
       entry = c.first_entry-first.result.sv.now;
       entry_is = c.first_entry-first.ensures.entry;
       allowed =
           c.group_of-group.ensures.allowed c.args.from.now.base.now c.args.from.now.point.now c.first_entry-first.ensures.seen c.args.scale c.requires.scale;
     } in
-    subst (λ (n : ℕ). HasFarRow t n) c.in_ok-empty.ensures.number
-    (c.in_err-rows.ensures.far (cc (answered.1, answered.2, e)) (subst₂ (λ (n : ℕ) (k : ℤ). IsGroup t n k) (sym c.in_ok-empty.ensures.number) (sym (c.in_ok-empty.ensures.group ∙ plain)) allowed))
+    subst (λ (n : ℕ). HasFarRow setting n) c.in_ok-empty.ensures.number
+    (c.in_err-rows.ensures.far (cc (answered.1, answered.2, e)) (subst₂ (λ (n : ℕ) (k : ℤ). IsGroup setting n k) (sym c.in_ok-empty.ensures.number) (sym (c.in_ok-empty.ensures.group ∙ plain)) allowed))

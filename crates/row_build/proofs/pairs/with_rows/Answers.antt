@@ -24,8 +24,8 @@ read_group z small = as_w64 z (omega (arith, small))
 of_pair : (boxes : List SvPair) (arcs : List Arc) (held : List ℕ) (place n k : ℕ) (v : SvPair) → held ≡ arcs_at arcs n → place < length held →
     ((m : ℕ) (a : Arc) → slice_get held place ≡ Some m → slice_get arcs m ≡ Some a → IsEntry boxes k a.sat v) → k ≡ n → v.pair ≡ n
 of_pair boxes arcs held place n k v e h all same =
-    let a = held_read arcs n place held e h in
-    (all (get_or held place 0) a.arc (slice_get-get_or held place 0 h) a.is).of_pair ∙ same
+    let is_held = held_read arcs n place held e h in
+    (all (get_or held place 0) is_held.arc (slice_get-get_or held place 0 h) is_held.is).of_pair ∙ same
 
 pub held_entry-entry-requires-clause-held : goal.held_entry-entry-requires-clause-held
 held_entry-entry-requires-clause-held c = c.requires.held ∙ ap (λ (n : ℕ). arcs_at c.args.from.now.arcs.now n) (sym c.loop-place.invariant.0)
@@ -36,52 +36,52 @@ held_entry-entry-requires-clause-first c =
 
 pub row_at-requires-clause-number : goal.row_at-requires-clause-number
 row_at-requires-clause-number c =
-    let p = of_pair c.args.from.now.screened.now.boxes c.args.from.now.arcs.now c.args.held.now c.loop-place.place c.args.rows.number c.loop-place.rows.number c.held_entry-entry.result.sv.now
+    let same_pair = of_pair c.args.from.now.screened.now.boxes c.args.from.now.arcs.now c.args.held.now c.loop-place.place c.args.rows.number c.loop-place.rows.number c.held_entry-entry.result.sv.now
     c.requires.held c.loop-place-test.true c.held_entry-entry.ensures.entry c.loop-place.invariant.0 in
-    subst (λ (n : ℕ). IsHeld c.args.from.now.arcs.now n (get_or c.args.held.now c.loop-place.place 0)) (sym p)
+    subst (λ (n : ℕ). IsHeld c.args.from.now.arcs.now n (get_or c.args.held.now c.loop-place.place 0)) (sym same_pair)
     (held_read c.args.from.now.arcs.now c.args.rows.number c.loop-place.place c.args.held.now c.requires.held c.loop-place-test.true)
 
 pub row_at-requires-clause-entry : goal.row_at-requires-clause-entry
 row_at-requires-clause-entry c = λ a is.
-    let m : ℕ = get_or c.args.held.now c.loop-place.place 0 in
-    let e = c.held_entry-entry.ensures.entry m a (slice_get-get_or c.args.held.now c.loop-place.place 0 c.loop-place-test.true) is in
-    subst (λ (n : ℕ). IsEntry c.args.from.now.screened.now.boxes n a.sat c.held_entry-entry.result.sv.now) (sym e.of_pair) e
+    let arc_number : ℕ = get_or c.args.held.now c.loop-place.place 0 in
+    let is_entry = c.held_entry-entry.ensures.entry arc_number a (slice_get-get_or c.args.held.now c.loop-place.place 0 c.loop-place-test.true) is in
+    subst (λ (n : ℕ). IsEntry c.args.from.now.screened.now.boxes n a.sat c.held_entry-entry.result.sv.now) (sym is_entry.of_pair) is_entry
 
 pub push-requires-clause-room : goal.push-requires-clause-room
 push-requires-clause-room c =
-    let l : length c.args.held.now ≤ MOST_SATELLITES = subst (λ (xs : List ℕ). length xs ≤ MOST_SATELLITES) (sym c.requires.held)
+    let few_held : length c.args.held.now ≤ MOST_SATELLITES = subst (λ (xs : List ℕ). length xs ≤ MOST_SATELLITES) (sym c.requires.held)
     (held_few c.args.from.now.screened.now.used c.args.from.now.arcs.now c.args.rows.number c.requires.cut c.args.from.now.screened.now.ranges c.requires.pair) in
-    few_so_far c.args.held.now c.loop-place.rows.rows c.loop-place.place c.loop-place.invariant.3.arcs c.loop-place-test.true l
+    few_so_far c.args.held.now c.loop-place.rows.rows c.loop-place.place c.loop-place.invariant.3.arcs c.loop-place-test.true few_held
 
 pub push-requires-clause-order : goal.push-requires-clause-order
 push-requires-clause-order c =
-    let m : ℕ = get_or c.args.held.now c.loop-place.place 0 in
-    let at : slice_get c.args.held.now c.loop-place.place ≡ Some m = slice_get-get_or c.args.held.now c.loop-place.place 0 c.loop-place-test.true in
+    let arc_number : ℕ = get_or c.args.held.now c.loop-place.place 0 in
+    let arc_at_place : slice_get c.args.held.now c.loop-place.place ≡ Some arc_number = slice_get-get_or c.args.held.now c.loop-place.place 0 c.loop-place-test.true in
     subst (λ (k : ℕ). AreBelow c.loop-place.rows.rows k) (sym c.in_ok-row.ensures.arc)
-    (in_order c.args.from.now.arcs.now c.args.rows.number c.args.held.now c.loop-place.rows.rows c.loop-place.place m c.requires.held c.loop-place.invariant.3.arcs at)
+    (in_order c.args.from.now.arcs.now c.args.rows.number c.args.held.now c.loop-place.rows.rows c.loop-place.place arc_number c.requires.held c.loop-place.invariant.3.arcs arc_at_place)
 
 pub returns-in_err-row-clause-far : goal.returns-in_err-row-clause-far
 returns-in_err-row-clause-far c = λ _ g.
-    let t = setting_from c.args.from.now c.args.scale in
-    let i = c.loop-place.invariant in
-    let p = of_pair c.args.from.now.screened.now.boxes c.args.from.now.arcs.now c.args.held.now c.loop-place.place c.args.rows.number c.loop-place.rows.number c.held_entry-entry.result.sv.now
-    c.requires.held c.loop-place-test.true c.held_entry-entry.ensures.entry i.0 in
-    subst (λ (n : ℕ). HasFarRow t n) p
-    (c.in_err-row.ensures.far (subst₂ (λ (n : ℕ) (k : ℤ). IsGroup t n k) (sym p) (sym (read_group c.loop-place.rows.group c.loop-place.rows.group_in ∙ i.2)) g))
+    let setting = setting_from c.args.from.now c.args.scale in
+    let rows_so_far = c.loop-place.invariant in
+    let same_pair = of_pair c.args.from.now.screened.now.boxes c.args.from.now.arcs.now c.args.held.now c.loop-place.place c.args.rows.number c.loop-place.rows.number c.held_entry-entry.result.sv.now
+    c.requires.held c.loop-place-test.true c.held_entry-entry.ensures.entry rows_so_far.0 in
+    subst (λ (n : ℕ). HasFarRow setting n) same_pair
+    (c.in_err-row.ensures.far (subst₂ (λ (n : ℕ) (k : ℤ). IsGroup setting n k) (sym same_pair) (sym (read_group c.loop-place.rows.group c.loop-place.rows.group_in ∙ rows_so_far.2)) g))
 
 pub loop-place-preserved : goal.loop-place-preserved
 loop-place-preserved c =
-    let t = setting_from c.args.from.now c.args.scale in
-    let i = c.loop-place.invariant in
-    let m : ℕ = get_or c.args.held.now c.loop-place.place 0 in
-    let at : slice_get c.args.held.now c.loop-place.place ≡ Some m = slice_get-get_or c.args.held.now c.loop-place.place 0 c.loop-place-test.true in
-    let p = of_pair c.args.from.now.screened.now.boxes c.args.from.now.arcs.now c.args.held.now c.loop-place.place c.args.rows.number c.loop-place.rows.number c.held_entry-entry.result.sv.now
-    c.requires.held c.loop-place-test.true c.held_entry-entry.ensures.entry i.0 in
-    let row : IsRow t c.args.rows.number c.args.rows.group c.in_ok-row.row = subst₂ (λ (n : ℕ) (k : ℤ). IsRow t n k c.in_ok-row.row) p
-    (read_group c.loop-place.rows.group c.loop-place.rows.group_in ∙ i.2) c.in_ok-row.ensures.row in (
-      c.push.ensures.number ∙ i.0,
-      c.push.ensures.tag ∙ i.1,
-      c.push.ensures.group ∙ i.2,
-      subst (λ (rs : List Row). AreFirstRows t c.args.rows.number c.args.rows.group (take (c.loop-place.place + 1) c.args.held.now) rs) (sym c.in_ok-push.ensures.added)
-          (one_row_more t c.args.rows.number c.args.rows.group c.args.held.now c.loop-place.rows.rows c.loop-place.place m c.in_ok-row.row i.3 at c.in_ok-row.ensures.arc row),
+    let setting = setting_from c.args.from.now c.args.scale in
+    let rows_so_far = c.loop-place.invariant in
+    let arc_number : ℕ = get_or c.args.held.now c.loop-place.place 0 in
+    let arc_at_place : slice_get c.args.held.now c.loop-place.place ≡ Some arc_number = slice_get-get_or c.args.held.now c.loop-place.place 0 c.loop-place-test.true in
+    let same_pair = of_pair c.args.from.now.screened.now.boxes c.args.from.now.arcs.now c.args.held.now c.loop-place.place c.args.rows.number c.loop-place.rows.number c.held_entry-entry.result.sv.now
+    c.requires.held c.loop-place-test.true c.held_entry-entry.ensures.entry rows_so_far.0 in
+    let row : IsRow setting c.args.rows.number c.args.rows.group c.in_ok-row.row = subst₂ (λ (n : ℕ) (k : ℤ). IsRow setting n k c.in_ok-row.row) same_pair
+    (read_group c.loop-place.rows.group c.loop-place.rows.group_in ∙ rows_so_far.2) c.in_ok-row.ensures.row in (
+      c.push.ensures.number ∙ rows_so_far.0,
+      c.push.ensures.tag ∙ rows_so_far.1,
+      c.push.ensures.group ∙ rows_so_far.2,
+      subst (λ (rs : List Row). AreFirstRows setting c.args.rows.number c.args.rows.group (take (c.loop-place.place + 1) c.args.held.now) rs) (sym c.in_ok-push.ensures.added)
+          (one_row_more setting c.args.rows.number c.args.rows.group c.args.held.now c.loop-place.rows.rows c.loop-place.place arc_number c.in_ok-row.row rows_so_far.3 arc_at_place c.in_ok-row.ensures.arc row),
     )

@@ -9,15 +9,15 @@ use Rattle.row_build.proofs.rows.row_of.Goals as goal
 use Rattle.obs_rows.specs.declared.units.TheConstants.{SIGNALS}
 
 pub observations_of-requires-clause-amounts : goal.observations_of-requires-clause-amounts
-observations_of-requires-clause-amounts c = let l : length c.args.entry.now.sv.now.observed ≡ SIGNALS = omega arith in amounts_below c.args.entry.now.sv.now.observed l c.args.entry.now.sv.now.observed_in
+observations_of-requires-clause-amounts c = let observed_length : length c.args.entry.now.sv.now.observed ≡ SIGNALS = omega arith in amounts_below c.args.entry.now.sv.now.observed observed_length c.args.entry.now.sv.now.observed_in
 
 pub returns-clause-y : goal.returns-clause-y
 returns-clause-y c = λ base point known.
-    let p : Pairing = seen_by c.args.entry.now.sv.now base point in
-    subst (λ (y : List ℤ). HoldsYs p c.args.ss.now c.args.scale c.args.entry.now.sv.now.observed c.args.group c.args.shift.now y c.row_over.result.ry) (sym c.row_over.ensures.y)
-    (subst (λ (n : ℤ). HoldsYs p c.args.ss.now c.args.scale c.args.entry.now.sv.now.observed c.args.group c.args.shift.now c.in_ok-held.held.y n) (sym c.row_over.ensures.ry)
-    (subst (λ (g : ℤ). HoldsYs p c.args.ss.now c.args.scale c.args.entry.now.sv.now.observed g c.args.shift.now c.in_ok-held.held.y c.in_ok-held.held.ry)
-    (to_z-of_z w64 c.args.group c.ranges.group) (c.in_ok-held.ensures.holds p (held_by_both c.args.entry.now base point known))))
+    let pairing : Pairing = seen_by c.args.entry.now.sv.now base point in
+    subst (λ (y : List ℤ). HoldsYs pairing c.args.ss.now c.args.scale c.args.entry.now.sv.now.observed c.args.group c.args.shift.now y c.row_over.result.ry) (sym c.row_over.ensures.y)
+    (subst (λ (n : ℤ). HoldsYs pairing c.args.ss.now c.args.scale c.args.entry.now.sv.now.observed c.args.group c.args.shift.now c.in_ok-held.held.y n) (sym c.row_over.ensures.ry)
+    (subst (λ (g : ℤ). HoldsYs pairing c.args.ss.now c.args.scale c.args.entry.now.sv.now.observed g c.args.shift.now c.in_ok-held.held.y c.in_ok-held.held.ry)
+    (to_z-of_z w64 c.args.group c.ranges.group) (c.in_ok-held.ensures.holds pairing (held_by_both c.args.entry.now base point known))))
 
 pub returns-clause-u : goal.returns-clause-u
 returns-clause-u c = λ base point known s move direction h d m. c.row_over.ensures.u direction (known.rover.direction s move direction h d m)

@@ -21,16 +21,16 @@ new-session-requires-clause-point c = receiver_is_point c.args.from.now.point.no
 
 pub add_pair-requires-clause-order : goal.add_pair-requires-clause-order
 add_pair-requires-clause-order c =
-    let t = setting_from c.args.from.now c.args.scale in
-    some_weaker c.in_ok-rows.rows (λ (p : PairRows). ArePairRows t c.loop-pair.pair p) (λ (p : PairRows). IsAfter c.loop-pair.session.pairs p.number)
-    (λ p a. is_after t c.loop-pair.pair c.loop-pair.session.pairs p.number c.loop-pair.invariant.6 (sym a.number)) c.in_ok-rows.ensures.rows
+    let setting = setting_from c.args.from.now c.args.scale in
+    some_weaker c.in_ok-rows.rows (λ (p : PairRows). ArePairRows setting c.loop-pair.pair p) (λ (p : PairRows). IsAfter c.loop-pair.session.pairs p.number)
+    (λ p a. is_after setting c.loop-pair.pair c.loop-pair.session.pairs p.number c.loop-pair.invariant.6 (sym a.number)) c.in_ok-rows.ensures.rows
 
 pub add_pair-requires-clause-arcs : goal.add_pair-requires-clause-arcs
 add_pair-requires-clause-arcs c =
-    let t = setting_from c.args.from.now c.args.scale in
-    let e : c.loop-pair.session.arcs ≡ c.args.from.now.arcs.now = c.loop-pair.invariant.5 ∙ c.new-session.ensures.arcs ∙ c.new-held.ensures ∙ c.in_ok-from_slice.ensures.items in
-    some_weaker c.in_ok-rows.rows (λ (p : PairRows). ArePairRows t c.loop-pair.pair p) (λ (p : PairRows). HasItsArcs c.loop-pair.session.arcs p)
-    (λ p a. subst (λ (xs : List Arc). HasItsArcs xs p) (sym e) (has_arcs t c.loop-pair.pair p a)) c.in_ok-rows.ensures.rows
+    let setting = setting_from c.args.from.now c.args.scale in
+    let same_arcs : c.loop-pair.session.arcs ≡ c.args.from.now.arcs.now = c.loop-pair.invariant.5 ∙ c.new-session.ensures.arcs ∙ c.new-held.ensures ∙ c.in_ok-from_slice.ensures.items in
+    some_weaker c.in_ok-rows.rows (λ (p : PairRows). ArePairRows setting c.loop-pair.pair p) (λ (p : PairRows). HasItsArcs c.loop-pair.session.arcs p)
+    (λ p a. subst (λ (xs : List Arc). HasItsArcs xs p) (sym same_arcs) (has_arcs setting c.loop-pair.pair p a)) c.in_ok-rows.ensures.rows
 
 pub new-session-requires-clause-shifts : goal.new-session-requires-clause-shifts
 new-session-requires-clause-shifts c = subst (λ (xs : List Arc). All (HasUsedShifts (fine_signals c.args.from.now.signals)) xs)
@@ -38,29 +38,29 @@ new-session-requires-clause-shifts c = subst (λ (xs : List Arc). All (HasUsedSh
 
 pub add_pair-requires-clause-rows : goal.add_pair-requires-clause-rows
 add_pair-requires-clause-rows c =
-    let t = setting_from c.args.from.now c.args.scale in
-    let e : c.loop-pair.session.signals ≡ c.args.from.now.signals = c.loop-pair.invariant.4 ∙ c.new-session.ensures.signals in
-    some_weaker c.in_ok-rows.rows (λ (p : PairRows). ArePairRows t c.loop-pair.pair p) (λ (p : PairRows). HasUsedRows (fine_signals c.loop-pair.session.signals) p)
-    (λ p a. subst (λ (q : Signals). HasUsedRows (fine_signals q) p) (sym e) (used_rows t c.loop-pair.pair p a)) c.in_ok-rows.ensures.rows
+    let setting = setting_from c.args.from.now c.args.scale in
+    let same_signals : c.loop-pair.session.signals ≡ c.args.from.now.signals = c.loop-pair.invariant.4 ∙ c.new-session.ensures.signals in
+    some_weaker c.in_ok-rows.rows (λ (p : PairRows). ArePairRows setting c.loop-pair.pair p) (λ (p : PairRows). HasUsedRows (fine_signals c.loop-pair.session.signals) p)
+    (λ p a. subst (λ (q : Signals). HasUsedRows (fine_signals q) p) (sym same_signals) (used_rows setting c.loop-pair.pair p a)) c.in_ok-rows.ensures.rows
 
 pub loop-pair-preserved : goal.loop-pair-preserved
 loop-pair-preserved c =
-    let t = setting_from c.args.from.now c.args.scale in
-    let i = c.loop-pair.invariant in
-    let a = c.add_pair.ensures in (
-      a.scale ∙ i.0,
-      a.system ∙ i.1,
-      a.base ∙ i.2,
-      a.point ∙ i.3,
-      a.signals ∙ i.4,
-      a.arcs ∙ i.5,
-      with_listed t c.loop-pair.pair c.loop-pair.session.pairs c.add_pair.new.session.pairs c.in_ok-rows.rows i.6 c.in_ok-rows.ensures.none
-          (some_at c.in_ok-rows.rows (λ (p : PairRows). ArePairRows t c.loop-pair.pair p) c.in_ok-rows.ensures.rows) c.in_ok-add_pair.ensures.added,
+    let setting = setting_from c.args.from.now c.args.scale in
+    let session_so_far = c.loop-pair.invariant in
+    let pair_added = c.add_pair.ensures in (
+      pair_added.scale ∙ session_so_far.0,
+      pair_added.system ∙ session_so_far.1,
+      pair_added.base ∙ session_so_far.2,
+      pair_added.point ∙ session_so_far.3,
+      pair_added.signals ∙ session_so_far.4,
+      pair_added.arcs ∙ session_so_far.5,
+      with_listed setting c.loop-pair.pair c.loop-pair.session.pairs c.add_pair.new.session.pairs c.in_ok-rows.rows session_so_far.6 c.in_ok-rows.ensures.none
+          (some_at c.in_ok-rows.rows (λ (p : PairRows). ArePairRows setting c.loop-pair.pair p) c.in_ok-rows.ensures.rows) c.in_ok-add_pair.ensures.added,
     )
 
 pub finish-requires : goal.finish-requires
 finish-requires c =
-    let t = setting_from c.args.from.now c.args.scale in
-    let e : c.loop-pair.pair ≡ length c.args.from.now.screened.now.used = omega arith in
-    some_pair c.args.from.now.screened.now.used c.args.from.now.arcs.now t c.loop-pair.session.pairs refl c.requires.cut c.requires.arcs.some
-    (subst (λ (n : ℕ). AreSessionRows t n c.loop-pair.session.pairs) e c.loop-pair.invariant.6)
+    let setting = setting_from c.args.from.now c.args.scale in
+    let all_pairs_done : c.loop-pair.pair ≡ length c.args.from.now.screened.now.used = omega arith in
+    some_pair c.args.from.now.screened.now.used c.args.from.now.arcs.now setting c.loop-pair.session.pairs refl c.requires.cut c.requires.arcs.some
+    (subst (λ (n : ℕ). AreSessionRows setting n c.loop-pair.session.pairs) all_pairs_done c.loop-pair.invariant.6)

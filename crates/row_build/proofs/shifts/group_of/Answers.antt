@@ -20,9 +20,9 @@ answer c = to_z-of_z w64 c.first_group.result (record { sfits = c.first_group.ty
 
 pub first_group-requires : goal.first_group-requires
 first_group-requires c =
-    let n : ℤ = number_at c.args.entry.now.sv.now.observed 2 in
-    let below : unsigned_abs n < 2 ^ 37 = c.args.entry.now.sv.now.observed_in 2 (lit< tt) in
-    subst (λ (z : ℤ). unsigned_abs z < 2 ^ 37) (sym (read_small n (wide (unsigned_abs n) below))) below
+    let amount : ℤ = number_at c.args.entry.now.sv.now.observed 2 in
+    let below : unsigned_abs amount < 2 ^ 37 = c.args.entry.now.sv.now.observed_in 2 (lit< tt) in
+    subst (λ (z : ℤ). unsigned_abs z < 2 ^ 37) (sym (read_small amount (wide (unsigned_abs amount) below))) below
 
 pub returns-clause-near : goal.returns-clause-near
 returns-clause-near c = λ base point known b r a.

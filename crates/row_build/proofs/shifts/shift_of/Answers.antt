@@ -13,10 +13,10 @@ use Rattle.row_build.proofs.shifts.shift_of.Goals as goal
 
 pub returns-clause-near : goal.returns-clause-near
 returns-clause-near c = λ _ base point known b r a.
-    let s : ℕ = c.args.signal in
-    let n : ℤ = number_at c.args.entry.now.sv.now.observed s in
-    subst (λ (k : ℤ). IsWithinHalf (wavelength s) (y_of s n c.args.group k b r)) (sym (to_z-of_z w64 c.first_shift.result (record { sfits = c.first_shift.type_inv })))
-    (subst (λ (g : ℤ). IsWithinHalf (wavelength s) (y_of s n g c.first_shift.result b r)) (to_z-of_z w64 c.args.group c.ranges.group)
-    (subst (λ (m : ℤ). IsWithinHalf (wavelength s) (y_of s m (to_z w64 (of_z w64 c.args.group)) c.first_shift.result b r))
-    (read_small n (wide s (unsigned_abs n) (c.args.entry.now.sv.now.observed_in s c.requires.signal)))
+    let signal : ℕ = c.args.signal in
+    let amount : ℤ = number_at c.args.entry.now.sv.now.observed signal in
+    subst (λ (k : ℤ). IsWithinHalf (wavelength signal) (y_of signal amount c.args.group k b r)) (sym (to_z-of_z w64 c.first_shift.result (record { sfits = c.first_shift.type_inv })))
+    (subst (λ (g : ℤ). IsWithinHalf (wavelength signal) (y_of signal amount g c.first_shift.result b r)) (to_z-of_z w64 c.args.group c.ranges.group)
+    (subst (λ (m : ℤ). IsWithinHalf (wavelength signal) (y_of signal m (to_z w64 (of_z w64 c.args.group)) c.first_shift.result b r))
+    (read_small amount (wide signal (unsigned_abs amount) (c.args.entry.now.sv.now.observed_in signal c.requires.signal)))
     (c.first_shift.ensures.near (seen_by c.args.entry.now.sv.now base point) (held_by_both c.args.entry.now base point known) b r a)))

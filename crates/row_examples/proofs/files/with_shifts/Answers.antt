@@ -4,10 +4,10 @@ use Rattle.row_examples.proofs.files.with_shifts.Goals as goal
 
 pub returns : goal.returns
 returns c =
-    let f = c.args.files.now.rounds in
-    IfOk-weaker c.first_shifts.result _ _ (λ arcs same. cut_along f.screened.used f.kept arcs.items same c.requires.cut) c.first_shifts.ensures.arcs
+    let rounds = c.args.files.now.rounds in
+    IfOk-weaker c.first_shifts.result _ _ (λ arcs same. cut_along rounds.screened.used rounds.kept arcs.items same c.requires.cut) c.first_shifts.ensures.arcs
 
 pub first_shifts-requires-clause-ready : goal.first_shifts-requires-clause-ready
 first_shifts-requires-clause-ready c =
-    let f = c.args.files.now in
-    (c.requires.cut, (f.arcs_in, f.base_in), (c.requires.halves, f.system_in), c.none.ensures f.rounds.screened.boxes)
+    let files = c.args.files.now in
+    (c.requires.cut, (files.arcs_in, files.base_in), (c.requires.halves, files.system_in), c.none.ensures files.rounds.screened.boxes)

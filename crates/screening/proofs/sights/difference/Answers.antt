@@ -11,12 +11,12 @@ plain a b h k = omega (arith, ints)
 
 pub returns-clause-value : goal.returns-clause-value
 returns-clause-value c =
-    let s = c.args.signal in
-    plain (number_at c.args.base.now s) (number_at c.args.rover.now s)
-    (amount_small s (number_at c.args.base.now s) (c.requires.base s c.requires.signal)) (amount_small s (number_at c.args.rover.now s) (c.requires.rover s c.requires.signal))
+    let signal = c.args.signal in
+    plain (number_at c.args.base.now signal) (number_at c.args.rover.now signal)
+    (amount_small signal (number_at c.args.base.now signal) (c.requires.base signal c.requires.signal)) (amount_small signal (number_at c.args.rover.now signal) (c.requires.rover signal c.requires.signal))
 
 pub returns-clause-size : goal.returns-clause-size
 returns-clause-size c =
-    let s = c.args.signal in
-    subst (λ (z : ℤ). unsigned_abs z < size_of s) (sym (returns-clause-value c))
-    (difference_small s (number_at c.args.base.now s) (number_at c.args.rover.now s) (c.requires.base s c.requires.signal) (c.requires.rover s c.requires.signal))
+    let signal = c.args.signal in
+    subst (λ (z : ℤ). unsigned_abs z < size_of signal) (sym (returns-clause-value c))
+    (difference_small signal (number_at c.args.base.now signal) (number_at c.args.rover.now signal) (c.requires.base signal c.requires.signal) (c.requires.rover signal c.requires.signal))

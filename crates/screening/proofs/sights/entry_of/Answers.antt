@@ -20,57 +20,57 @@ returns-in_err-record c =
 
 pub returns-then-not-above : goal.returns-then-not-above
 returns-then-not-above c =
-    let l : length c.args.rules.now.point ≡ 3 = omega arith in
-    let s : Setting = setting_with c.args.rules.now c.args.table.now in
-    let g : Sighting = record { base = c.in_ok-at_base.at_base; rover = c.in_ok-at_rover.at_rover; eph = c.in_ok-record.record.now.clock.eph } in
-    let seen : IsSighting s c.args.base.now c.args.rover.now c.args.number g = record {
+    let three_coordinates : length c.args.rules.now.point ≡ 3 = omega arith in
+    let setting : Setting = setting_with c.args.rules.now c.args.table.now in
+    let sighted : Sighting = record { base = c.in_ok-at_base.at_base; rover = c.in_ok-at_rover.at_rover; eph = c.in_ok-record.record.now.clock.eph } in
+    let seen : IsSighting setting c.args.base.now c.args.rover.now c.args.number sighted = record {
       number = c.requires.number;
       at_base = sym c.amounts_at.ensures.value ∙ c.in_ok-at_base.was;
       at_rover = sym c.amounts_at-2.ensures.value ∙ c.in_ok-at_rover.was;
       chosen = match_some c.chosen.result _ _ c.in_ok-record.record c.in_ok-record.was c.chosen.ensures.chosen;
     } in
-    let range = code_range c.amounts_at.result g.base c.in_ok-at_base.was c.amounts_at.ensures.code_from c.amounts_at.ensures.code_to in
+    let range = code_range c.amounts_at.result sighted.base c.in_ok-at_base.was c.amounts_at.ensures.code_from c.amounts_at.ensures.code_to in
     let clock = c.in_ok-record.record.now.clock in
     let same : clock.world ≡ c.args.table.now.world = if_some c.chosen.result _ c.in_ok-record.record c.in_ok-record.was c.chosen.ensures.world in
-    let holds = from_record _ clock.world g.eph clock.eph _ (code_of g.base) _ range same refl c.sv_from-from_base.ensures in
-    left_out_as s c.args.base.now c.args.rover.now c.args.number g seen
-    (sees_sent s g.eph c.args.base.now.tag.0 (code_of g.base) c.sv_from-from_base.result _ (was_sent s c.args.table.now.world g.eph c.args.base.now.tag.0 (code_of g.base) refl (base_near c.args.base.now.tag.0 g.eph.toe.0 seen.chosen.candidate.near) range)
-    holds (seen_there c.sv_from-from_base.result.place c.args.rules.now.point l c.seen_from-seen.ensures.exists) (sees_near c.sv_from-from_base.result c.seen_from-seen.result.place c.args.rules.now.point (λ h p. IsBelowMask c.args.rules.now.mask h p) l
+    let holds = from_record _ clock.world sighted.eph clock.eph _ (code_of sighted.base) _ range same refl c.sv_from-from_base.ensures in
+    left_out_as setting c.args.base.now c.args.rover.now c.args.number sighted seen
+    (sees_sent setting sighted.eph c.args.base.now.tag.0 (code_of sighted.base) c.sv_from-from_base.result _ (was_sent setting c.args.table.now.world sighted.eph c.args.base.now.tag.0 (code_of sighted.base) refl (base_near c.args.base.now.tag.0 sighted.eph.toe.0 seen.chosen.candidate.near) range)
+    holds (seen_there c.sv_from-from_base.result.place c.args.rules.now.point three_coordinates c.seen_from-seen.ensures.exists) (sees_near c.sv_from-from_base.result c.seen_from-seen.result.place c.args.rules.now.point (λ h p. IsBelowMask c.args.rules.now.mask h p) three_coordinates
     c.seen_from-seen.ensures.place (c.above.ensures.left_out c.if-not-above.true)))
 
 pub returns : goal.returns
 returns c =
-    let l : length c.args.rules.now.point ≡ 3 = omega arith in
-    let s : Setting = setting_with c.args.rules.now c.args.table.now in
-    let g : Sighting = record { base = c.in_ok-at_base.at_base; rover = c.in_ok-at_rover.at_rover; eph = c.in_ok-record.record.now.clock.eph } in
-    let seen : IsSighting s c.args.base.now c.args.rover.now c.args.number g = record {
+    let three_coordinates : length c.args.rules.now.point ≡ 3 = omega arith in
+    let setting : Setting = setting_with c.args.rules.now c.args.table.now in
+    let sighted : Sighting = record { base = c.in_ok-at_base.at_base; rover = c.in_ok-at_rover.at_rover; eph = c.in_ok-record.record.now.clock.eph } in
+    let seen : IsSighting setting c.args.base.now c.args.rover.now c.args.number sighted = record {
       number = c.requires.number;
       at_base = sym c.amounts_at.ensures.value ∙ c.in_ok-at_base.was;
       at_rover = sym c.amounts_at-2.ensures.value ∙ c.in_ok-at_rover.was;
       chosen = match_some c.chosen.result _ _ c.in_ok-record.record c.in_ok-record.was c.chosen.ensures.chosen;
     } in
-    let range = code_range c.amounts_at.result g.base c.in_ok-at_base.was c.amounts_at.ensures.code_from c.amounts_at.ensures.code_to in
-    let range_too = code_range c.amounts_at-2.result g.rover c.in_ok-at_rover.was c.amounts_at-2.ensures.code_from c.amounts_at-2.ensures.code_to in
+    let range = code_range c.amounts_at.result sighted.base c.in_ok-at_base.was c.amounts_at.ensures.code_from c.amounts_at.ensures.code_to in
+    let range_too = code_range c.amounts_at-2.result sighted.rover c.in_ok-at_rover.was c.amounts_at-2.ensures.code_from c.amounts_at-2.ensures.code_to in
     let clock = c.in_ok-record.record.now.clock in
     let same : clock.world ≡ c.args.table.now.world = if_some c.chosen.result _ c.in_ok-record.record c.in_ok-record.was c.chosen.ensures.world in
-    let holds = from_record _ clock.world g.eph clock.eph _ (code_of g.base) _ range same refl c.sv_from-from_base.ensures in
-    let sent : WasSent s g.eph c.args.base.now.tag.0 (code_of g.base) =
-    was_sent s c.args.table.now.world g.eph c.args.base.now.tag.0 (code_of g.base) refl (base_near c.args.base.now.tag.0 g.eph.toe.0 seen.chosen.candidate.near) range in
+    let holds = from_record _ clock.world sighted.eph clock.eph _ (code_of sighted.base) _ range same refl c.sv_from-from_base.ensures in
+    let sent : WasSent setting sighted.eph c.args.base.now.tag.0 (code_of sighted.base) =
+    was_sent setting c.args.table.now.world sighted.eph c.args.base.now.tag.0 (code_of sighted.base) refl (base_near c.args.base.now.tag.0 sighted.eph.toe.0 seen.chosen.candidate.near) range in
     record {
       pair_is = refl;
       sat_is = refl;
       entry = record {
-        sighting = g;
+        sighting = sighted;
         seen = seen;
-        kept = sees_sent s g.eph c.args.base.now.tag.0 (code_of g.base) c.sv_from-from_base.result _ sent holds (seen_there c.sv_from-from_base.result.place c.args.rules.now.point l c.seen_from-seen.ensures.exists) (sees_near c.sv_from-from_base.result c.seen_from-seen.result.place c.args.rules.now.point
-            (λ h p. IsAboveMask c.args.rules.now.mask h p) l c.seen_from-seen.ensures.place (c.above.ensures.kept c.if-not-above.false));
+        kept = sees_sent setting sighted.eph c.args.base.now.tag.0 (code_of sighted.base) c.sv_from-from_base.result _ sent holds (seen_there c.sv_from-from_base.result.place c.args.rules.now.point three_coordinates c.seen_from-seen.ensures.exists) (sees_near c.sv_from-from_base.result c.seen_from-seen.result.place c.args.rules.now.point
+            (λ h p. IsAboveMask c.args.rules.now.mask h p) three_coordinates c.seen_from-seen.ensures.place (c.above.ensures.kept c.if-not-above.false));
         tag = refl;
         observed = c.differences.ensures.value;
         base_holds = holds;
-        rover_holds = from_record _ clock.world g.eph clock.eph _ (code_of g.rover) _ range_too same refl c.sv_from.ensures;
+        rover_holds = from_record _ clock.world sighted.eph clock.eph _ (code_of sighted.rover) _ range_too same refl c.sv_from.ensures;
         base_sent = sent;
-        rover_sent = was_sent s c.args.table.now.world g.eph c.args.rover.now.tag.0 (code_of g.rover) refl
-            (rover_near c.args.base.now.tag.0 c.args.rover.now.tag.0 g.eph.toe.0 seen.chosen.candidate.near c.requires.near) range_too;
-        range = λ place at travel h is. c.seen_from-seen.ensures.range _ _ _ place at travel (three_items c.args.rules.now.point (pos 0) (pos 0) (pos 0) l) h is;
+        rover_sent = was_sent setting c.args.table.now.world sighted.eph c.args.rover.now.tag.0 (code_of sighted.rover) refl
+            (rover_near c.args.base.now.tag.0 c.args.rover.now.tag.0 sighted.eph.toe.0 seen.chosen.candidate.near c.requires.near) range_too;
+        range = λ place at travel h is. c.seen_from-seen.ensures.range _ _ _ place at travel (three_items c.args.rules.now.point (pos 0) (pos 0) (pos 0) three_coordinates) h is;
       };
     }

@@ -22,24 +22,24 @@ returns-then-are_many-clause-answer g c = (
 pub returns-in-Early-clause-answer : goal.returns-in-Early-clause-answer
 returns-in-Early-clause-answer g c =
     let rules : Rules = g.R.Rounds.rules c.args.rounds.now in
-    let on : GoesOn rules c.args.taken = record {
+    let goes_on : GoesOn rules c.args.taken = record {
       not_few = λ few. false≢true (c.if-are_few.ensures.1 (subst (AreFew c.args.taken) (sym c.requires.arcs) few));
       not_many = λ many. false≢true (c.if-are_many.ensures.1 (subst AreMany (sym c.requires.arcs) many));
     } in
     let ends : EndsEarly rules c.in-Early.made c.in-Early.stage c.in-Early.tail =
     subst (IsEnd rules c.args.options.now.ratio c.args.options.now.budget) c.in-Early.is c.in_ok-made.ensures.end in
-    (on, ends)
+    (goes_on, ends)
 
 pub returns-in-Full-clause-answer : goal.returns-in-Full-clause-answer
 returns-in-Full-clause-answer g c =
     let rules : Rules = g.R.Rounds.rules c.args.rounds.now in
-    let on : GoesOn rules c.args.taken = record {
+    let goes_on : GoesOn rules c.args.taken = record {
       not_few = λ few. false≢true (c.if-are_few.ensures.1 (subst (AreFew c.args.taken) (sym c.requires.arcs) few));
       not_many = λ many. false≢true (c.if-are_many.ensures.1 (subst AreMany (sym c.requires.arcs) many));
     } in
     let ends : EndsFull rules c.args.options.now.ratio c.args.options.now.budget c.in-Full.made c.in-Full.session c.in-Full.tail =
     subst (IsEnd rules c.args.options.now.ratio c.args.options.now.budget) c.in-Full.is c.in_ok-made.ensures.end in
-    (on, record { ratio = refl; budget = refl; ends = ends })
+    (goes_on, record { ratio = refl; budget = refl; ends = ends })
 
 pub run-requires-clause-ready : goal.run-requires-clause-ready
 run-requires-clause-ready g c = c.requires.ready (record {

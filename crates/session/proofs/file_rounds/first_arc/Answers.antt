@@ -24,8 +24,8 @@ shift_with-requires-clause-pair c =
 
 pub shift_with-requires-clause-halves : goal.shift_with-requires-clause-halves
 shift_with-requires-clause-halves c =
-    let f = c.args.files.now in
-    subst (λ (halves : List Pseudorange). AreBaseHalves f.screened.boxes f.position halves) (sym c.as_slice.ensures.value) c.requires.halves
+    let files = c.args.files.now in
+    subst (λ (halves : List Pseudorange). AreBaseHalves files.screened.boxes files.position halves) (sym c.as_slice.ensures.value) c.requires.halves
 
 pub returns-in-Some-clause-same : goal.returns-in-Some-clause-same
 returns-in-Some-clause-same c = λ a at.
@@ -42,30 +42,30 @@ returns-in-None-clause-same c = λ a at.
 pub returns-in-Some-clause-near : goal.returns-in-Some-clause-near
 returns-in-Some-clause-near c = λ a at.
     let kept : List Arc = c.args.files.now.kept in
-    let f = c.args.files.now in
-    let s : List Arc = c.as_slice-kept.result.now in
+    let files = c.args.files.now in
+    let arcs : List Arc = c.as_slice-kept.result.now in
     let unread : Arc = record { sat = 0; first = 0; last = 0; datum = false; shift = [] } in
-    let same : get_or s c.args.k unread ≡ a = ap (λ (l : List Arc). get_or l c.args.k unread) c.as_slice-kept.ensures ∙ get_or_from_slice_get kept c.args.k a unread at in
-    let near : AreFirstShifts (setting f.screened.boxes s f.position c.args.point.now f.signals 0) (get_or s c.args.k unread).first a.sat c.in-Some.shift =
+    let same : get_or arcs c.args.k unread ≡ a = ap (λ (l : List Arc). get_or l c.args.k unread) c.as_slice-kept.ensures ∙ get_or_from_slice_get kept c.args.k a unread at in
+    let near : AreFirstShifts (setting files.screened.boxes arcs files.position c.args.point.now files.signals 0) (get_or arcs c.args.k unread).first a.sat c.in-Some.shift =
     c.in-Some.ensures.near a (subst (λ (l : List Arc). slice_get l c.args.k ≡ Some a) (sym c.as_slice-kept.ensures) at) in
-    subst (λ (n : ℕ). AreFirstShifts (setting f.screened.boxes kept f.position c.args.point.now f.signals 0) n a.sat c.in-Some.shift) (ap (λ (x : Arc). x.first) same)
-    (subst (λ (l : List Arc). AreFirstShifts (setting f.screened.boxes l f.position c.args.point.now f.signals 0) (get_or s c.args.k unread).first a.sat c.in-Some.shift) c.as_slice-kept.ensures near)
+    subst (λ (n : ℕ). AreFirstShifts (setting files.screened.boxes kept files.position c.args.point.now files.signals 0) n a.sat c.in-Some.shift) (ap (λ (x : Arc). x.first) same)
+    (subst (λ (l : List Arc). AreFirstShifts (setting files.screened.boxes l files.position c.args.point.now files.signals 0) (get_or arcs c.args.k unread).first a.sat c.in-Some.shift) c.as_slice-kept.ensures near)
 
 pub returns-in-None-clause-near : goal.returns-in-None-clause-near
 returns-in-None-clause-near c = λ a at.
     let kept : List Arc = c.args.files.now.kept in
-    let s : List Arc = c.as_slice-kept.result.now in
+    let arcs : List Arc = c.as_slice-kept.result.now in
     let unread : Arc = record { sat = 0; first = 0; last = 0; datum = false; shift = [] } in
-    let same : get_or s c.args.k unread ≡ a = ap (λ (l : List Arc). get_or l c.args.k unread) c.as_slice-kept.ensures ∙ get_or_from_slice_get kept c.args.k a unread at in
-    let none : holds_pair a (get_or s c.args.k unread).first ≡ false = (c.in-None.ensures.none a (subst (λ (l : List Arc). slice_get l c.args.k ≡ Some a) (sym c.as_slice-kept.ensures) at)).0 refl in
+    let same : get_or arcs c.args.k unread ≡ a = ap (λ (l : List Arc). get_or l c.args.k unread) c.as_slice-kept.ensures ∙ get_or_from_slice_get kept c.args.k a unread at in
+    let none : holds_pair a (get_or arcs c.args.k unread).first ≡ false = (c.in-None.ensures.none a (subst (λ (l : List Arc). slice_get l c.args.k ≡ Some a) (sym c.as_slice-kept.ensures) at)).0 refl in
     absurd (false≢true (sym (subst (λ (n : ℕ). holds_pair a n ≡ false) (ap (λ (x : Arc). x.first) same) none) ∙ holds_first kept c.args.k a c.requires.arcs at))
 
 pub returns-in-Some-clause-used : goal.returns-in-Some-clause-used
 returns-in-Some-clause-used c =
     let kept : List Arc = c.args.files.now.kept in
     let unread : Arc = record { sat = 0; first = 0; last = 0; datum = false; shift = [] } in
-    let a : Arc = get_or kept c.args.k unread in
-    (c.in-Some.ensures.near a (subst (λ (l : List Arc). slice_get l c.args.k ≡ Some a) (sym c.as_slice-kept.ensures) (slice_get-get_or kept c.args.k unread c.requires.inside))).unused
+    let arc : Arc = get_or kept c.args.k unread in
+    (c.in-Some.ensures.near arc (subst (λ (l : List Arc). slice_get l c.args.k ≡ Some arc) (sym c.as_slice-kept.ensures) (slice_get-get_or kept c.args.k unread c.requires.inside))).unused
 
 pub returns-in-None-clause-used : goal.returns-in-None-clause-used
 returns-in-None-clause-used c = zeros_off _

@@ -18,15 +18,15 @@ use Rattle.session.proofs.runs.finish_run.Goals as goal
 
 pub outcome-requires-clause-ready : goal.outcome-requires-clause-ready
 outcome-requires-clause-ready c = λ on.
-    let f = c.args.run.now.rounds in
-    let s = c.requires.is in (
-      s.cut,
+    let rounds = c.args.run.now.rounds in
+    let is_screened = c.requires.is in (
+      is_screened.cut,
       (
-        able f.screened.used f.kept (length c.args.run.now.begun.taken.items) s.cut f.screened.few f.screened.numbered (no_shifts f.kept s.screened.arcs_are.shifts) on.not_few on.not_many,
-        subst IsReceiverPoint (sym s.screened.position_is) s.position_is.in_reach,
+        able rounds.screened.used rounds.kept (length c.args.run.now.begun.taken.items) is_screened.cut rounds.screened.few rounds.screened.numbered (no_shifts rounds.kept is_screened.screened.arcs_are.shifts) on.not_few on.not_many,
+        subst IsReceiverPoint (sym is_screened.screened.position_is) is_screened.position_is.in_reach,
       ),
-      (s.halves, subst IsSystem (sym s.screened.system_is) c.args.options.now.of_system),
-      c.none.ensures f.screened.boxes,
+      (is_screened.halves, subst IsSystem (sym is_screened.screened.system_is) c.args.options.now.of_system),
+      c.none.ensures rounds.screened.boxes,
     )
 
 few_kept : (f : FileRounds) → IsCutOf f.screened.used f.kept → length f.kept ≤ MOST_KEPT_ARCS
@@ -49,8 +49,8 @@ outcome-requires-clause-shifts c = subst (AreShiftsBelow (2 ^ 40)) (sym c.as_sli
 
 pub outcome-requires-clause-used : goal.outcome-requires-clause-used
 outcome-requires-clause-used c =
-    let f = c.args.run.now.rounds in
-    subst (All (HasUsedShifts (fine_signals f.signals))) (sym c.as_slice-kept.ensures) (none_unused (fine_signals f.signals) f.kept c.requires.is.screened.arcs_are.shifts)
+    let rounds = c.args.run.now.rounds in
+    subst (All (HasUsedShifts (fine_signals rounds.signals))) (sym c.as_slice-kept.ensures) (none_unused (fine_signals rounds.signals) rounds.kept c.requires.is.screened.arcs_are.shifts)
 
 pub returns-clause-outcome : goal.returns-clause-outcome
 returns-clause-outcome c = λ base rover nav is.
@@ -76,6 +76,6 @@ returns-clause-outcome c = λ base rover nav is.
 
 pub returns-clause-rounds : goal.returns-clause-rounds
 returns-clause-rounds c =
-    let f = c.args.run.now.rounds in
+    let rounds = c.args.run.now.rounds in
     let found = c.in_ok-out.out in
-    answer_allowed (rules_of f.screened.boxes (length f.screened.used) f.kept f.position f.signals f.system) found.taken c.args.options.now found.rounds found.answer c.in_ok-out.ensures.answer
+    answer_allowed (rules_of rounds.screened.boxes (length rounds.screened.used) rounds.kept rounds.position rounds.signals rounds.system) found.taken c.args.options.now found.rounds found.answer c.in_ok-out.ensures.answer

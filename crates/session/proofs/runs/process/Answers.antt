@@ -9,6 +9,6 @@ returns-clause-outcome c = c.in_ok-out.ensures.outcome c.args.base.now c.args.ro
 
 pub returns-in_err-out-clause-refused : goal.returns-in_err-out-clause-refused
 returns-in_err-out-clause-refused c =
-    let p = err_from_is_err_and c.from_residual-in_err-out.result c.from_residual-in_err-out.ensures.1 in
-    rw (p.1, p.2)
+    let err_parts = err_from_is_err_and c.from_residual-in_err-out.result c.from_residual-in_err-out.ensures.1 in
+    rw (err_parts.1, err_parts.2)
     ((c.in_ok-started.started.begun.position, c.in_ok-started.ensures.start.position_is), ((c.in_ok-started.started.begun.signals, c.in_ok-started.ensures.start.signals_are), c.in_ok-started.ensures.start.sparse))

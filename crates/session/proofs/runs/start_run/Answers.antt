@@ -17,6 +17,6 @@ returns-clause-start c = record {
 
 pub returns-in_err-rounds-clause-refused : goal.returns-in_err-rounds-clause-refused
 returns-in_err-rounds-clause-refused c =
-    let p = err_from_is_err_and c.from_residual-in_err-rounds.result c.from_residual-in_err-rounds.ensures.1 in
-    rw (p.1, p.2)
+    let err_parts = err_from_is_err_and c.from_residual-in_err-rounds.result c.from_residual-in_err-rounds.ensures.1 in
+    rw (err_parts.1, err_parts.2)
     ((c.in_ok-begun.begun.position, c.in_ok-begun.ensures.position), ((c.in_ok-begun.begun.signals, c.in_ok-begun.ensures.signals), c.in_ok-begun.ensures.sparse))

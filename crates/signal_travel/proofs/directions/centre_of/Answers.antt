@@ -14,10 +14,10 @@ high l h m a r least most from to near raised lowered = omega (arith, ints, clam
 
 pub returns-clause-low : goal.returns-clause-low
 returns-clause-low c =
-    let m = c.middle_of.ensures in
-    low c.args.x.now.lo c.args.x.now.hi c.middle_of.result c.max.result c.min.result c.requires.size.0 c.requires.size.1 m.low m.high m.below c.max.ensures.value c.min.ensures.value
+    let middle_stands = c.middle_of.ensures in
+    low c.args.x.now.lo c.args.x.now.hi c.middle_of.result c.max.result c.min.result c.requires.size.0 c.requires.size.1 middle_stands.low middle_stands.high middle_stands.below c.max.ensures.value c.min.ensures.value
 
 pub returns-clause-high : goal.returns-clause-high
 returns-clause-high c =
-    let m = c.middle_of.ensures in
-    high c.args.x.now.lo c.args.x.now.hi c.middle_of.result c.max.result c.min.result c.requires.size.0 c.requires.size.1 m.low m.high m.above c.max.ensures.value c.min.ensures.value
+    let middle_stands = c.middle_of.ensures in
+    high c.args.x.now.lo c.args.x.now.hi c.middle_of.result c.max.result c.min.result c.requires.size.0 c.requires.size.1 middle_stands.low middle_stands.high middle_stands.above c.max.ensures.value c.min.ensures.value

@@ -21,13 +21,13 @@ coordinate_spread-requires-3-clause-low c = wider c.length_by-range.result.lo c.
 
 pub returns : goal.returns
 returns c = λ place move direction h m d.
-    let p : Place = point_of c.args.point.now.x c.args.point.now.y c.args.point.now.z in
-    let x : Place = difference place p in
-    let v = c.vector_from-vector.ensures.holds place h in
-    let r = c.length_by-range.ensures.holds x d.before v d.before_is in
-    let s = seen_square c.args.seen.now.place c.args.point.now place c.args.seen.now.away h in
-    let k = range_change x move d.before d.after (far_enough (square x) s) (near_enough (square x) s) m d.before_is d.after_is in (
-      c.coordinate_spread.ensures x.x move.x d.before d.after direction.x v.0 r (move_x move m) k.0 k.1 d.x_is,
-      c.coordinate_spread-2.ensures x.y move.y d.before d.after direction.y v.1 r (move_y move m) k.0 k.1 d.y_is,
-      c.coordinate_spread-3.ensures x.z move.z d.before d.after direction.z v.2 r (move_z move m) k.0 k.1 d.z_is,
+    let receiver : Place = point_of c.args.point.now.x c.args.point.now.y c.args.point.now.z in
+    let offset : Place = difference place receiver in
+    let holds_vector = c.vector_from-vector.ensures.holds place h in
+    let range_in_box = c.length_by-range.ensures.holds offset d.before holds_vector d.before_is in
+    let square_between = seen_square c.args.seen.now.place c.args.point.now place c.args.seen.now.away h in
+    let range_changes = range_change offset move d.before d.after (far_enough (square offset) square_between) (near_enough (square offset) square_between) m d.before_is d.after_is in (
+      c.coordinate_spread.ensures offset.x move.x d.before d.after direction.x holds_vector.0 range_in_box (move_x move m) range_changes.0 range_changes.1 d.x_is,
+      c.coordinate_spread-2.ensures offset.y move.y d.before d.after direction.y holds_vector.1 range_in_box (move_y move m) range_changes.0 range_changes.1 d.y_is,
+      c.coordinate_spread-3.ensures offset.z move.z d.before d.after direction.z holds_vector.2 range_in_box (move_z move m) range_changes.0 range_changes.1 d.z_is,
     )

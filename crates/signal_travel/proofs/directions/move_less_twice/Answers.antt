@@ -14,12 +14,12 @@ high l h z a b c e = omega (arith, ints)
 
 pub returns-clause-holds : goal.returns-clause-holds
 returns-clause-holds c = λ q m h s.
-    let x = c.args.x.now in
-    let e = c.from_ends.ensures in
-    let el = low x.lo x.hi c.from_ends.result.lo c.requires.0 x.ordered c.requires.1 e.lo in
-    let eh = high x.lo x.hi c.from_ends.result.hi c.requires.0 x.ordered c.requires.1 e.hi in (
+    let range = c.args.x.now in
+    let ends_stand = c.from_ends.ensures in
+    let low_end_is = low range.lo range.hi c.from_ends.result.lo c.requires.0 range.ordered c.requires.1 ends_stand.lo in
+    let high_end_is = high range.lo range.hi c.from_ends.result.hi c.requires.0 range.ordered c.requires.1 ends_stand.hi in (
       subst (λ (z : ℤ). (z *ℤ (pos m.den *ℤ (pos 1 *ℤ pos q.den))) ≤ℤ (((m.num *ℤ (pos 1 *ℤ pos q.den)) -ℤ ((pos 2 *ℤ q.num) *ℤ pos m.den)) *ℤ pos 34359738368))
-          (sym el) (move_low x.hi q.num (pos q.den) m.num (pos m.den) (pos_nn q.den) (pos_nn m.den) h.1 s.1),
+          (sym low_end_is) (move_low range.hi q.num (pos q.den) m.num (pos m.den) (pos_nn q.den) (pos_nn m.den) h.1 s.1),
       subst (λ (z : ℤ). (((m.num *ℤ (pos 1 *ℤ pos q.den)) -ℤ ((pos 2 *ℤ q.num) *ℤ pos m.den)) *ℤ pos 34359738368) ≤ℤ (z *ℤ (pos m.den *ℤ (pos 1 *ℤ pos q.den))))
-          (sym eh) (move_high x.lo q.num (pos q.den) m.num (pos m.den) (pos_nn q.den) (pos_nn m.den) h.0 s.0),
+          (sym high_end_is) (move_high range.lo q.num (pos q.den) m.num (pos m.den) (pos_nn q.den) (pos_nn m.den) h.0 s.0),
     )

@@ -33,18 +33,18 @@ bounds l h k r s = go s.low s.high s.ordered s.size s.below s.above (plain l h k
 
 spread : (c : goal.After-max) → IsSpread c.args.x.now.lo c.args.x.now.hi c.centre_of-centre.result c.max.result
 spread c =
-    let k = c.centre_of-centre.ensures in
-    record { low = c.requires.size.0; high = c.requires.size.1; ordered = c.args.x.now.ordered; size = k.size; below = k.low; above = k.high; radius = c.max.ensures.value }
+    let centre_stands = c.centre_of-centre.ensures in
+    record { low = c.requires.size.0; high = c.requires.size.1; ordered = c.args.x.now.ordered; size = centre_stands.size; below = centre_stands.low; above = centre_stands.high; radius = c.max.ensures.value }
 
 pub invariant_of-result : goal.invariant_of-result
 invariant_of-result c =
-    let b = bounds c.args.x.now.lo c.args.x.now.hi c.centre_of-centre.result c.max.result (spread c) in
-    record { centre_in = b.2; radius_least = b.3; radius_most = b.4 }
+    let spread_bounds = bounds c.args.x.now.lo c.args.x.now.hi c.centre_of-centre.result c.max.result (spread c) in
+    record { centre_in = spread_bounds.2; radius_least = spread_bounds.3; radius_most = spread_bounds.4 }
 
 pub returns : goal.returns
 returns c = λ q h.
-    let x = c.args.x.now in
-    let b = bounds x.lo x.hi c.centre_of-centre.result c.max.result (spread c.before) in (
-      in_spread_low x.lo (to_z w64 (of_z w64 c.centre_of-centre.result) -ℤ to_z w64 (of_z w64 c.max.result)) q.num (pos q.den) b.0 (pos_nn q.den) h.0,
-      in_spread_high x.hi (to_z w64 (of_z w64 c.centre_of-centre.result) +ℤ to_z w64 (of_z w64 c.max.result)) q.num (pos q.den) b.1 (pos_nn q.den) h.1,
+    let box = c.args.x.now in
+    let spread_bounds = bounds box.lo box.hi c.centre_of-centre.result c.max.result (spread c.before) in (
+      in_spread_low box.lo (to_z w64 (of_z w64 c.centre_of-centre.result) -ℤ to_z w64 (of_z w64 c.max.result)) q.num (pos q.den) spread_bounds.0 (pos_nn q.den) h.0,
+      in_spread_high box.hi (to_z w64 (of_z w64 c.centre_of-centre.result) +ℤ to_z w64 (of_z w64 c.max.result)) q.num (pos q.den) spread_bounds.1 (pos_nn q.den) h.1,
     )

@@ -13,12 +13,12 @@ high l h z a b c e = omega (arith, ints)
 
 pub returns-clause-holds : goal.returns-clause-holds
 returns-clause-holds c = λ r s h up down.
-    let x = c.args.before.now in
-    let e = c.from_ends.ensures in
-    let el = low x.lo x.hi c.from_ends.result.lo c.requires.far x.ordered c.requires.near e.lo in
-    let eh = high x.lo x.hi c.from_ends.result.hi c.requires.far x.ordered c.requires.near e.hi in (
-      subst (λ (z : ℤ). (z *ℤ (pos r.den *ℤ pos s.den)) ≤ℤ (((r.num *ℤ pos s.den) +ℤ (s.num *ℤ pos r.den)) *ℤ pos 34359738368)) (sym el)
-          (sum_low x.lo r.num (pos r.den) s.num (pos s.den) (pos_nn s.den) h.0 down),
-      subst (λ (z : ℤ). (((r.num *ℤ pos s.den) +ℤ (s.num *ℤ pos r.den)) *ℤ pos 34359738368) ≤ℤ (z *ℤ (pos r.den *ℤ pos s.den))) (sym eh)
-          (sum_high x.hi r.num (pos r.den) s.num (pos s.den) (pos_nn s.den) h.1 up),
+    let range = c.args.before.now in
+    let ends_stand = c.from_ends.ensures in
+    let low_end_is = low range.lo range.hi c.from_ends.result.lo c.requires.far range.ordered c.requires.near ends_stand.lo in
+    let high_end_is = high range.lo range.hi c.from_ends.result.hi c.requires.far range.ordered c.requires.near ends_stand.hi in (
+      subst (λ (z : ℤ). (z *ℤ (pos r.den *ℤ pos s.den)) ≤ℤ (((r.num *ℤ pos s.den) +ℤ (s.num *ℤ pos r.den)) *ℤ pos 34359738368)) (sym low_end_is)
+          (sum_low range.lo r.num (pos r.den) s.num (pos s.den) (pos_nn s.den) h.0 down),
+      subst (λ (z : ℤ). (((r.num *ℤ pos s.den) +ℤ (s.num *ℤ pos r.den)) *ℤ pos 34359738368) ≤ℤ (z *ℤ (pos r.den *ℤ pos s.den))) (sym high_end_is)
+          (sum_high range.hi r.num (pos r.den) s.num (pos s.den) (pos_nn s.den) h.1 up),
     )

@@ -26,24 +26,24 @@ ended g x e h = omega (arith, ints)
 
 pub is_settled-requires-clause-high : goal.is_settled-requires-clause-high
 is_settled-requires-clause-high c =
-    let g = c.time_near-time in
-    ended g.result (to_z w64 (of_z w64 g.result)) (to_z-of_z w64 g.result (record { sfits = g.type_inv })) g.ensures.high
+    let guess = c.time_near-time in
+    ended guess.result (to_z w64 (of_z w64 guess.result)) (to_z-of_z w64 guess.result (record { sfits = guess.type_inv })) guess.ensures.high
 
 pub is_settled-requires-clause-low : goal.is_settled-requires-clause-low
 is_settled-requires-clause-low c =
-    let g = c.time_near-time in
-    started g.result (to_z w64 (of_z w64 g.result)) (to_z-of_z w64 g.result (record { sfits = g.type_inv })) g.ensures.low
+    let guess = c.time_near-time in
+    started guess.result (to_z w64 (of_z w64 guess.result)) (to_z-of_z w64 guess.result (record { sfits = guess.type_inv })) guess.ensures.low
 
 -- where the pass led near the time, the times around it are all
 all_near : (c : goal.Then-is_settled) (p seen : Place) (t : Rational) → HoldsVector c.args.sent.now.place p
     → IsSeenPlace p (point_of c.args.point.now.x c.args.point.now.y c.args.point.now.z) t seen → Holds c.times_around.result t
 all_near c =
-    let g = c.time_near-time in
-    let e = to_z-of_z w64 g.result (record { sfits = g.type_inv }) in
-    let x : ℤ = to_z w64 (of_z w64 g.result) in
-    let b = c.times_around in
-    all_around c.args.sent.now c.args.point.now b.result c.sight_after-sight.result.travel x (least g.result x e g.ensures.low) (most g.result x e g.ensures.high)
-    b.ensures.lo b.ensures.hi c.sight_after-sight.ensures.light (c.is_settled.ensures.above c.if-is_settled.true) (c.is_settled.ensures.below c.if-is_settled.true)
+    let guess = c.time_near-time in
+    let same_guess = to_z-of_z w64 guess.result (record { sfits = guess.type_inv }) in
+    let guessed_time : ℤ = to_z w64 (of_z w64 guess.result) in
+    let around = c.times_around in
+    all_around c.args.sent.now c.args.point.now around.result c.sight_after-sight.result.travel guessed_time (least guess.result guessed_time same_guess guess.ensures.low) (most guess.result guessed_time same_guess guess.ensures.high)
+    around.ensures.lo around.ensures.hi c.sight_after-sight.ensures.light (c.is_settled.ensures.above c.if-is_settled.true) (c.is_settled.ensures.below c.if-is_settled.true)
 
 pub returns-then-is_settled-clause-place : goal.returns-then-is_settled-clause-place
 returns-then-is_settled-clause-place c = λ p seen t h s. c.sight_after-sight.ensures.place p seen t h (all_near c p seen t h s) s
@@ -56,17 +56,17 @@ returns-then-is_settled-clause-time c = λ p seen t h s. c.sight_after-sight.ens
 
 pub returns-then-is_settled-clause-narrow : goal.returns-then-is_settled-clause-narrow
 returns-then-is_settled-clause-narrow c =
-    let b = c.times_around in
-    let t = around_width b.result.lo b.result.hi (to_z w64 (of_z w64 c.time_near-time.result)) b.ensures.lo b.ensures.hi in
-    let w = c.sight_after-sight.ensures.width (pos 265393) (last_place (b.result.hi -ℤ b.result.lo) t) in
-    (under _ w.0, under _ w.1, under _ w.2)
+    let around = c.times_around in
+    let time_narrow = around_width around.result.lo around.result.hi (to_z w64 (of_z w64 c.time_near-time.result)) around.ensures.lo around.ensures.hi in
+    let place_narrow = c.sight_after-sight.ensures.width (pos 265393) (last_place (around.result.hi -ℤ around.result.lo) time_narrow) in
+    (under _ place_narrow.0, under _ place_narrow.1, under _ place_narrow.2)
 
 pub returns-then-is_settled-clause-range_narrow : goal.returns-then-is_settled-clause-range_narrow
 returns-then-is_settled-clause-range_narrow c =
-    let b = c.times_around in
-    let t = around_width b.result.lo b.result.hi (to_z w64 (of_z w64 c.time_near-time.result)) b.ensures.lo b.ensures.hi in
-    let r = c.sight_after-sight.result.range in
-    last_range (r.hi -ℤ r.lo) (c.sight_after-sight.ensures.range_width (pos 265393) (last_place (b.result.hi -ℤ b.result.lo) t))
+    let around = c.times_around in
+    let time_narrow = around_width around.result.lo around.result.hi (to_z w64 (of_z w64 c.time_near-time.result)) around.ensures.lo around.ensures.hi in
+    let range = c.sight_after-sight.result.range in
+    last_range (range.hi -ℤ range.lo) (c.sight_after-sight.ensures.range_width (pos 265393) (last_place (around.result.hi -ℤ around.result.lo) time_narrow))
 
 pub returns-then-is_settled-clause-time_narrow : goal.returns-then-is_settled-clause-time_narrow
 returns-then-is_settled-clause-time_narrow c =
@@ -87,15 +87,15 @@ returns-else-is_settled-clause-time c = λ p seen t h s. c.sight_after.ensures.t
 
 pub returns-else-is_settled-clause-narrow : goal.returns-else-is_settled-clause-narrow
 returns-else-is_settled-clause-narrow c =
-    let b = c.times_by_passes in
-    let w = c.sight_after.ensures.width (pos 265393) (last_place (b.result.hi -ℤ b.result.lo) b.ensures.width) in
-    (under _ w.0, under _ w.1, under _ w.2)
+    let passes = c.times_by_passes in
+    let place_narrow = c.sight_after.ensures.width (pos 265393) (last_place (passes.result.hi -ℤ passes.result.lo) passes.ensures.width) in
+    (under _ place_narrow.0, under _ place_narrow.1, under _ place_narrow.2)
 
 pub returns-else-is_settled-clause-range_narrow : goal.returns-else-is_settled-clause-range_narrow
 returns-else-is_settled-clause-range_narrow c =
-    let b = c.times_by_passes in
-    let r = c.sight_after.result.range in
-    last_range (r.hi -ℤ r.lo) (c.sight_after.ensures.range_width (pos 265393) (last_place (b.result.hi -ℤ b.result.lo) b.ensures.width))
+    let passes = c.times_by_passes in
+    let range = c.sight_after.result.range in
+    last_range (range.hi -ℤ range.lo) (c.sight_after.ensures.range_width (pos 265393) (last_place (passes.result.hi -ℤ passes.result.lo) passes.ensures.width))
 
 pub returns-else-is_settled-clause-time_narrow : goal.returns-else-is_settled-clause-time_narrow
 returns-else-is_settled-clause-time_narrow c =

@@ -10,14 +10,14 @@ one_of d = omega (arith, ints)
 
 pub returns-clause-holds : goal.returns-clause-holds
 returns-clause-holds c = λ t h.
-    let x = c.args.range.now in
-    let r = c.requires in
-    let e = c.from_ends.ensures in
-    let o = x.ordered in
+    let range = c.args.range.now in
+    let range_within = c.requires in
+    let ends_stand = c.from_ends.ensures in
+    let is_ordered = range.ordered in
     let below = c.time_below-low.ensures in
     let above = c.time_above-high.ensures in
-    let k : (c.from_ends.result.lo *ℤ pos SPEED) ≤ℤ (x.lo *ℤ pos 16777216) = omega (arith, ints, r.low, r.high, o, below.low, e.lo) in
-    let m : (x.hi *ℤ pos 16777216) ≤ℤ (c.from_ends.result.hi *ℤ pos SPEED) = omega (arith, ints, r.low, r.high, o, above.low, above.high, e.hi) in (
-      time_low t.num (pos t.den) c.from_ends.result.lo x.lo (subst (λ (d : ℤ). (x.lo *ℤ d) ≤ℤ ((pos SPEED *ℤ t.num) *ℤ pos (2 ^ 36))) (one_of t.den) h.0) k (pos_nn t.den),
-      time_high t.num (pos t.den) c.from_ends.result.hi x.hi (subst (λ (d : ℤ). ((pos SPEED *ℤ t.num) *ℤ pos (2 ^ 36)) ≤ℤ (x.hi *ℤ d)) (one_of t.den) h.1) m (pos_nn t.den),
+    let low_at_most : (c.from_ends.result.lo *ℤ pos SPEED) ≤ℤ (range.lo *ℤ pos 16777216) = omega (arith, ints, range_within.low, range_within.high, is_ordered, below.low, ends_stand.lo) in
+    let high_at_least : (range.hi *ℤ pos 16777216) ≤ℤ (c.from_ends.result.hi *ℤ pos SPEED) = omega (arith, ints, range_within.low, range_within.high, is_ordered, above.low, above.high, ends_stand.hi) in (
+      time_low t.num (pos t.den) c.from_ends.result.lo range.lo (subst (λ (d : ℤ). (range.lo *ℤ d) ≤ℤ ((pos SPEED *ℤ t.num) *ℤ pos (2 ^ 36))) (one_of t.den) h.0) low_at_most (pos_nn t.den),
+      time_high t.num (pos t.den) c.from_ends.result.hi range.hi (subst (λ (d : ℤ). ((pos SPEED *ℤ t.num) *ℤ pos (2 ^ 36)) ≤ℤ (range.hi *ℤ d)) (one_of t.den) h.1) high_at_least (pos_nn t.den),
     )

@@ -20,10 +20,10 @@ any l h t el eh a b = go l h t.num (pos t.den) el eh a b
 
 pub returns-clause-holds : goal.returns-clause-holds
 returns-clause-holds c = λ p seen t h s.
-    let q : Place = point_of c.args.point.now.x c.args.point.now.y c.args.point.now.z in
+    let receiver : Place = point_of c.args.point.now.x c.args.point.now.y c.args.point.now.z in
     let sent = c.args.sent.now.away p.x p.y p.z h.0 h.1 h.2 in
-    let zero = any c.any_travel.result.lo c.any_travel.result.hi t c.any_travel.ensures.lo c.any_travel.ensures.hi (travel_nn p q seen t s)
-    (travel_most p q seen t sent (point_place c.args.point.now) s) in
+    let zero = any c.any_travel.result.lo c.any_travel.result.hi t c.any_travel.ensures.lo c.any_travel.ensures.hi (travel_nn p receiver seen t s)
+    (travel_most p receiver seen t sent (point_place c.args.point.now) s) in
     let one = c.sight_after-first.ensures.time p seen t h zero s in
     let two = c.sight_after-second.ensures.time p seen t h one s in
     c.sight_after-third.ensures.time p seen t h two s
@@ -33,10 +33,10 @@ width l h e f = omega (arith, ints)
 
 pub returns-clause-width : goal.returns-clause-width
 returns-clause-width c =
-    let a = c.sight_after-first in
-    let b = c.sight_after-second in
-    let d = c.sight_after-third in
-    let one = first_time (a.result.range.hi -ℤ a.result.range.lo) (a.result.travel.hi -ℤ a.result.travel.lo) (a.ensures.range_width (pos 212559274712979)
-    (width c.any_travel.result.lo c.any_travel.result.hi c.any_travel.ensures.lo c.any_travel.ensures.hi)) a.ensures.time_width in
-    let two = second_time (b.result.range.hi -ℤ b.result.range.lo) (b.result.travel.hi -ℤ b.result.travel.lo) (b.ensures.range_width (pos 23027875089) one) b.ensures.time_width in
-    third_time (d.result.range.hi -ℤ d.result.range.lo) (d.result.travel.hi -ℤ d.result.travel.lo) (d.ensures.range_width (pos 2759538) two) d.ensures.time_width
+    let first = c.sight_after-first in
+    let second = c.sight_after-second in
+    let third = c.sight_after-third in
+    let one = first_time (first.result.range.hi -ℤ first.result.range.lo) (first.result.travel.hi -ℤ first.result.travel.lo) (first.ensures.range_width (pos 212559274712979)
+    (width c.any_travel.result.lo c.any_travel.result.hi c.any_travel.ensures.lo c.any_travel.ensures.hi)) first.ensures.time_width in
+    let two = second_time (second.result.range.hi -ℤ second.result.range.lo) (second.result.travel.hi -ℤ second.result.travel.lo) (second.ensures.range_width (pos 23027875089) one) second.ensures.time_width in
+    third_time (third.result.range.hi -ℤ third.result.range.lo) (third.result.travel.hi -ℤ third.result.travel.lo) (third.ensures.range_width (pos 2759538) two) third.ensures.time_width

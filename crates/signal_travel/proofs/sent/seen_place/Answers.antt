@@ -14,7 +14,7 @@ away c = c.args.seen.now.away (get_or c.args.seen.now.place 0 c.index-seen-0.res
 
 pub invariant_of-result : goal.invariant_of-result
 invariant_of-result c =
-    let l : length c.args.seen.now.place ≡ 3 = three c in
+    let three_coordinates : length c.args.seen.now.place ≡ 3 = three c in
     record {
       narrow = (
         c.args.seen.now.narrow 0 c.index-seen-0.result (omega arith),

@@ -14,7 +14,7 @@ away c = c.args.sv.now.away (get_or c.args.sv.now.place 0 c.index-sv-0.result) (
 
 pub invariant_of-result : goal.invariant_of-result
 invariant_of-result c =
-    let l : length c.args.sv.now.place ≡ 3 = three c in
+    let three_coordinates : length c.args.sv.now.place ≡ 3 = three c in
     record {
       narrow = (c.args.sv.now.narrow 0 c.index-sv-0.result (omega arith), c.args.sv.now.narrow 1 c.index-sv-1.result (omega arith), c.args.sv.now.narrow 2 c.index-sv-2.result (omega arith));
       within = away_within 19000000 38000000 (get_or c.args.sv.now.place 0 c.index-sv-0.result) (get_or c.args.sv.now.place 1 c.index-sv-1.result)

@@ -12,9 +12,9 @@ less x = omega (arith, ints)
 
 pub returns-clause-holds : goal.returns-clause-holds
 returns-clause-holds c = λ x y p.
-    let a : ℤ = c.of_small.result.angle in
-    let e : a ≡ c.args.angle = c.of_small.ensures ∙ to_z-of_z w64 c.args.angle c.ranges.angle in
-    c.within.ensures.holds (of_scale 56 c.args.angle) x y (point_in 56 c.args.angle (a -ℤ pos 0) (a +ℤ pos 0) (less a ∙ e) (+ℤ_idr a ∙ e)) p
+    let angle : ℤ = c.of_small.result.angle in
+    let same_angle : angle ≡ c.args.angle = c.of_small.ensures ∙ to_z-of_z w64 c.args.angle c.ranges.angle in
+    c.within.ensures.holds (of_scale 56 c.args.angle) x y (point_in 56 c.args.angle (angle -ℤ pos 0) (angle +ℤ pos 0) (less angle ∙ same_angle) (+ℤ_idr angle ∙ same_angle)) p
 
 narrow : (w : ℤ) → w ≤ℤ (pos 512 +ℤ (pos 64 *ℤ pos 0)) → w ≤ℤ pos 512
 narrow w h = omega (arith, ints)
@@ -24,8 +24,8 @@ returns-clause-narrow c = (narrow _ c.within.ensures.width.0, narrow _ c.within.
 
 pairs : (c : goal.After-within) → ArePairs c.args.angle c.within.result.cos.lo c.within.result.cos.hi c.within.result.sin.lo c.within.result.sin.hi
 pairs c =
-    let w = returns-clause-narrow c in
-    record { angle_low = c.requires.low; angle_high = c.requires.high; pairs = returns-clause-holds c; cos_narrow = w.0; sin_narrow = w.1 }
+    let is_narrow = returns-clause-narrow c in
+    record { angle_low = c.requires.low; angle_high = c.requires.high; pairs = returns-clause-holds c; cos_narrow = is_narrow.0; sin_narrow = is_narrow.1 }
 
 pub returns-clause-cos_size : goal.returns-clause-cos_size
 returns-clause-cos_size c = cos_ends _ _ _ _ _ (pairs c)

@@ -52,40 +52,40 @@ is_turn c = record {
 
 pub returns-clause-holds : goal.returns-clause-holds
 returns-clause-holds c =
-    let e = plain_pad c.before in
-    let x = c.pairs_of-pair.result in
+    let same_pad = plain_pad c.before in
+    let pair = c.pairs_of-pair.result in
     turn_holds _ _ _ _ _ _ _ _ _ c.padded.result.lo c.padded.result.hi c.padded-2.result.lo c.padded-2.result.hi (is_turn c.before)
-    (c.padded.ensures.lo ∙ ap (λ (p : ℤ). x.cos.lo -ℤ p) e) (c.padded.ensures.hi ∙ ap (λ (p : ℤ). x.cos.hi +ℤ p) e)
-    (c.padded-2.ensures.lo ∙ ap (λ (p : ℤ). x.sin.lo -ℤ p) e) (c.padded-2.ensures.hi ∙ ap (λ (p : ℤ). x.sin.hi +ℤ p) e)
+    (c.padded.ensures.lo ∙ ap (λ (p : ℤ). pair.cos.lo -ℤ p) same_pad) (c.padded.ensures.hi ∙ ap (λ (p : ℤ). pair.cos.hi +ℤ p) same_pad)
+    (c.padded-2.ensures.lo ∙ ap (λ (p : ℤ). pair.sin.lo -ℤ p) same_pad) (c.padded-2.ensures.hi ∙ ap (λ (p : ℤ). pair.sin.hi +ℤ p) same_pad)
 
 pub returns-clause-cos_size : goal.returns-clause-cos_size
 returns-clause-cos_size c =
-    let e = plain_pad c.before in
-    let x = c.pairs_of-pair.result in
-    padded_within x.cos.lo x.cos.hi c.padded.result.lo c.padded.result.hi c.pad_for-pad.result (pos 1152939096792891904) (pos (2 ^ 60 + 2 ^ 46))
-    (c.padded.ensures.lo ∙ ap (λ (p : ℤ). x.cos.lo -ℤ p) e) (c.padded.ensures.hi ∙ ap (λ (p : ℤ). x.cos.hi +ℤ p) e) c.pairs_of-pair.ensures.cos_size.0
+    let same_pad = plain_pad c.before in
+    let pair = c.pairs_of-pair.result in
+    padded_within pair.cos.lo pair.cos.hi c.padded.result.lo c.padded.result.hi c.pad_for-pad.result (pos 1152939096792891904) (pos (2 ^ 60 + 2 ^ 46))
+    (c.padded.ensures.lo ∙ ap (λ (p : ℤ). pair.cos.lo -ℤ p) same_pad) (c.padded.ensures.hi ∙ ap (λ (p : ℤ). pair.cos.hi +ℤ p) same_pad) c.pairs_of-pair.ensures.cos_size.0
     c.pairs_of-pair.ensures.cos_size.1 (small c.before)
     (le_pos 1152962553040951164 1152991873351024640 (lit≤ tt))
 
 pub returns-clause-sin_size : goal.returns-clause-sin_size
 returns-clause-sin_size c =
-    let e = plain_pad c.before in
-    let x = c.pairs_of-pair.result in
-    padded_within x.sin.lo x.sin.hi c.padded-2.result.lo c.padded-2.result.hi c.pad_for-pad.result (pos 28024121222816) (pos (2 ^ 46))
-    (c.padded-2.ensures.lo ∙ ap (λ (p : ℤ). x.sin.lo -ℤ p) e) (c.padded-2.ensures.hi ∙ ap (λ (p : ℤ). x.sin.hi +ℤ p) e)
+    let same_pad = plain_pad c.before in
+    let pair = c.pairs_of-pair.result in
+    padded_within pair.sin.lo pair.sin.hi c.padded-2.result.lo c.padded-2.result.hi c.pad_for-pad.result (pos 28024121222816) (pos (2 ^ 46))
+    (c.padded-2.ensures.lo ∙ ap (λ (p : ℤ). pair.sin.lo -ℤ p) same_pad) (c.padded-2.ensures.hi ∙ ap (λ (p : ℤ). pair.sin.hi +ℤ p) same_pad)
     c.pairs_of-pair.ensures.sin_size.0 c.pairs_of-pair.ensures.sin_size.1 (small c.before)
     (le_pos 51480369282076 70368744177664 (lit≤ tt))
 
 pub returns-clause-width : goal.returns-clause-width
 returns-clause-width c = λ w h.
-    let e = plain_pad c.before in
-    let x = c.pairs_of-pair.result in
-    let m = most c.before in
-    let a = c.middle_of-middle.ensures.above in
-    let d : ℤ = c.args.travel.now.hi -ℤ c.middle_of-middle.result in
-    let t : ℤ = c.args.travel.now.hi -ℤ c.args.travel.now.lo in (
-      padded_width x.cos.lo x.cos.hi c.padded.result.lo c.padded.result.hi c.pad_for-pad.result d t w (c.padded.ensures.lo ∙ ap (λ (p : ℤ). x.cos.lo -ℤ p) e)
-          (c.padded.ensures.hi ∙ ap (λ (p : ℤ). x.cos.hi +ℤ p) e) c.pairs_of-pair.ensures.narrow.0 m a h,
-      padded_width x.sin.lo x.sin.hi c.padded-2.result.lo c.padded-2.result.hi c.pad_for-pad.result d t w (c.padded-2.ensures.lo
-          ∙ ap (λ (p : ℤ). x.sin.lo -ℤ p) e) (c.padded-2.ensures.hi ∙ ap (λ (p : ℤ). x.sin.hi +ℤ p) e) c.pairs_of-pair.ensures.narrow.1 m a h,
+    let same_pad = plain_pad c.before in
+    let pair = c.pairs_of-pair.result in
+    let pad_at_most = most c.before in
+    let middle_not_above = c.middle_of-middle.ensures.above in
+    let half_travel : ℤ = c.args.travel.now.hi -ℤ c.middle_of-middle.result in
+    let travel_width : ℤ = c.args.travel.now.hi -ℤ c.args.travel.now.lo in (
+      padded_width pair.cos.lo pair.cos.hi c.padded.result.lo c.padded.result.hi c.pad_for-pad.result half_travel travel_width w (c.padded.ensures.lo ∙ ap (λ (p : ℤ). pair.cos.lo -ℤ p) same_pad)
+          (c.padded.ensures.hi ∙ ap (λ (p : ℤ). pair.cos.hi +ℤ p) same_pad) c.pairs_of-pair.ensures.narrow.0 pad_at_most middle_not_above h,
+      padded_width pair.sin.lo pair.sin.hi c.padded-2.result.lo c.padded-2.result.hi c.pad_for-pad.result half_travel travel_width w (c.padded-2.ensures.lo
+          ∙ ap (λ (p : ℤ). pair.sin.lo -ℤ p) same_pad) (c.padded-2.ensures.hi ∙ ap (λ (p : ℤ). pair.sin.hi +ℤ p) same_pad) c.pairs_of-pair.ensures.narrow.1 pad_at_most middle_not_above h,
     )

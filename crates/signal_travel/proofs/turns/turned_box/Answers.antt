@@ -15,17 +15,17 @@ taken a b c d h k i j = (omega (arith, ints), omega (arith, ints))
 
 pub sum_of-requires : goal.sum_of-requires
 sum_of-requires c =
-    let x = c.cos_part in
-    let y = c.sin_part in
-    let w = added x.result.lo x.result.hi y.result.lo y.result.hi x.ensures.size.0 x.ensures.size.1 y.ensures.size.0 y.ensures.size.1 in
-    (omega arith, reached _ _ 2618212063641600000 (lit≤ tt) w.0 w.1)
+    let cosine_product = c.cos_part in
+    let sine_product = c.sin_part in
+    let sum_within = added cosine_product.result.lo cosine_product.result.hi sine_product.result.lo sine_product.result.hi cosine_product.ensures.size.0 cosine_product.ensures.size.1 sine_product.ensures.size.0 sine_product.ensures.size.1 in
+    (omega arith, reached _ _ 2618212063641600000 (lit≤ tt) sum_within.0 sum_within.1)
 
 pub difference_of-requires : goal.difference_of-requires
 difference_of-requires c =
-    let x = c.cos_part-2 in
-    let y = c.sin_part-2 in
-    let w = taken x.result.lo x.result.hi y.result.lo y.result.hi x.ensures.size.0 x.ensures.size.1 y.ensures.size.0 y.ensures.size.1 in
-    (omega arith, reached _ _ 2618212063641600000 (lit≤ tt) w.0 w.1)
+    let cosine_product = c.cos_part-2 in
+    let sine_product = c.sin_part-2 in
+    let difference_within = taken cosine_product.result.lo cosine_product.result.hi sine_product.result.lo sine_product.result.hi cosine_product.ensures.size.0 cosine_product.ensures.size.1 sine_product.ensures.size.0 sine_product.ensures.size.1 in
+    (omega arith, reached _ _ 2618212063641600000 (lit≤ tt) difference_within.0 difference_within.1)
 
 pub returns-clause-holds : goal.returns-clause-holds
 returns-clause-holds c = λ p pair h k. (
@@ -39,16 +39,16 @@ loose a b h k = (omega (arith, ints), omega (arith, ints))
 
 pub returns-clause-size : goal.returns-clause-size
 returns-clause-size c =
-    let x = c.cos_part in
-    let y = c.sin_part in
-    let w = added x.result.lo x.result.hi y.result.lo y.result.hi x.ensures.size.0 x.ensures.size.1 y.ensures.size.0 y.ensures.size.1 in
-    let x' = c.cos_part-2 in
-    let y' = c.sin_part-2 in
-    let w' = taken x'.result.lo x'.result.hi y'.result.lo y'.result.hi x'.ensures.size.0 x'.ensures.size.1 y'.ensures.size.0 y'.ensures.size.1 in
-    let e = c.sum_of.ensures in
-    let e' = c.difference_of.ensures in
-    let z = c.args.sent.now in
-    ((rw e.lo w.0, rw e.hi w.1), (rw e'.lo w'.0, rw e'.hi w'.1), loose z.place.z.lo z.place.z.hi z.within.2.0 z.within.2.1)
+    let first_cosine_product = c.cos_part in
+    let first_sine_product = c.sin_part in
+    let sum_within = added first_cosine_product.result.lo first_cosine_product.result.hi first_sine_product.result.lo first_sine_product.result.hi first_cosine_product.ensures.size.0 first_cosine_product.ensures.size.1 first_sine_product.ensures.size.0 first_sine_product.ensures.size.1 in
+    let second_cosine_product = c.cos_part-2 in
+    let second_sine_product = c.sin_part-2 in
+    let difference_within = taken second_cosine_product.result.lo second_cosine_product.result.hi second_sine_product.result.lo second_sine_product.result.hi second_cosine_product.ensures.size.0 second_cosine_product.ensures.size.1 second_sine_product.ensures.size.0 second_sine_product.ensures.size.1 in
+    let sum_stands = c.sum_of.ensures in
+    let difference_stands = c.difference_of.ensures in
+    let sent = c.args.sent.now in
+    ((rw sum_stands.lo sum_within.0, rw sum_stands.hi sum_within.1), (rw difference_stands.lo difference_within.0, rw difference_stands.hi difference_within.1), loose sent.place.z.lo sent.place.z.hi sent.within.2.0 sent.within.2.1)
 
 wide : (p q s c d w v : ℤ) → (pos (2 ^ 24) *ℤ p) ≤ℤ ((pos 38000000 *ℤ c) +ℤ pos (262162 * 2 ^ 24)) → (pos (2 ^ 24) *ℤ q) ≤ℤ ((pos 38000000 *ℤ d) +ℤ pos (18 * 2 ^ 24)) → s ≡ p +ℤ q → c ≤ℤ w → d ≤ℤ w →
     ((pos 76000000 *ℤ w) +ℤ pos (262180 * 2 ^ 24)) ≤ℤ (pos (2 ^ 24) *ℤ v) → s ≤ℤ v
@@ -60,12 +60,12 @@ same_wide s l h w v n o k m = omega (arith, ints)
 pub returns-clause-width : goal.returns-clause-width
 returns-clause-width c = λ w v h k.
     let turn = c.args.turn.now in
-    let z = c.args.sent.now in (
+    let sent = c.args.sent.now in (
       wide (size c.cos_part.result) (size c.sin_part.result) (size c.sum_of.result) (turn.cos.hi -ℤ turn.cos.lo) (turn.sin.hi -ℤ turn.sin.lo) w v
           c.cos_part.ensures.width c.sin_part.ensures.width c.sum_of.ensures.width h.0 h.1 k,
       wide (size c.cos_part-2.result) (size c.sin_part-2.result) (size c.difference_of.result) (turn.cos.hi -ℤ turn.cos.lo) (turn.sin.hi -ℤ turn.sin.lo) w
           v c.cos_part-2.ensures.width c.sin_part-2.ensures.width c.difference_of.ensures.width h.0 h.1 k,
-      same_wide (z.place.z.hi -ℤ z.place.z.lo) turn.cos.lo turn.cos.hi w v z.narrow.2 turn.cos.ordered h.0 k,
+      same_wide (sent.place.z.hi -ℤ sent.place.z.lo) turn.cos.lo turn.cos.hi w v sent.narrow.2 turn.cos.ordered h.0 k,
     )
   where
     size : Iv 36 → ℤ

@@ -4,17 +4,17 @@ use Rattle.signal_travel.proofs.vectors.coordinate_box.Goals as goal
 
 pub returns-clause-width : goal.returns-clause-width
 returns-clause-width c =
-    let s = c.requires in
-    let a = c.units_of-low.ensures in
-    let b = c.rest_of.ensures in
-    let e = c.from_ends.ensures in
-    omega (arith, ints, s, a.low, a.high, b.low, b.high, e.lo, e.hi)
+    let size_allowed = c.requires in
+    let low_units_stand = c.units_of-low.ensures in
+    let rest_stands = c.rest_of.ensures in
+    let ends_stand = c.from_ends.ensures in
+    omega (arith, ints, size_allowed, low_units_stand.low, low_units_stand.high, rest_stands.low, rest_stands.high, ends_stand.lo, ends_stand.hi)
 
 pub returns-clause-holds : goal.returns-clause-holds
 returns-clause-holds c =
-    let s = c.requires in
-    let a = c.units_of-low.ensures in
-    let b = c.rest_of.ensures in
-    let e = c.from_ends.ensures in
-    let k = b.above c.units_of-low.result a.high in
-    (omega (arith, ints, s, a.low, e.lo), omega (arith, ints, s, a.low, a.high, k, b.low, b.high, e.lo, e.hi))
+    let size_allowed = c.requires in
+    let low_units_stand = c.units_of-low.ensures in
+    let rest_stands = c.rest_of.ensures in
+    let ends_stand = c.from_ends.ensures in
+    let rest_above = rest_stands.above c.units_of-low.result low_units_stand.high in
+    (omega (arith, ints, size_allowed, low_units_stand.low, ends_stand.lo), omega (arith, ints, size_allowed, low_units_stand.low, low_units_stand.high, rest_above, rest_stands.low, rest_stands.high, ends_stand.lo, ends_stand.hi))

@@ -22,9 +22,9 @@ difference_of-requires c = (
 
 pub returns-clause-size : goal.returns-clause-size
 returns-clause-size c =
-    let e = c.difference_of.ensures in (
-      rw e.lo (low c.args.x.now.lo c.coordinate_box.result.hi c.requires.x_size.0 c.coordinate_box.ensures.size.1),
-      rw e.hi (high c.args.x.now.hi c.coordinate_box.result.lo c.requires.x_size.1 c.coordinate_box.ensures.size.0),
+    let difference_stands = c.difference_of.ensures in (
+      rw difference_stands.lo (low c.args.x.now.lo c.coordinate_box.result.hi c.requires.x_size.0 c.coordinate_box.ensures.size.1),
+      rw difference_stands.hi (high c.args.x.now.hi c.coordinate_box.result.lo c.requires.x_size.1 c.coordinate_box.ensures.size.0),
     )
 
 pub returns-clause-holds : goal.returns-clause-holds

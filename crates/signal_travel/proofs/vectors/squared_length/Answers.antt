@@ -23,20 +23,20 @@ above a b c x y z f g h s t ex ey ez ha hb hc es et = omega (arith, ints)
 
 pub returns-clause-near : goal.returns-clause-near
 returns-clause-near c =
-    let v = c.args.v.now in
-    let x : ℤ = near_end v.x.lo v.x.hi *ℤ near_end v.x.lo v.x.hi in
-    let y : ℤ = near_end v.y.lo v.y.hi *ℤ near_end v.y.lo v.y.hi in
-    let z : ℤ = near_end v.z.lo v.z.hi *ℤ near_end v.z.lo v.z.hi in
-    below x y z c.square_of-x.result.lo c.square_of-y.result.lo c.square_of-z.result.lo (floor_div x (2 ^ 63)) (floor_div y (2 ^ 63)) (floor_div z (2 ^ 63)) c.sum_of.result.lo c.sum_of-2.result.lo
-    c.square_of-x.ensures.lo c.square_of-y.ensures.lo c.square_of-z.ensures.lo (lt_floor x (2 ^ 63) (lit< tt)) (lt_floor y (2 ^ 63) (lit< tt)) (lt_floor z (2 ^ 63) (lit< tt))
+    let vector = c.args.v.now in
+    let first_square : ℤ = near_end vector.x.lo vector.x.hi *ℤ near_end vector.x.lo vector.x.hi in
+    let second_square : ℤ = near_end vector.y.lo vector.y.hi *ℤ near_end vector.y.lo vector.y.hi in
+    let third_square : ℤ = near_end vector.z.lo vector.z.hi *ℤ near_end vector.z.lo vector.z.hi in
+    below first_square second_square third_square c.square_of-x.result.lo c.square_of-y.result.lo c.square_of-z.result.lo (floor_div first_square (2 ^ 63)) (floor_div second_square (2 ^ 63)) (floor_div third_square (2 ^ 63)) c.sum_of.result.lo c.sum_of-2.result.lo
+    c.square_of-x.ensures.lo c.square_of-y.ensures.lo c.square_of-z.ensures.lo (lt_floor first_square (2 ^ 63) (lit< tt)) (lt_floor second_square (2 ^ 63) (lit< tt)) (lt_floor third_square (2 ^ 63) (lit< tt))
     c.sum_of.ensures.lo c.sum_of-2.ensures.lo
 
 pub returns-clause-far : goal.returns-clause-far
 returns-clause-far c =
-    let v = c.args.v.now in
-    let x : ℤ = far_end v.x.lo v.x.hi *ℤ far_end v.x.lo v.x.hi in
-    let y : ℤ = far_end v.y.lo v.y.hi *ℤ far_end v.y.lo v.y.hi in
-    let z : ℤ = far_end v.z.lo v.z.hi *ℤ far_end v.z.lo v.z.hi in
-    above x y z c.square_of-x.result.hi c.square_of-y.result.hi c.square_of-z.result.hi (ceil_div x (2 ^ 63)) (ceil_div y (2 ^ 63)) (ceil_div z (2 ^ 63)) c.sum_of.result.hi c.sum_of-2.result.hi
-    c.square_of-x.ensures.hi c.square_of-y.ensures.hi c.square_of-z.ensures.hi (ceil_lt x (2 ^ 63) (lit< tt)) (ceil_lt y (2 ^ 63) (lit< tt)) (ceil_lt z (2 ^ 63) (lit< tt))
+    let vector = c.args.v.now in
+    let first_square : ℤ = far_end vector.x.lo vector.x.hi *ℤ far_end vector.x.lo vector.x.hi in
+    let second_square : ℤ = far_end vector.y.lo vector.y.hi *ℤ far_end vector.y.lo vector.y.hi in
+    let third_square : ℤ = far_end vector.z.lo vector.z.hi *ℤ far_end vector.z.lo vector.z.hi in
+    above first_square second_square third_square c.square_of-x.result.hi c.square_of-y.result.hi c.square_of-z.result.hi (ceil_div first_square (2 ^ 63)) (ceil_div second_square (2 ^ 63)) (ceil_div third_square (2 ^ 63)) c.sum_of.result.hi c.sum_of-2.result.hi
+    c.square_of-x.ensures.hi c.square_of-y.ensures.hi c.square_of-z.ensures.hi (ceil_lt first_square (2 ^ 63) (lit< tt)) (ceil_lt second_square (2 ^ 63) (lit< tt)) (ceil_lt third_square (2 ^ 63) (lit< tt))
     c.sum_of.ensures.hi c.sum_of-2.ensures.hi

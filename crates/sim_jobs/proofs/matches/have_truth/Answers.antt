@@ -6,11 +6,11 @@ pub returns-then-not-has_truth : goal.returns-then-not-has_truth
 returns-then-not-has_truth c = (
   λ on. absurd (cc on),
   λ all.
-      let on : IsTrue c.has_truth.result =
+      let has_its_truth : IsTrue c.has_truth.result =
       one_has c.args.truth.now c.args.arcs.now c.args.signals.now c.args.z.now c.loop-k.k c.has_truth.result (omega arith)
       c.has_truth.ensures.datum c.has_truth.ensures.free all in
       let off = c.if-not-has_truth.true in
-      absurd (cc (on, off)),
+      absurd (cc (has_its_truth, off)),
 )
 
 pub returns : goal.returns

@@ -7,22 +7,22 @@ use Rattle.sim_jobs.proofs.runs.sim_run.Goals as goal
 
 pub returns-clause-ends : goal.returns-clause-ends
 returns-clause-ends c =
-    let a = c.args in
+    let args = c.args in
     let session = c.in_ok-base.ensures in
-    let on = c.options_on-options.ensures.are in
-    let o = c.options_on-options.result in
+    let options_are_on = c.options_on-options.ensures.are in
+    let options = c.options_on-options.result in
     let told = c.in_ok-files.ensures in
-    let made : AreMadeFiles a.seed a.epochs a.sats a.bands a.system _ = record {
+    let made : AreMadeFiles args.seed args.epochs args.sats args.bands args.system _ = record {
       session = c.in_ok-base.field-0;
       made = record { base = session.base; rover = session.rover; nav = session.nav; truth = session.truth; offset = session.offset };
       base_told = told.base;
       rover_told = told.rover;
       nav_told = told.nav;
     } in
-    let admitted = made_admitted a.seed a.epochs a.sats a.bands a.system _ _ _ _ o c.requires.epochs c.requires.sats c.requires.bands c.requires.system c.requires.bands_of_galileo on
+    let admitted = made_admitted args.seed args.epochs args.sats args.bands args.system _ _ _ _ options c.requires.epochs c.requires.sats c.requires.bands c.requires.system c.requires.bands_of_galileo options_are_on
     told.base told.rover told.nav session.base session.rover session.nav (still_fits _ _ c.in_ok-base.field-0.base.ok.0 session.base_size)
     (still_fits _ _ c.in_ok-base.field-0.rover.ok.0 session.rover_size) (still_fits _ _ c.in_ok-base.field-0.nav.ok.0 session.nav_size) in
-    ended_weaker c.answer_files.result _ _ (λ end ends. ends_found a.seed a.epochs a.sats a.bands a.system _ o _ _ _ _ end made on admitted
+    ended_weaker c.answer_files.result _ _ (λ end ends. ends_found args.seed args.epochs args.sats args.bands args.system _ options _ _ _ _ end made options_are_on admitted
     c.of_letter-system.ensures c.in_ok-read.ensures.read ends) c.answer_files.ensures
 
 pub returns-clause-no_fault : goal.returns-clause-no_fault
@@ -30,17 +30,17 @@ returns-clause-no_fault c = ended_weaker c.answer_files.result _ _ (λ end ends.
 
 pub returns-in_err-read-clause-ends : goal.returns-in_err-read-clause-ends
 returns-in_err-read-clause-ends c =
-    let a = c.args in
+    let args = c.args in
     let session = c.in_ok-base.ensures in
-    let on = c.options_on-options.ensures.are in
-    let o = c.options_on-options.result in
+    let options_are_on = c.options_on-options.ensures.are in
+    let options = c.options_on-options.result in
     let told = c.in_ok-files.ensures in
-    let admitted = made_admitted a.seed a.epochs a.sats a.bands a.system _ _ _ _ o c.requires.epochs c.requires.sats c.requires.bands c.requires.system c.requires.bands_of_galileo on
+    let admitted = made_admitted args.seed args.epochs args.sats args.bands args.system _ _ _ _ options c.requires.epochs c.requires.sats c.requires.bands c.requires.system c.requires.bands_of_galileo options_are_on
     told.base told.rover told.nav session.base session.rover session.nav (still_fits _ _ c.in_ok-base.field-0.base.ok.0 session.base_size)
     (still_fits _ _ c.in_ok-base.field-0.rover.ok.0 session.rover_size) (still_fits _ _ c.in_ok-base.field-0.nav.ok.0 session.nav_size) in
     let answered = err_from_is_err_and c.from_residual-in_err-read.result c.from_residual-in_err-read.ensures.1 in
     rw (answered.1, answered.2)
-    (never_stops _ _ _ _ _ o c.in_err-read.field-0.0 _ c.of_letter-system.ensures admitted c.in_err-read.ensures.stopped (c.in_err-read.ensures.sure (λ k name inside. told.sure name)))
+    (never_stops _ _ _ _ _ options c.in_err-read.field-0.0 _ c.of_letter-system.ensures admitted c.in_err-read.ensures.stopped (c.in_err-read.ensures.sure (λ k name inside. told.sure name)))
 
 pub returns-in_err-read-clause-no_fault : goal.returns-in_err-read-clause-no_fault
 returns-in_err-read-clause-no_fault c =

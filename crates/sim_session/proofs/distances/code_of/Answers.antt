@@ -8,5 +8,5 @@ plain n k a b s = omega (arith, ints)
 
 pub returns-clause-near : goal.returns-clause-near
 returns-clause-near c = λ v h.
-    let n = c.whole_units in
-    code_near c.args.distance.now.units n.result c.args.clock _ v (plain n.result c.args.clock n.ensures.low n.ensures.high c.requires) n.ensures.nearest h
+    let units = c.whole_units in
+    code_near c.args.distance.now.units units.result c.args.clock _ v (plain units.result c.args.clock units.ensures.low units.ensures.high c.requires) units.ensures.nearest h

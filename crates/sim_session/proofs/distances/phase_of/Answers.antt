@@ -24,20 +24,20 @@ overflow_add-result c = fits c.whole_thousandths.result c.args.cycles c.whole_th
 
 pub returns-clause-low : goal.returns-clause-low
 returns-clause-low c =
-    let n = c.whole_thousandths in
-    low n.result c.args.cycles _ n.ensures.low c.requires.cycles (plain n.result c.args.cycles n.ensures.low n.ensures.high c.requires.cycles)
+    let thousandths_made = c.whole_thousandths in
+    low thousandths_made.result c.args.cycles _ thousandths_made.ensures.low c.requires.cycles (plain thousandths_made.result c.args.cycles thousandths_made.ensures.low thousandths_made.ensures.high c.requires.cycles)
 
 pub returns-clause-high : goal.returns-clause-high
 returns-clause-high c =
-    let n = c.whole_thousandths in
-    high n.result c.args.cycles _ n.ensures.high c.requires.cycles (plain n.result c.args.cycles n.ensures.low n.ensures.high c.requires.cycles)
+    let thousandths_made = c.whole_thousandths in
+    high thousandths_made.result c.args.cycles _ thousandths_made.ensures.high c.requires.cycles (plain thousandths_made.result c.args.cycles thousandths_made.ensures.low thousandths_made.ensures.high c.requires.cycles)
 
 pub returns-clause-near : goal.returns-clause-near
 returns-clause-near c = λ v h.
-    let n = c.whole_thousandths in
-    let d = c.args.distance.now.units in
+    let thousandths_made = c.whole_thousandths in
+    let units = c.args.distance.now.units in
     let length = to_z-of_z w128 c.with_clock-length.result (record { sfits = c.with_clock-length.type_inv }) ∙ c.with_clock-length.ensures.value
-    ∙ ap (λ (z : ℤ). (pos 1000 *ℤ d) +ℤ (z *ℤ pos (2 ^ 36))) (to_z-of_z w64 c.args.clock c.ranges.clock) in
+    ∙ ap (λ (z : ℤ). (pos 1000 *ℤ units) +ℤ (z *ℤ pos (2 ^ 36))) (to_z-of_z w64 c.args.clock c.ranges.clock) in
     let product = to_z-of_z w128 c.scaled.result (record { sfits = c.scaled.type_inv }) ∙ c.scaled.ensures.value ∙ ap (λ (z : ℤ). z *ℤ pos c.args.frequency) length in
-    phase_near c.args.frequency d n.result c.args.clock c.args.cycles _ v c.requires.most (plain n.result c.args.cycles n.ensures.low n.ensures.high c.requires.cycles)
-    (subst (λ (z : ℤ). IsNearest z (unsigned_abs LIGHT_SPEED * 2 ^ 36) n.result) product n.ensures.nearest) h
+    phase_near c.args.frequency units thousandths_made.result c.args.clock c.args.cycles _ v c.requires.most (plain thousandths_made.result c.args.cycles thousandths_made.ensures.low thousandths_made.ensures.high c.requires.cycles)
+    (subst (λ (z : ℤ). IsNearest z (unsigned_abs LIGHT_SPEED * 2 ^ 36) thousandths_made.result) product thousandths_made.ensures.nearest) h

@@ -35,32 +35,32 @@ plain p low high = as_w128 p (omega (arith, ints, low, high))
 
 pub overflow_mul-result : goal.overflow_mul-result
 overflow_mul-result c =
-    let m = cast c.args.length c.requires.low c.requires.high in
-    let f = frequency_cast c.args.frequency c.requires.most in
-    rw (m, f) (fits (c.args.length *ℤ pos c.args.frequency) (product_low c.args.length (pos c.args.frequency) c.requires.low (least c.args.frequency c.requires.least))
+    let same_length = cast c.args.length c.requires.low c.requires.high in
+    let same_frequency = frequency_cast c.args.frequency c.requires.most in
+    rw (same_length, same_frequency) (fits (c.args.length *ℤ pos c.args.frequency) (product_low c.args.length (pos c.args.frequency) c.requires.low (least c.args.frequency c.requires.least))
     (product_high c.args.length (pos c.args.frequency) c.requires.low c.requires.high (most c.args.frequency c.requires.most)))
 
 pub returns-clause-value : goal.returns-clause-value
 returns-clause-value c =
-    let m = cast c.args.length c.requires.low c.requires.high in
-    let f = frequency_cast c.args.frequency c.requires.most in
-    rw (m, f) (plain (c.args.length *ℤ pos c.args.frequency) (product_low c.args.length (pos c.args.frequency) c.requires.low (least c.args.frequency c.requires.least))
+    let same_length = cast c.args.length c.requires.low c.requires.high in
+    let same_frequency = frequency_cast c.args.frequency c.requires.most in
+    rw (same_length, same_frequency) (plain (c.args.length *ℤ pos c.args.frequency) (product_low c.args.length (pos c.args.frequency) c.requires.low (least c.args.frequency c.requires.least))
     (product_high c.args.length (pos c.args.frequency) c.requires.low c.requires.high (most c.args.frequency c.requires.most)))
 
 pub returns-clause-low : goal.returns-clause-low
 returns-clause-low c =
-    let l = product_low c.args.length (pos c.args.frequency) c.requires.low (least c.args.frequency c.requires.least) in
-    let h = product_high c.args.length (pos c.args.frequency) c.requires.low c.requires.high (most c.args.frequency c.requires.most) in
-    let m = cast c.args.length c.requires.low c.requires.high in
-    let f = frequency_cast c.args.frequency c.requires.most in
-    let p = plain (c.args.length *ℤ pos c.args.frequency) l h in
-    rw (m, f, p) l
+    let product_at_least = product_low c.args.length (pos c.args.frequency) c.requires.low (least c.args.frequency c.requires.least) in
+    let product_at_most = product_high c.args.length (pos c.args.frequency) c.requires.low c.requires.high (most c.args.frequency c.requires.most) in
+    let same_length = cast c.args.length c.requires.low c.requires.high in
+    let same_frequency = frequency_cast c.args.frequency c.requires.most in
+    let same_product = plain (c.args.length *ℤ pos c.args.frequency) product_at_least product_at_most in
+    rw (same_length, same_frequency, same_product) product_at_least
 
 pub returns-clause-high : goal.returns-clause-high
 returns-clause-high c =
-    let l = product_low c.args.length (pos c.args.frequency) c.requires.low (least c.args.frequency c.requires.least) in
-    let h = product_high c.args.length (pos c.args.frequency) c.requires.low c.requires.high (most c.args.frequency c.requires.most) in
-    let m = cast c.args.length c.requires.low c.requires.high in
-    let f = frequency_cast c.args.frequency c.requires.most in
-    let p = plain (c.args.length *ℤ pos c.args.frequency) l h in
-    rw (m, f, p) h
+    let product_at_least = product_low c.args.length (pos c.args.frequency) c.requires.low (least c.args.frequency c.requires.least) in
+    let product_at_most = product_high c.args.length (pos c.args.frequency) c.requires.low c.requires.high (most c.args.frequency c.requires.most) in
+    let same_length = cast c.args.length c.requires.low c.requires.high in
+    let same_frequency = frequency_cast c.args.frequency c.requires.most in
+    let same_product = plain (c.args.length *ℤ pos c.args.frequency) product_at_least product_at_most in
+    rw (same_length, same_frequency, same_product) product_at_most

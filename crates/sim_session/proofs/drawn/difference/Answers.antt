@@ -12,10 +12,10 @@ all : (r s : List ℤ) (a b c x y z : ℤ) → r ≡ a ∷ b ∷ c ∷ [] → s 
     ∷ to_z w64 (of_z w64 (to_z w64 (of_z w64 (slice_index_or r 1 (pos 0))) -ℤ to_z w64 (of_z w64 (slice_index_or s 1 (pos 0)))))
     ∷ to_z w64 (of_z w64 (to_z w64 (of_z w64 (slice_index_or r 2 (pos 0))) -ℤ to_z w64 (of_z w64 (slice_index_or s 2 (pos 0))))) ∷ [] ≡ (a -ℤ x) ∷ (b -ℤ y) ∷ (c -ℤ z) ∷ []
 all r s a b c x y z e f h k =
-    let h2 : AreSmall (a ∷ b ∷ c ∷ []) = rw e at h in
-    let k2 : AreSmall (x ∷ y ∷ z ∷ []) = rw f at k in
+    let left_are_small : AreSmall (a ∷ b ∷ c ∷ []) = rw e at h in
+    let right_are_small : AreSmall (x ∷ y ∷ z ∷ []) = rw f at k in
     rw (e, f) (same_three _ _ _ (a -ℤ x) (b -ℤ y) (c -ℤ z)
-    (plain a x (h2 0 (pos 0) (lit< tt)) (k2 0 (pos 0) (lit< tt))) (plain b y (h2 1 (pos 0) (lit< tt)) (k2 1 (pos 0) (lit< tt))) (plain c z (h2 2 (pos 0) (lit< tt)) (k2 2 (pos 0) (lit< tt))))
+    (plain a x (left_are_small 0 (pos 0) (lit< tt)) (right_are_small 0 (pos 0) (lit< tt))) (plain b y (left_are_small 1 (pos 0) (lit< tt)) (right_are_small 1 (pos 0) (lit< tt))) (plain c z (left_are_small 2 (pos 0) (lit< tt)) (right_are_small 2 (pos 0) (lit< tt))))
 
 pub returns : goal.returns
 returns c = λ a b d x y z e f. all c.args.rover.now c.args.base.now a b d x y z e f c.requires.rover c.requires.base

@@ -25,20 +25,20 @@ returns-clause-observed c =
     let units = c.distance_at-distance.result.units in
     let clock = to_z w64 (of_z w64 receiver.clock) in
     let own = clock_cast receiver.clock receiver.clock_in in
-    let is = c.distance_at-distance.ensures in
+    let distance_stands = c.distance_at-distance.ensures in
     record {
       code = subst (λ (z : ℤ). IsReachedIn 6 world c.args.eph.now c.args.tag.0 receiver.point receiver.clock z)
           (sym (code_cast code c.code_at-code.ensures.low c.code_at-code.ensures.high)) c.code_at-code.ensures.reached;
       l1 = phase_is (carrier 0) world c.args.eph.now c.args.tag.0 (to_z w64 (of_z w64 code)) (to_z w64 (of_z w64 code)) receiver.point units clock
           receiver.clock (to_z w64 (of_z w64 (get_or cycles 0 (pos 0)))) (get_or cycles 0 (pos 0))
           c.phase_of.result (to_z w64 (of_z w64 c.phase_of.result)) refl own (cycles_cast (get_or cycles 0 (pos 0)) (small_at cycles 0 c.requires.cycles))
-          (to_z-of_z w64 c.phase_of.result (record { sfits = c.phase_of.type_inv })) is c.phase_of.ensures.near;
+          (to_z-of_z w64 c.phase_of.result (record { sfits = c.phase_of.type_inv })) distance_stands c.phase_of.ensures.near;
       l2 = phase_is (carrier 1) world c.args.eph.now c.args.tag.0 (to_z w64 (of_z w64 code)) (to_z w64 (of_z w64 code)) receiver.point units clock
           receiver.clock (to_z w64 (of_z w64 (get_or cycles 1 (pos 0)))) (get_or cycles 1 (pos 0))
           c.phase_of-2.result (to_z w64 (of_z w64 c.phase_of-2.result)) refl own (cycles_cast (get_or cycles 1 (pos 0)) (small_at cycles 1 c.requires.cycles))
-          (to_z-of_z w64 c.phase_of-2.result (record { sfits = c.phase_of-2.type_inv })) is c.phase_of-2.ensures.near;
+          (to_z-of_z w64 c.phase_of-2.result (record { sfits = c.phase_of-2.type_inv })) distance_stands c.phase_of-2.ensures.near;
       l5 = phase_is (carrier 4) world c.args.eph.now c.args.tag.0 (to_z w64 (of_z w64 code)) (to_z w64 (of_z w64 code)) receiver.point units clock
           receiver.clock (to_z w64 (of_z w64 (get_or cycles 2 (pos 0)))) (get_or cycles 2 (pos 0))
           c.phase_of-3.result (to_z w64 (of_z w64 c.phase_of-3.result)) refl own (cycles_cast (get_or cycles 2 (pos 0)) (small_at cycles 2 c.requires.cycles))
-          (to_z-of_z w64 c.phase_of-3.result (record { sfits = c.phase_of-3.type_inv })) is c.phase_of-3.ensures.near;
+          (to_z-of_z w64 c.phase_of-3.result (record { sfits = c.phase_of-3.type_inv })) distance_stands c.phase_of-3.ensures.near;
     }

@@ -5,12 +5,12 @@ use Rattle.sim_session.proofs.receivers.rover_receiver.Goals as goal
 
 pub invariant_of-result-clause-on_earth : goal.invariant_of-result-clause-on_earth
 invariant_of-result-clause-on_earth c =
-    let a = c.args in
-    let r = c.requires in
-    earth_along _ _ _ (pos 63781370000 +ℤ (pos 10 *ℤ a.x)) (pos 10 *ℤ a.y) (pos 10 *ℤ a.z) (first_is a.x r.x) (further_is a.y r.y) (further_is a.z r.z) (rover_point a.x a.y a.z r.x r.y r.z)
+    let args = c.args in
+    let place_allowed = c.requires in
+    earth_along _ _ _ (pos 63781370000 +ℤ (pos 10 *ℤ args.x)) (pos 10 *ℤ args.y) (pos 10 *ℤ args.z) (first_is args.x place_allowed.x) (further_is args.y place_allowed.y) (further_is args.z place_allowed.z) (rover_point args.x args.y args.z place_allowed.x place_allowed.y place_allowed.z)
 
 pub returns-clause-point : goal.returns-clause-point
 returns-clause-point c =
-    let a = c.args in
-    let r = c.requires in
-    same_three _ _ _ (pos 63781370000 +ℤ (pos 10 *ℤ a.x)) (pos 10 *ℤ a.y) (pos 10 *ℤ a.z) (first_is a.x r.x) (further_is a.y r.y) (further_is a.z r.z)
+    let args = c.args in
+    let place_allowed = c.requires in
+    same_three _ _ _ (pos 63781370000 +ℤ (pos 10 *ℤ args.x)) (pos 10 *ℤ args.y) (pos 10 *ℤ args.z) (first_is args.x place_allowed.x) (further_is args.y place_allowed.y) (further_is args.z place_allowed.z)

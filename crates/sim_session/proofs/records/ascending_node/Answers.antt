@@ -13,12 +13,12 @@ high n h = omega (arith, ints, h)
 
 pub returns-clause-value : goal.returns-clause-value
 returns-clause-value c =
-    let is = to_z-of_z w64 c.node_hundredths.result (record { sfits = c.node_hundredths.type_inv }) ∙ c.node_hundredths.ensures.value in
-    subst (λ (z : ℤ). value_of c.normal.result ≈ decimal z 2) is c.normal.ensures.value
+    let value_is = to_z-of_z w64 c.node_hundredths.result (record { sfits = c.node_hundredths.type_inv }) ∙ c.node_hundredths.ensures.value in
+    subst (λ (z : ℤ). value_of c.normal.result ≈ decimal z 2) value_is c.normal.ensures.value
 
 pub returns-clause-range : goal.returns-clause-range
 returns-clause-range c =
-    let is = to_z-of_z w64 c.node_hundredths.result (record { sfits = c.node_hundredths.type_inv }) in
-    let n = c.node_hundredths.result in
-    from_to (neg_ℤ (pos 65)) (pos 65) n 1 2 c.normal.result (subst (λ (z : ℤ). value_of c.normal.result ≈ decimal z 2) is c.normal.ensures.value)
-    (low n (c.node_hundredths.ensures.size)) (high n (c.node_hundredths.ensures.size))
+    let number_is = to_z-of_z w64 c.node_hundredths.result (record { sfits = c.node_hundredths.type_inv }) in
+    let hundredths = c.node_hundredths.result in
+    from_to (neg_ℤ (pos 65)) (pos 65) hundredths 1 2 c.normal.result (subst (λ (z : ℤ). value_of c.normal.result ≈ decimal z 2) number_is c.normal.ensures.value)
+    (low hundredths (c.node_hundredths.ensures.size)) (high hundredths (c.node_hundredths.ensures.size))

@@ -13,12 +13,12 @@ high n h = omega (arith, ints, h)
 
 pub returns-clause-value : goal.returns-clause-value
 returns-clause-value c =
-    let is = to_z-of_z w64 c.number_of.result (record { sfits = c.number_of.type_inv }) ∙ c.number_of.ensures.value in
-    subst (λ (z : ℤ). value_of c.normal.result ≈ decimal z 5) is c.normal.ensures.value
+    let value_is = to_z-of_z w64 c.number_of.result (record { sfits = c.number_of.type_inv }) ∙ c.number_of.ensures.value in
+    subst (λ (z : ℤ). value_of c.normal.result ≈ decimal z 5) value_is c.normal.ensures.value
 
 pub returns-clause-range : goal.returns-clause-range
 returns-clause-range c =
-    let is = to_z-of_z w64 c.number_of.result (record { sfits = c.number_of.type_inv }) in
-    let n = c.number_of.result in
-    from_to (neg_ℤ (pos 1)) (pos 1) n 2 5 c.normal.result (subst (λ (z : ℤ). value_of c.normal.result ≈ decimal z 5) is c.normal.ensures.value)
-    (low n (c.number_of.ensures.size)) (high n (c.number_of.ensures.size))
+    let number_is = to_z-of_z w64 c.number_of.result (record { sfits = c.number_of.type_inv }) in
+    let number = c.number_of.result in
+    from_to (neg_ℤ (pos 1)) (pos 1) number 2 5 c.normal.result (subst (λ (z : ℤ). value_of c.normal.result ≈ decimal z 5) number_is c.normal.ensures.value)
+    (low number (c.number_of.ensures.size)) (high number (c.number_of.ensures.size))

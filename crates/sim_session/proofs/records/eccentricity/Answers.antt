@@ -16,12 +16,12 @@ high n h = omega (arith, ints, h.0, h.1)
 
 pub returns-clause-value : goal.returns-clause-value
 returns-clause-value c =
-    let is = to_z-of_z w64 c.number_of.result (record { sfits = c.number_of.type_inv }) ∙ c.number_of.ensures.value in
-    subst (λ (z : ℤ). value_of c.normal.result ≈ decimal z 3) is c.normal.ensures.value
+    let value_is = to_z-of_z w64 c.number_of.result (record { sfits = c.number_of.type_inv }) ∙ c.number_of.ensures.value in
+    subst (λ (z : ℤ). value_of c.normal.result ≈ decimal z 3) value_is c.normal.ensures.value
 
 pub returns-clause-range : goal.returns-clause-range
 returns-clause-range c =
-    let is = to_z-of_z w64 c.number_of.result (record { sfits = c.number_of.type_inv }) in
-    let n = c.number_of.result in
-    from_to (pos 0) (pos 3125) n 5 3 c.normal.result (subst (λ (z : ℤ). value_of c.normal.result ≈ decimal z 3) is c.normal.ensures.value)
-    (low n (within c.args.k n c.requires c.number_of.ensures.value)) (high n (within c.args.k n c.requires c.number_of.ensures.value))
+    let number_is = to_z-of_z w64 c.number_of.result (record { sfits = c.number_of.type_inv }) in
+    let number = c.number_of.result in
+    from_to (pos 0) (pos 3125) number 5 3 c.normal.result (subst (λ (z : ℤ). value_of c.normal.result ≈ decimal z 3) number_is c.normal.ensures.value)
+    (low number (within c.args.k number c.requires c.number_of.ensures.value)) (high number (within c.args.k number c.requires c.number_of.ensures.value))

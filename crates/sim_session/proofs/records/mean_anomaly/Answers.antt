@@ -13,12 +13,12 @@ high n h = omega (arith, ints, h)
 
 pub returns-clause-value : goal.returns-clause-value
 returns-clause-value c =
-    let is = to_z-of_z w64 c.anomaly_tenths.result (record { sfits = c.anomaly_tenths.type_inv }) ∙ c.anomaly_tenths.ensures.value in
-    subst (λ (z : ℤ). value_of c.normal.result ≈ decimal z 1) is c.normal.ensures.value
+    let value_is = to_z-of_z w64 c.anomaly_tenths.result (record { sfits = c.anomaly_tenths.type_inv }) ∙ c.anomaly_tenths.ensures.value in
+    subst (λ (z : ℤ). value_of c.normal.result ≈ decimal z 1) value_is c.normal.ensures.value
 
 pub returns-clause-range : goal.returns-clause-range
 returns-clause-range c =
-    let is = to_z-of_z w64 c.anomaly_tenths.result (record { sfits = c.anomaly_tenths.type_inv }) in
-    let n = c.anomaly_tenths.result in
-    from_to (neg_ℤ (pos 65)) (pos 65) n 1 1 c.normal.result (subst (λ (z : ℤ). value_of c.normal.result ≈ decimal z 1) is c.normal.ensures.value)
-    (low n (c.anomaly_tenths.ensures.size)) (high n (c.anomaly_tenths.ensures.size))
+    let number_is = to_z-of_z w64 c.anomaly_tenths.result (record { sfits = c.anomaly_tenths.type_inv }) in
+    let tenths = c.anomaly_tenths.result in
+    from_to (neg_ℤ (pos 65)) (pos 65) tenths 1 1 c.normal.result (subst (λ (z : ℤ). value_of c.normal.result ≈ decimal z 1) number_is c.normal.ensures.value)
+    (low tenths (c.anomaly_tenths.ensures.size)) (high tenths (c.anomaly_tenths.ensures.size))

@@ -11,10 +11,10 @@ counted k n e = omega (arith, e)
 pub loop-k-preserved : goal.loop-k-preserved
 loop-k-preserved c =
     let all = c.loop-k.all.items in
-    let e = c.satellite.result in
+    let element = c.satellite.result in
     record {
       records = subst (λ (es : List Eph). AreSatellites c.args.letter 0 es) (sym c.in_ok-push.ensures.items)
-          (one_more c.args.letter 0 all e c.loop-k.invariant.records (subst (λ (i : ℕ). IsSatellite c.args.letter i e)
+          (one_more c.args.letter 0 all element c.loop-k.invariant.records (subst (λ (i : ℕ). IsSatellite c.args.letter i element)
           (counted c.loop-k.k (length all) c.loop-k.invariant.count) c.satellite.ensures.values) c.satellite.ensures.normal);
-      count = ap (λ (es : List Eph). length es) c.in_ok-push.ensures.items ∙ length_push all e ∙ ap (λ (n : ℕ). n + 1) c.loop-k.invariant.count;
+      count = ap (λ (es : List Eph). length es) c.in_ok-push.ensures.items ∙ length_push all element ∙ ap (λ (n : ℕ). n + 1) c.loop-k.invariant.count;
     }

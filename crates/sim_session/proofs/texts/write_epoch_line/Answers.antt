@@ -12,8 +12,8 @@ count n h = omega (arith, ints)
 pub returns : goal.returns
 unfolding epoch_line
 returns c =
-    let s = second c.args.seconds in
-    let n = count c.args.sats c.ranges.sats.fits in
+    let second_is = second c.args.seconds in
+    let count_is = count c.args.sats c.ranges.sats.fits in
     rw (
       c.in_ok-extend_from_slice-4.ensures.items,
       c.in_ok-push_fixed-2.ensures,
@@ -23,6 +23,6 @@ returns c =
       c.in_ok-extend_from_slice-2.ensures.items,
       c.in_ok-push_digits.ensures,
       c.in_ok-extend_from_slice.ensures.items,
-      s,
-      n,
+      second_is,
+      count_is,
     ) (simp append_assoc)

@@ -13,6 +13,6 @@ one_more out between after amounts k a h e f g =
 
 pub loop-amount-preserved : goal.loop-amount-preserved
 loop-amount-preserved c =
-    let k = c.loop-amount.amount-index in
-    one_more c.loop-amount.out.items _ _ c.args.amounts.now k _ c.loop-amount-test.true c.in_ok-extend_from_slice.ensures.items c.in_ok-push_fixed.ensures
-    (plain (get_or c.args.amounts.now k (pos 0)) (c.requires k (pos 0) c.loop-amount-test.true)) ∙ c.loop-amount.invariant
+    let place = c.loop-amount.amount-index in
+    one_more c.loop-amount.out.items _ _ c.args.amounts.now place _ c.loop-amount-test.true c.in_ok-extend_from_slice.ensures.items c.in_ok-push_fixed.ensures
+    (plain (get_or c.args.amounts.now place (pos 0)) (c.requires place (pos 0) c.loop-amount-test.true)) ∙ c.loop-amount.invariant

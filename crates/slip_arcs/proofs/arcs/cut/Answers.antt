@@ -14,9 +14,9 @@ use Rattle.slip_arcs.proofs.arcs.cut.Goals.{else-at-gt0-via-then-at-gt0+else-doe
 pub sats-preserved-then-does_go_on : goal.sats-preserved-then-does_go_on
 sats-preserved-then-does_go_on c =
     let below : c.sats.k < length (sats_at c.args.used.now c.pairs.at) = omega (arith, length_at c.args.used.now c.pairs.at c.index-used-at.result c.pairs-test.true, c.len-k-end.ensures) in
-    let is : slice_get (sats_at c.args.used.now c.pairs.at) c.sats.k ≡ Some c.index.result.now = sat_at _ _ _ _ _ c.pairs-test.true below c.index.ensures in
+    let sat_found : slice_get (sats_at c.args.used.now c.pairs.at) c.sats.k ≡ Some c.index.result.now = sat_at _ _ _ _ _ c.pairs-test.true below c.index.ensures in
     record {
-      done = done_skip (bands_of c.args.bands) c.args.jump c.args.least c.args.used.now c.pairs.at c.sats.k _ _ c.index.result.now (c.pairs.at - 1) is
+      done = done_skip (bands_of c.args.bands) c.args.jump c.args.least c.args.used.now c.pairs.at c.sats.k _ _ c.index.result.now (c.pairs.at - 1) sat_found
           (omega arith) (sym c.if-does_go_on.ensures) c.sats.invariant.done;
       marked = c.sats.invariant.marked;
     }
@@ -24,7 +24,7 @@ sats-preserved-then-does_go_on c =
 pub sats-preserved : goal.sats-preserved
 sats-preserved c =
     let below : c.sats.k < length (sats_at c.args.used.now c.pairs.at) = omega (arith, length_at c.args.used.now c.pairs.at c.index-used-at.result c.pairs-test.true, c.len-k-end.ensures) in
-    let is : slice_get (sats_at c.args.used.now c.pairs.at) c.sats.k ≡ Some c.index.result.now = sat_at _ _ _ _ _ c.pairs-test.true below c.index.ensures in
+    let sat_found : slice_get (sats_at c.args.used.now c.pairs.at) c.sats.k ≡ Some c.index.result.now = sat_at _ _ _ _ _ c.pairs-test.true below c.index.ensures in
     let begins : (h : ℕ) → h + 1 ≡ c.pairs.at → goes_on (bands_of c.args.bands) c.args.jump c.args.used.now c.index.result.now.sat h ≡ false =
     elim c.else-at-gt0.branch [
       | else-at-gt0-via-then-at-gt0+else-does_go_on w ↦
@@ -34,7 +34,7 @@ sats-preserved c =
       | else-at-gt0-via-else-at-gt0 w ↦ λ h next. absurd (omega arith)
     ] in
     record {
-      done = done_add (bands_of c.args.bands) c.args.jump c.args.least c.args.used.now c.pairs.at c.sats.k _ _ _ _ _ _ c.index.result.now c.last_of-last.result is
+      done = done_add (bands_of c.args.bands) c.args.jump c.args.least c.args.used.now c.pairs.at c.sats.k _ _ _ _ _ _ c.index.result.now c.last_of-last.result sat_found
           (rising_at _ _ c.requires.ranges c.pairs-test.true) begins c.last_of-last.ensures.order c.last_of-last.ensures.held c.last_of-last.ensures.ends c.in_ok-add.ensures c.sats.invariant.done;
       marked = marked_add c.args.least c.pairs.at _ _ _ _ _ _ _ _ c.last_of-last.ensures.order c.in_ok-add.ensures c.sats.invariant.marked;
     }

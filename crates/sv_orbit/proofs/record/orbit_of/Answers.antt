@@ -8,30 +8,30 @@ use Rattle.eph_store.specs.Decimals.{value_of}
 use Rattle.sv_orbit.proofs.record.orbit_of.Goals as goal
 
 pub eccentric_pair-requires-clause-mean_narrow : goal.eccentric_pair-requires-clause-mean_narrow
-eccentric_pair-requires-clause-mean_narrow c = let n = c.args.timing.now.mean.narrow in omega (arith, ints, n)
+eccentric_pair-requires-clause-mean_narrow c = let narrow = c.args.timing.now.mean.narrow in omega (arith, ints, narrow)
 
 pub eccentric_pair-requires-clause-eccentricity_narrow : goal.eccentric_pair-requires-clause-eccentricity_narrow
-eccentric_pair-requires-clause-eccentricity_narrow c = let n = c.args.made.now.clock.eccentricity.narrow in omega (arith, ints, n)
+eccentric_pair-requires-clause-eccentricity_narrow c = let narrow = c.args.made.now.clock.eccentricity.narrow in omega (arith, ints, narrow)
 
 pub returns : goal.returns
 returns c = λ sent world q n t.
-    let r = c.args.made.now in
-    let s = n.solves in
+    let made = c.args.made.now in
+    let solves = n.solves in
     record {
-      eccentricity = r.eccentricity_in;
-      anomaly = c.eccentric_pair.ensures.holds q.mean (value_of r.clock.eph.ecc) q.eccentric q.eccentric_pair t.mean r.clock.eccentricity_in s.kepler;
-      axis = r.axis_in q.axis s.semi_major_axis;
+      eccentricity = made.eccentricity_in;
+      anomaly = c.eccentric_pair.ensures.holds q.mean (value_of made.clock.eph.ecc) q.eccentric q.eccentric_pair t.mean made.clock.eccentricity_in solves.kepler;
+      axis = made.axis_in q.axis solves.semi_major_axis;
       epoch_time = subst (λ (b : Iv 60). Holds b (part q.tk)) (sym c.loose.ensures) t.epoch_time;
-      perigee = r.perigee_in;
-      inclination = r.inclination_in;
-      node = r.node_in;
-      inclination_rate = r.inclination_rate_in;
-      node_rate = r.node_rate_in;
-      cuc = r.cuc_in;
-      cus = r.cus_in;
-      cic = r.cic_in;
-      cis = r.cis_in;
-      crc = r.crc_in;
-      crs = r.crs_in;
-      earth_turn = r.earth_turn_in;
+      perigee = made.perigee_in;
+      inclination = made.inclination_in;
+      node = made.node_in;
+      inclination_rate = made.inclination_rate_in;
+      node_rate = made.node_rate_in;
+      cuc = made.cuc_in;
+      cus = made.cus_in;
+      cic = made.cic_in;
+      cis = made.cis_in;
+      crc = made.crc_in;
+      crs = made.crs_in;
+      earth_turn = made.earth_turn_in;
     }

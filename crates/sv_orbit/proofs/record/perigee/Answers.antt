@@ -4,5 +4,5 @@ use Rattle.sv_orbit.proofs.record.perigee.Goals as goal
 
 pub returns : goal.returns
 returns c = λ p k.
-    let x = value_of c.args.eph.now.peri in
-    c.rotation_of.ensures.holds x p (holds_own 56 c.decimal_box.result.held x c.decimal_box.ensures) k
+    let perigee = value_of c.args.eph.now.peri in
+    c.rotation_of.ensures.holds perigee p (holds_own 56 c.decimal_box.result.held perigee c.decimal_box.ensures) k

@@ -12,7 +12,7 @@ use Rattle.sv_orbit.proofs.record.sv_at.Goals as goal
 
 pub returns : goal.returns
 returns c = λ q s.
-    let d : Elements = elements_of c.args.eph.now in
-    let same : constants_of c.gps.result ≡ gps = ap₂ (λ (m r : ℤ). let k : Constants = record { mu = of_whole m; relativity = decimal r 19 } in k) c.gps.ensures.mu c.gps.ensures.rel in
-    c.sv_with.ensures q (subst (λ (k : ℤ). IsNearSolution (constants_of c.gps.result) d (sent_at c.args.tag.0 k) q) (sym (to_z-of_z w64 c.args.code c.ranges.code))
-    (subst (λ (w : Constants). IsNearSolution w d (sent_at c.args.tag.0 c.args.code) q) (sym same) s))
+    let elements : Elements = elements_of c.args.eph.now in
+    let same : constants_of c.gps.result ≡ gps = ap₂ (λ (m r : ℤ). let constants : Constants = record { mu = of_whole m; relativity = decimal r 19 } in constants) c.gps.ensures.mu c.gps.ensures.rel in
+    c.sv_with.ensures q (subst (λ (k : ℤ). IsNearSolution (constants_of c.gps.result) elements (sent_at c.args.tag.0 k) q) (sym (to_z-of_z w64 c.args.code c.ranges.code))
+    (subst (λ (w : Constants). IsNearSolution w elements (sent_at c.args.tag.0 c.args.code) q) (sym same) s))

@@ -10,8 +10,8 @@ use Rattle.sv_orbit.proofs.record.sv_from.Goals as goal
 
 pub returns : goal.returns
 returns c = λ q s.
-    let w : Constants = constants_of c.args.made.now.clock.world in
-    let d : Elements = elements_of c.args.made.now.clock.eph in
+    let constants : Constants = constants_of c.args.made.now.clock.world in
+    let elements : Elements = elements_of c.args.made.now.clock.eph in
     let sent : Rational = sent_at c.args.tag.0 c.args.code in
-    let t = c.timing_at-timing.ensures q (subst (λ (k : ℤ). IsNearSolution w d (sent_at c.args.tag.0 k) q) (sym (to_z-of_z w64 c.args.code c.ranges.code)) s) in
-    record { place = c.place_of.ensures.holds w (with_share d s.share) sent q (c.orbit_of-orbit.ensures sent w q s t) s.solves; clock = t.clock }
+    let timing_holds = c.timing_at-timing.ensures q (subst (λ (k : ℤ). IsNearSolution constants elements (sent_at c.args.tag.0 k) q) (sym (to_z-of_z w64 c.args.code c.ranges.code)) s) in
+    record { place = c.place_of.ensures.holds constants (with_share elements s.share) sent q (c.orbit_of-orbit.ensures sent constants q s timing_holds) s.solves; clock = timing_holds.clock }

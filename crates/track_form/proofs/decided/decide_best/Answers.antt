@@ -15,10 +15,10 @@ use Rattle.track_form.proofs.decided.decide_best.Goals as goal
 -- as many integers as the fronts have
 pub moves_at-requires-clause-count : goal.moves_at-requires-clause-count
 moves_at-requires-clause-count c = λ k d l.
-    let t = c.args.track.now in
-    let ss = fine_signals t.signals in
-    first_length c.args.form.now c.args.best.now c.requires.best ∙ c.requires.best.size ∙ integers_are t.arcs ss t.pairs c.requires.form.0 c.args.form.now c.requires.form.1
-    ∙ fewer (integer_count t.arcs ss) _ (columns_of_factors t.arcs ss t.pairs c.args.factors.now c.requires.factors k d l)
+    let track = c.args.track.now in
+    let signals = fine_signals track.signals in
+    first_length c.args.form.now c.args.best.now c.requires.best ∙ c.requires.best.size ∙ integers_are track.arcs signals track.pairs c.requires.form.0 c.args.form.now c.requires.form.1
+    ∙ fewer (integer_count track.arcs signals) _ (columns_of_factors track.arcs signals track.pairs c.args.factors.now c.requires.factors k d l)
   where
     fewer : (i k : ℕ) → k ≡ 4 + i → i ≡ k - 4
     fewer i k e = omega (arith, e)
@@ -28,28 +28,28 @@ moves_at-requires-clause-size c = λ i inside. first_small c.args.best.now.size 
 
 pub decide_moved-requires-clause-form : goal.decide_moved-requires-clause-form
 decide_moved-requires-clause-form c =
-    let t = c.args.track.now in
-    let ss = fine_signals t.signals in
-    let z = first_of c.args.best.now in
-    let f = c.requires.form in
-    let moves : c.in-Ok.moves.items ≡ map (move_by z) c.args.factors.now = IfOk-at_ok (λ m. m.items ≡ map (move_by z) c.args.factors.now) c.in-Ok.is c.in_ok-moves.ensures.moves in
-    (f.0, (f.1, moves ∙ moves_are t.arcs ss z t.pairs c.args.factors.now f.0 c.requires.factors f.1.of_fronts.of_pairs))
+    let track = c.args.track.now in
+    let signals = fine_signals track.signals in
+    let first_best = first_of c.args.best.now in
+    let form_stands = c.requires.form in
+    let moves : c.in-Ok.moves.items ≡ map (move_by first_best) c.args.factors.now = IfOk-at_ok (λ m. m.items ≡ map (move_by first_best) c.args.factors.now) c.in-Ok.is c.in_ok-moves.ensures.moves in
+    (form_stands.0, (form_stands.1, moves ∙ moves_are track.arcs signals first_best track.pairs c.args.factors.now form_stands.0 c.requires.factors form_stands.1.of_fronts.of_pairs))
 
 pub returns-in-Err-clause-decision : goal.returns-in-Err-clause-decision
 returns-in-Err-clause-decision c =
-    let t = c.args.track.now in
-    let ss = fine_signals t.signals in
-    let z = first_of c.args.best.now in
-    let f = c.requires.form in
+    let track = c.args.track.now in
+    let signals = fine_signals track.signals in
+    let first_best = first_of c.args.best.now in
+    let form_stands = c.requires.form in
     let place : c.in-Err.wide.place ≡ Float = IfErr-at_err (λ e. e.place ≡ Float) c.in-Err.is c.in_ok-moves.ensures.place in
-    let wide : Any (λ p. HasWide (move_by z p)) c.args.factors.now = IfErr-at_err (λ e. Any (λ p. HasWide (move_by z p)) c.args.factors.now) c.in-Err.is c.in_ok-moves.ensures.wide in
-    λ budget kept. wide_told t.arcs ss t.pairs c.args.ratio budget c.in-Err.wide.place Float place
+    let wide : Any (λ p. HasWide (move_by first_best p)) c.args.factors.now = IfErr-at_err (λ e. Any (λ p. HasWide (move_by first_best p)) c.args.factors.now) c.in-Err.is c.in_ok-moves.ensures.wide in
+    λ budget kept. wide_told track.arcs signals track.pairs c.args.ratio budget c.in-Err.wide.place Float place
     (record {
-      fronts = f.0;
+      fronts = form_stands.0;
       form = c.args.form.now;
-      of_rows = f.1;
+      of_rows = form_stands.1;
       best = c.args.best.now;
       best_is = c.requires.best;
       visits = kept;
-      wide = wide_front t.arcs ss z t.pairs c.args.factors.now f.0 c.requires.factors f.1.of_fronts.of_pairs wide;
+      wide = wide_front track.arcs signals first_best track.pairs c.args.factors.now form_stands.0 c.requires.factors form_stands.1.of_fronts.of_pairs wide;
     })

@@ -11,23 +11,23 @@ returns-clause-verdict c = record { decided = c.in_ok-decided.decided; decision 
 pub returns-clause-strictly_best : goal.returns-clause-strictly_best
 returns-clause-strictly_best c = λ e.
     let cert = c.args.cert.now in
-    let t = cert.track in
+    let track = cert.track in
     let certified : c.said_of.result ≡ Certified = cc in
-    best_said t.arcs (fine_signals t.signals) t.pairs c.in_ok-decided.decided cert.tail c.in_ok-decided.ensures.strictly_best
+    best_said track.arcs (fine_signals track.signals) track.pairs c.in_ok-decided.decided cert.tail c.in_ok-decided.ensures.strictly_best
     (subst (IsSaidOf c.in_ok-decided.decided cert.tail) certified c.said_of.ensures)
 
 pub returns-clause-by_ratio : goal.returns-clause-by_ratio
 returns-clause-by_ratio c = λ e.
     let cert = c.args.cert.now in
-    let t = cert.track in
+    let track = cert.track in
     let certified : c.said_of.result ≡ Certified = cc in
-    certified_by_ratio t.arcs (fine_signals t.signals) t.pairs cert.ratio cert.budget cert.tail
+    certified_by_ratio track.arcs (fine_signals track.signals) track.pairs cert.ratio cert.budget cert.tail
     (record { decided = c.in_ok-decided.decided; decision = c.in_ok-decided.ensures.decision; said = subst (IsSaidOf c.in_ok-decided.decided cert.tail) certified c.said_of.ensures })
 
 pub returns-clause-only : goal.returns-clause-only
 returns-clause-only c =
     let cert = c.args.cert.now in
-    let t = cert.track in
-    let verdict : IsTrackVerdict t.arcs (fine_signals t.signals) t.pairs cert.ratio cert.budget cert.tail c.said_of.result =
+    let track = cert.track in
+    let verdict : IsTrackVerdict track.arcs (fine_signals track.signals) track.pairs cert.ratio cert.budget cert.tail c.said_of.result =
     record { decided = c.in_ok-decided.decided; decision = c.in_ok-decided.ensures.decision; said = c.said_of.ensures } in
-    λ w is. one_verdict t.arcs (fine_signals t.signals) t.pairs cert.ratio cert.budget cert.tail w c.said_of.result is verdict
+    λ w is. one_verdict track.arcs (fine_signals track.signals) track.pairs cert.ratio cert.budget cert.tail w c.said_of.result is verdict

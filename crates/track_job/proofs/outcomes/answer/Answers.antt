@@ -12,18 +12,18 @@ use Rattle.track_job.proofs.outcomes.answer.Goals as goal
 
 pub free_count-requires : goal.free_count-requires
 free_count-requires c =
-    let f = c.args.files.now in
-    subst (λ (l : List Arc). length l ≤ MOST_KEPT_ARCS) (sym c.as_slice-kept.ensures) (kept_few f.screened.used f.arcs.kept c.requires.cut f.screened.ranges f.screened.numbered f.screened.few)
+    let files = c.args.files.now in
+    subst (λ (l : List Arc). length l ≤ MOST_KEPT_ARCS) (sym c.as_slice-kept.ensures) (kept_few files.screened.used files.arcs.kept c.requires.cut files.screened.ranges files.screened.numbered files.screened.few)
 
 pub track_at-requires-clause-arcs : goal.track_at-requires-clause-arcs
 track_at-requires-clause-arcs c =
-    let f = c.args.files.now in
+    let files = c.args.files.now in
     let of_slice = c.as_slice-kept.ensures in
-    let on : IsTrackable f.arcs.kept c.args.taken = record {
+    let is_trackable : IsTrackable files.arcs.kept c.args.taken = record {
       not_few = λ few. false≢true (c.if-are_few.ensures.1 (subst (AreFew c.args.taken) (sym of_slice) few));
       not_many = λ many. false≢true (c.if-are_many.ensures.1 (subst AreMany (sym of_slice) many));
     } in
-    subst AreArcs (sym of_slice) (trackable_arcs f.screened f.arcs.kept c.args.taken c.requires.cut c.requires.shifts on)
+    subst AreArcs (sym of_slice) (trackable_arcs files.screened files.arcs.kept c.args.taken c.requires.cut c.requires.shifts is_trackable)
 
 pub returns-then-are_few : goal.returns-then-are_few
 returns-then-are_few c = (refl, (subst (AreFew c.args.taken) c.as_slice-kept.ensures (c.if-are_few.ensures.0 refl), c.none_lost.ensures))
@@ -40,12 +40,12 @@ returns-then-are_many c =
 
 pub returns : goal.returns
 returns c =
-    let f = c.args.files.now in
+    let files = c.args.files.now in
     let begun = c.args.begun.now in
     let of_slice = c.as_slice-kept.ensures in
-    let on : IsTrackable f.arcs.kept c.args.taken = record {
+    let is_trackable : IsTrackable files.arcs.kept c.args.taken = record {
       not_few = λ few. false≢true (c.if-are_few.ensures.1 (subst (AreFew c.args.taken) (sym of_slice) few));
       not_many = λ many. false≢true (c.if-are_many.ensures.1 (subst AreMany (sym of_slice) many));
     } in
-    c.decided.ensures f.screened f.arcs.kept begun.position begun.signals on
-    (subst (λ (l : List Arc). IsTrackOf f.screened l begun.position begun.signals c.args.options.now.system c.in_ok-tracked.tracked) of_slice c.in_ok-tracked.ensures.track)
+    c.decided.ensures files.screened files.arcs.kept begun.position begun.signals is_trackable
+    (subst (λ (l : List Arc). IsTrackOf files.screened l begun.position begun.signals c.args.options.now.system c.in_ok-tracked.tracked) of_slice c.in_ok-tracked.ensures.track)

@@ -29,15 +29,15 @@ new-session-requires-clause-shifts c =
 
 pub push-requires-clause-arcs : goal.push-requires-clause-arcs
 push-requires-clause-arcs c =
-    let t : TrackSetting = setting_of c.args.files.now in
-    let e : c.new-session.result.arcs ≡ c.args.arcs.now = c.new-session.ensures.arcs ∙ c.new-held.ensures ∙ c.in_ok-from_slice.ensures.items in
-    subst (λ (xs : List Arc). HasItsArcs xs c.in_ok-rows.rows) (sym e) (has_arcs (rows_setting t c.args.arcs.now c.args.point.now c.args.scale) c.args.pair c.in_ok-rows.rows c.in_ok-rows.ensures.rows)
+    let setting : TrackSetting = setting_of c.args.files.now in
+    let same_arcs : c.new-session.result.arcs ≡ c.args.arcs.now = c.new-session.ensures.arcs ∙ c.new-held.ensures ∙ c.in_ok-from_slice.ensures.items in
+    subst (λ (xs : List Arc). HasItsArcs xs c.in_ok-rows.rows) (sym same_arcs) (has_arcs (rows_setting setting c.args.arcs.now c.args.point.now c.args.scale) c.args.pair c.in_ok-rows.rows c.in_ok-rows.ensures.rows)
 
 pub push-requires-clause-rows : goal.push-requires-clause-rows
 push-requires-clause-rows c =
-    let t : TrackSetting = setting_of c.args.files.now in
+    let setting : TrackSetting = setting_of c.args.files.now in
     subst (λ (q : Signals). HasUsedRows (fine_signals q) c.in_ok-rows.rows) (sym c.new-session.ensures.signals)
-    (used_rows (rows_setting t c.args.arcs.now c.args.point.now c.args.scale) c.args.pair c.in_ok-rows.rows c.in_ok-rows.ensures.rows)
+    (used_rows (rows_setting setting c.args.arcs.now c.args.point.now c.args.scale) c.args.pair c.in_ok-rows.rows c.in_ok-rows.ensures.rows)
 
 pub returns-clause-session : goal.returns-clause-session
 returns-clause-session c =

@@ -10,30 +10,30 @@ use Rattle.track_rows.proofs.shifts.tried_arc.Goals as goal
 
 pub returns-then-begun-k-clause-tried : goal.returns-then-begun-k-clause-tried
 returns-then-begun-k-clause-tried c = λ a is.
-    let t : TrackSetting = setting_of c.args.files.now in
-    let e : Arc = record { sat = 0; first = 0; last = 0; datum = false; shift = [] } in
+    let setting : TrackSetting = setting_of c.args.files.now in
+    let no_arc : Arc = record { sat = 0; first = 0; last = 0; datum = false; shift = [] } in
     let arcs : List Arc = c.args.arcs.now in
     let begun : List Bool = c.args.begun.now in
     let inside : c.args.k < length begun = omega arith in
-    begun_arc t (flagged begun c.args.k) c.args.pair c.args.point.now a (get_or arcs c.args.k e) (get_or_from_slice_get arcs c.args.k a e is)
+    begun_arc setting (flagged begun c.args.k) c.args.pair c.args.point.now a (get_or arcs c.args.k no_arc) (get_or_from_slice_get arcs c.args.k a no_arc is)
     (slice_get-get_or begun c.args.k false inside ∙ ap (λ (b : Bool). Some b) c.if-begun-k.true)
 
 pub returns-in-None-clause-tried : goal.returns-in-None-clause-tried
 returns-in-None-clause-tried c = λ a is.
-    let t : TrackSetting = setting_of c.args.files.now in
-    let e : Arc = record { sat = 0; first = 0; last = 0; datum = false; shift = [] } in
+    let setting : TrackSetting = setting_of c.args.files.now in
+    let no_arc : Arc = record { sat = 0; first = 0; last = 0; datum = false; shift = [] } in
     let arcs : List Arc = c.args.arcs.now in
-    other_arc t (flagged c.args.begun.now c.args.k) c.args.pair c.args.point.now arcs c.args.k a (get_or arcs c.args.k e) c.requires.same is (get_or_from_slice_get arcs c.args.k a e is)
+    other_arc setting (flagged c.args.begun.now c.args.k) c.args.pair c.args.point.now arcs c.args.k a (get_or arcs c.args.k no_arc) c.requires.same is (get_or_from_slice_get arcs c.args.k a no_arc is)
     (λ x there. (c.in-None.ensures.none x there).0 refl)
 
 pub returns-in-Some-clause-tried : goal.returns-in-Some-clause-tried
 returns-in-Some-clause-tried c = λ a is.
-    let t : TrackSetting = setting_of c.args.files.now in
-    let e : Arc = record { sat = 0; first = 0; last = 0; datum = false; shift = [] } in
+    let setting : TrackSetting = setting_of c.args.files.now in
+    let no_arc : Arc = record { sat = 0; first = 0; last = 0; datum = false; shift = [] } in
     let arcs : List Arc = c.args.arcs.now in
     let begun : List Bool = c.args.begun.now in
-    subst (λ (x : Arc). IsTriedArc t (flagged begun c.args.k) c.args.pair c.args.point.now a (record x { shift = c.in-Some.shift })) (sym (get_or_from_slice_get arcs c.args.k a e is))
-    (taken_arc t (flagged begun c.args.k) c.args.pair c.args.point.now arcs c.args.k a c.in-Some.shift c.requires.same is
+    subst (λ (x : Arc). IsTriedArc setting (flagged begun c.args.k) c.args.pair c.args.point.now a (record x { shift = c.in-Some.shift })) (sym (get_or_from_slice_get arcs c.args.k a no_arc is))
+    (taken_arc setting (flagged begun c.args.k) c.args.pair c.args.point.now arcs c.args.k a c.in-Some.shift c.requires.same is
     (λ flag. absurd (false≢true (sym c.if-begun-k.false ∙ get_or_from_slice_get begun c.args.k true false flag)))
     (λ x there off. none-some c.in-Some.shift (sym ((c.in-Some.ensures.none x there).1 off)))
     (λ x there. c.in-Some.ensures.near x there))
@@ -43,10 +43,10 @@ returns-in-Some-clause-small c = below_more c.in-Some.shift c.in-Some.ensures.si
 
 pub returns-in-Some-clause-used : goal.returns-in-Some-clause-used
 returns-in-Some-clause-used c =
-    let e : Arc = record { sat = 0; first = 0; last = 0; datum = false; shift = [] } in
+    let no_arc : Arc = record { sat = 0; first = 0; last = 0; datum = false; shift = [] } in
     let kept : List Arc = c.args.files.now.kept.now in
     let inside : c.args.k < length kept = omega arith in
-    (c.in-Some.ensures.near (get_or kept c.args.k e) (slice_get-get_or kept c.args.k e inside)).unused
+    (c.in-Some.ensures.near (get_or kept c.args.k no_arc) (slice_get-get_or kept c.args.k no_arc inside)).unused
 
 pub invariant_of-from : goal.invariant_of-from
 invariant_of-from c = record { sights_hold = no_sights c.args.files.now.screened.now.boxes c.args.point.now }

@@ -21,31 +21,31 @@ tried_arc-requires-clause-small c = shifts_in_range c.args.arcs.now c.requires.a
 
 pub loop-k-preserved : goal.loop-k-preserved
 loop-k-preserved c =
-    let f = c.args.files.now in
+    let files = c.args.files.now in
     let pushed : c.push.new.self.items ≡ c.loop-k.tried.items ++ c.tried_arc.result ∷ [] = c.in_ok-push.ensures.items in
     record {
-      tried = more_tried (setting_of f) c.args.arcs.now (flagged c.args.begun.now) c.args.pair c.args.point.now c.loop-k.k c.loop-k.tried.items c.push.new.self.items
+      tried = more_tried (setting_of files) c.args.arcs.now (flagged c.args.begun.now) c.args.pair c.args.point.now c.loop-k.k c.loop-k.tried.items c.push.new.self.items
           c.tried_arc.result c.loop-k.invariant.tried c.tried_arc.ensures.tried pushed;
       small = subst (AreShiftsBelow (2 ^ 40)) (sym pushed)
           (All-push (λ (b : Arc). All (IsBelow (2 ^ 40)) b.shift) c.loop-k.tried.items c.tried_arc.result c.loop-k.invariant.small c.tried_arc.ensures.small);
-      used = subst (All (HasUsedShifts (fine_signals f.signals))) (sym pushed)
-          (All-push (HasUsedShifts (fine_signals f.signals)) c.loop-k.tried.items c.tried_arc.result c.loop-k.invariant.used c.tried_arc.ensures.used);
+      used = subst (All (HasUsedShifts (fine_signals files.signals))) (sym pushed)
+          (All-push (HasUsedShifts (fine_signals files.signals)) c.loop-k.tried.items c.tried_arc.result c.loop-k.invariant.used c.tried_arc.ensures.used);
     }
 
 pub returns-clause-tried : goal.returns-clause-tried
 returns-clause-tried c =
-    let t : TrackSetting = setting_of c.args.files.now in
-    all_tried t c.args.arcs.now (flagged c.args.begun.now) c.args.pair c.args.point.now c.loop-k.k c.loop-k.tried.items c.requires.same (omega arith) c.loop-k.invariant.tried
+    let setting : TrackSetting = setting_of c.args.files.now in
+    all_tried setting c.args.arcs.now (flagged c.args.begun.now) c.args.pair c.args.point.now c.loop-k.k c.loop-k.tried.items c.requires.same (omega arith) c.loop-k.invariant.tried
 
 pub returns-clause-others : goal.returns-clause-others
 returns-clause-others c =
-    let t : TrackSetting = setting_of c.args.files.now in
-    keeps_others t c.args.arcs.now (flagged c.args.begun.now) c.args.pair c.args.point.now c.loop-k.k c.loop-k.tried.items c.loop-k.invariant.tried
+    let setting : TrackSetting = setting_of c.args.files.now in
+    keeps_others setting c.args.arcs.now (flagged c.args.begun.now) c.args.pair c.args.point.now c.loop-k.k c.loop-k.tried.items c.loop-k.invariant.tried
 
 pub returns-clause-arcs : goal.returns-clause-arcs
 returns-clause-arcs c =
-    let t : TrackSetting = setting_of c.args.files.now in
-    let e : c.loop-k.k ≡ length c.args.arcs.now = omega arith in
-    arcs_along t.kept c.loop-k.tried.items
-    (same_tried t c.args.arcs.now (flagged c.args.begun.now) c.args.pair c.args.point.now c.loop-k.k c.loop-k.tried.items c.requires.same e c.loop-k.invariant.tried)
+    let setting : TrackSetting = setting_of c.args.files.now in
+    let all_arcs_done : c.loop-k.k ≡ length c.args.arcs.now = omega arith in
+    arcs_along setting.kept c.loop-k.tried.items
+    (same_tried setting c.args.arcs.now (flagged c.args.begun.now) c.args.pair c.args.point.now c.loop-k.k c.loop-k.tried.items c.requires.same all_arcs_done c.loop-k.invariant.tried)
     c.requires.ready.arcs c.loop-k.invariant.small

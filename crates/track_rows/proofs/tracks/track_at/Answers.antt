@@ -15,32 +15,32 @@ use Rattle.track_rows.proofs.tracks.track_at.Goals as goal
 
 pub walked-requires : goal.walked-requires
 walked-requires c =
-    let s = c.args.screened.now in
-    let e : c.as_slice.result.now ≡ map unshifted c.args.arcs.now = c.as_slice.ensures.value ∙ c.in_ok-kept.ensures in
+    let screened = c.args.screened.now in
+    let kept_are : c.as_slice.result.now ≡ map unshifted c.args.arcs.now = c.as_slice.ensures.value ∙ c.in_ok-kept.ensures in
     record {
-      cut = kept_cut s.used c.args.arcs.now c.as_slice.result.now e c.requires.cut;
-      arcs = kept_arcs c.args.arcs.now c.as_slice.result.now e c.requires.arcs;
-      unshifted = kept_unshifted c.args.arcs.now c.as_slice.result.now e;
+      cut = kept_cut screened.used c.args.arcs.now c.as_slice.result.now kept_are c.requires.cut;
+      arcs = kept_arcs c.args.arcs.now c.as_slice.result.now kept_are c.requires.arcs;
+      unshifted = kept_unshifted c.args.arcs.now c.as_slice.result.now kept_are;
       position_in = c.requires.base;
-      halves = subst (λ (halves : List Pseudorange). AreBaseHalves s.boxes c.args.base.now halves) (sym c.as_slice-2.ensures.value) c.in_ok-halves.ensures.halves;
+      halves = subst (λ (halves : List Pseudorange). AreBaseHalves screened.boxes c.args.base.now halves) (sym c.as_slice-2.ensures.value) c.in_ok-halves.ensures.halves;
       system_is = c.requires.system;
     }
 
 pub invariant_of-track : goal.invariant_of-track
 invariant_of-track c =
     let walk = c.in_ok-walk.walk in
-    let w = c.in_ok-walk.ensures in
-    let ss : List ℕ = fine_signals c.args.signals in
+    let walk_stands = c.in_ok-walk.ensures in
+    let signals : List ℕ = fine_signals c.args.signals in
     record {
       system_is = c.requires.system;
       base_in = receiver_is_point c.args.base.now c.requires.base;
-      arcs_in = subst AreArcs (sym c.new.ensures) w.fit.arcs_in;
-      points_in = subst (All IsPoint) (sym c.new-2.ensures) w.fit.points_in;
-      point_each = ap (λ (xs : List (List ℤ)). length xs) c.new-2.ensures ∙ w.is_track.point_each ∙ sym (ap (λ (xs : List PairRows). length xs) c.new-3.ensures);
+      arcs_in = subst AreArcs (sym c.new.ensures) walk_stands.fit.arcs_in;
+      points_in = subst (All IsPoint) (sym c.new-2.ensures) walk_stands.fit.points_in;
+      point_each = ap (λ (xs : List (List ℤ)). length xs) c.new-2.ensures ∙ walk_stands.is_track.point_each ∙ sym (ap (λ (xs : List PairRows). length xs) c.new-3.ensures);
       pairs_in = subst (λ (xs : List Arc). ArePairs xs c.new-3.result) (sym c.new.ensures) (subst (ArePairs walk.arcs.items) (sym c.new-3.ensures)
-          (walked_pairs _ (length c.args.screened.now.used) walk.arcs.items walk.begun.items walk.points.items walk.pairs.items walk.lost.items w c.args.screened.now.few));
-      rows_used = subst (All (HasUsedRows ss)) (sym c.new-3.ensures) w.fit.rows_used;
-      shifts_used = subst (All (HasUsedShifts ss)) (sym c.new.ensures) w.fit.shifts_used;
+          (walked_pairs _ (length c.args.screened.now.used) walk.arcs.items walk.begun.items walk.points.items walk.pairs.items walk.lost.items walk_stands c.args.screened.now.few));
+      rows_used = subst (All (HasUsedRows signals)) (sym c.new-3.ensures) walk_stands.fit.rows_used;
+      shifts_used = subst (All (HasUsedShifts signals)) (sym c.new.ensures) walk_stands.fit.shifts_used;
     }
 
 pub returns-clause-arcs : goal.returns-clause-arcs

@@ -13,62 +13,62 @@ use Rattle.track_rows.proofs.trials.try_at.Goals as goal
 
 pub fill-requires-clause-arcs : goal.fill-requires-clause-arcs
 fill-requires-clause-arcs c =
-    let t : TrackSetting = setting_of c.args.files.now in
+    let setting : TrackSetting = setting_of c.args.files.now in
     let point = c.args.point.now in
-    let v : List Arc = c.in_ok-tried.tried.items in
-    let are : ArePairRows (rows_setting t v point 0) c.args.pair c.in-Ok.rows = rows_there t c.args.pair point c.as_slice.result.now v c.in-Ok.rows c.as_slice.ensures.value c.in-Ok.ensures.rows in
-    has_kept t.kept v c.in-Ok.rows c.in_ok-tried.ensures.tried.same (has_arcs (rows_setting t v point 0) c.args.pair c.in-Ok.rows are)
+    let tried : List Arc = c.in_ok-tried.tried.items in
+    let are : ArePairRows (rows_setting setting tried point 0) c.args.pair c.in-Ok.rows = rows_there setting c.args.pair point c.as_slice.result.now tried c.in-Ok.rows c.as_slice.ensures.value c.in-Ok.ensures.rows in
+    has_kept setting.kept tried c.in-Ok.rows c.in_ok-tried.ensures.tried.same (has_arcs (rows_setting setting tried point 0) c.args.pair c.in-Ok.rows are)
 
 pub returns-in-Err-Overwidth-clause-trial : goal.returns-in-Err-Overwidth-clause-trial
 returns-in-Err-Overwidth-clause-trial c =
-    let t : TrackSetting = setting_of c.args.files.now in
+    let setting : TrackSetting = setting_of c.args.files.now in
     let arcs : List Arc = c.args.arcs.now in
     let begun = flagged c.args.begun.now in
     let point = c.args.point.now in
-    let v : List Arc = c.in_ok-tried.tried.items in
-    let trial : IsTried t arcs begun c.args.pair point v = is_tried t arcs begun c.args.pair point v c.requires.enough c.requires.settled c.in_ok-tried.ensures.tried in
-    lost_far t arcs begun c.args.pair point v trial
-    (subst (λ (l : List Arc). HasFarRow (rows_setting t l point 0) c.args.pair) c.as_slice.ensures.value (c.in-Err-Overwidth.ensures.far (ap Err c.in-Err-Overwidth.field-0-is)))
+    let tried : List Arc = c.in_ok-tried.tried.items in
+    let trial : IsTried setting arcs begun c.args.pair point tried = is_tried setting arcs begun c.args.pair point tried c.requires.enough c.requires.settled c.in_ok-tried.ensures.tried in
+    lost_far setting arcs begun c.args.pair point tried trial
+    (subst (λ (l : List Arc). HasFarRow (rows_setting setting l point 0) c.args.pair) c.as_slice.ensures.value (c.in-Err-Overwidth.ensures.far (ap Err c.in-Err-Overwidth.field-0-is)))
 
 pub returns-in-Ok-fill-clause-trial : goal.returns-in-Ok-fill-clause-trial
 returns-in-Ok-fill-clause-trial c =
-    let t : TrackSetting = setting_of c.args.files.now in
+    let setting : TrackSetting = setting_of c.args.files.now in
     let arcs : List Arc = c.args.arcs.now in
     let begun = flagged c.args.begun.now in
     let point = c.args.point.now in
-    let v : List Arc = c.in_ok-tried.tried.items in
-    let trial : IsTried t arcs begun c.args.pair point v = is_tried t arcs begun c.args.pair point v c.requires.enough c.requires.settled c.in_ok-tried.ensures.tried in
-    let are : ArePairRows (rows_setting t v point 0) c.args.pair c.in-Ok.rows = rows_there t c.args.pair point c.as_slice.result.now v c.in-Ok.rows c.as_slice.ensures.value c.in-Ok.ensures.rows in
-    (tracked_by t arcs begun c.args.pair point v c.in-Ok.rows c.fill.new.self.front trial are c.in-Ok-fill.ensures.front, c.in_ok-tried.ensures.others)
+    let tried : List Arc = c.in_ok-tried.tried.items in
+    let trial : IsTried setting arcs begun c.args.pair point tried = is_tried setting arcs begun c.args.pair point tried c.requires.enough c.requires.settled c.in_ok-tried.ensures.tried in
+    let are : ArePairRows (rows_setting setting tried point 0) c.args.pair c.in-Ok.rows = rows_there setting c.args.pair point c.as_slice.result.now tried c.in-Ok.rows c.as_slice.ensures.value c.in-Ok.ensures.rows in
+    (tracked_by setting arcs begun c.args.pair point tried c.in-Ok.rows c.fill.new.self.front trial are c.in-Ok-fill.ensures.front, c.in_ok-tried.ensures.others)
 
 pub returns-in-Ok-fill-clause-fits : goal.returns-in-Ok-fill-clause-fits
 returns-in-Ok-fill-clause-fits c =
-    let t : TrackSetting = setting_of c.args.files.now in
+    let setting : TrackSetting = setting_of c.args.files.now in
     let point = c.args.point.now in
-    let v : List Arc = c.in_ok-tried.tried.items in
-    let are : ArePairRows (rows_setting t v point 0) c.args.pair c.in-Ok.rows = rows_there t c.args.pair point c.as_slice.result.now v c.in-Ok.rows c.as_slice.ensures.value c.in-Ok.ensures.rows in
-    fits_track t c.args.pair point v c.in-Ok.rows c.requires.settled c.in_ok-tried.ensures.arcs c.in_ok-tried.ensures.used are
+    let tried : List Arc = c.in_ok-tried.tried.items in
+    let are : ArePairRows (rows_setting setting tried point 0) c.args.pair c.in-Ok.rows = rows_there setting c.args.pair point c.as_slice.result.now tried c.in-Ok.rows c.as_slice.ensures.value c.in-Ok.ensures.rows in
+    fits_track setting c.args.pair point tried c.in-Ok.rows c.requires.settled c.in_ok-tried.ensures.arcs c.in_ok-tried.ensures.used are
 
 pub returns-in-Err-Weak-clause-trial : goal.returns-in-Err-Weak-clause-trial
 returns-in-Err-Weak-clause-trial c =
-    let t : TrackSetting = setting_of c.args.files.now in
+    let setting : TrackSetting = setting_of c.args.files.now in
     let arcs : List Arc = c.args.arcs.now in
     let begun = flagged c.args.begun.now in
     let point = c.args.point.now in
-    let v : List Arc = c.in_ok-tried.tried.items in
-    let x = c.in-Err-Weak in
-    let trial : IsTried t arcs begun c.args.pair point v = is_tried t arcs begun c.args.pair point v c.requires.enough c.requires.settled c.in_ok-tried.ensures.tried in
-    let are : ArePairRows (rows_setting t v point 0) c.args.pair c.in-Ok.rows = rows_there t c.args.pair point c.as_slice.result.now v c.in-Ok.rows c.as_slice.ensures.value c.in-Ok.ensures.rows in
-    lost_weak t arcs begun c.args.pair point v c.in-Ok.rows x.field-0-0 x.field-0-1 trial are (subst (IsRefusedPair t.kept (fine_signals t.signals) c.in-Ok.rows) x.field-0-is x.ensures.refused)
+    let tried : List Arc = c.in_ok-tried.tried.items in
+    let refused = c.in-Err-Weak in
+    let trial : IsTried setting arcs begun c.args.pair point tried = is_tried setting arcs begun c.args.pair point tried c.requires.enough c.requires.settled c.in_ok-tried.ensures.tried in
+    let are : ArePairRows (rows_setting setting tried point 0) c.args.pair c.in-Ok.rows = rows_there setting c.args.pair point c.as_slice.result.now tried c.in-Ok.rows c.as_slice.ensures.value c.in-Ok.ensures.rows in
+    lost_weak setting arcs begun c.args.pair point tried c.in-Ok.rows refused.field-0-0 refused.field-0-1 trial are (subst (IsRefusedPair setting.kept (fine_signals setting.signals) c.in-Ok.rows) refused.field-0-is refused.ensures.refused)
 
 pub returns-clause-trial : goal.returns-clause-trial
 returns-clause-trial c =
-    let t : TrackSetting = setting_of c.args.files.now in
+    let setting : TrackSetting = setting_of c.args.files.now in
     let arcs : List Arc = c.args.arcs.now in
     let begun = flagged c.args.begun.now in
     let point = c.args.point.now in
-    let v : List Arc = c.in_ok-tried.tried.items in
-    let x = c.in-Err-Overwidth-fill in
-    let trial : IsTried t arcs begun c.args.pair point v = is_tried t arcs begun c.args.pair point v c.requires.enough c.requires.settled c.in_ok-tried.ensures.tried in
-    let are : ArePairRows (rows_setting t v point 0) c.args.pair c.in-Ok.rows = rows_there t c.args.pair point c.as_slice.result.now v c.in-Ok.rows c.as_slice.ensures.value c.in-Ok.ensures.rows in
-    lost_wide t arcs begun c.args.pair point v c.in-Ok.rows x.field-0-0 trial are (subst (IsRefusedPair t.kept (fine_signals t.signals) c.in-Ok.rows) x.field-0-is x.ensures.refused)
+    let tried : List Arc = c.in_ok-tried.tried.items in
+    let refused = c.in-Err-Overwidth-fill in
+    let trial : IsTried setting arcs begun c.args.pair point tried = is_tried setting arcs begun c.args.pair point tried c.requires.enough c.requires.settled c.in_ok-tried.ensures.tried in
+    let are : ArePairRows (rows_setting setting tried point 0) c.args.pair c.in-Ok.rows = rows_there setting c.args.pair point c.as_slice.result.now tried c.in-Ok.rows c.as_slice.ensures.value c.in-Ok.ensures.rows in
+    lost_wide setting arcs begun c.args.pair point tried c.in-Ok.rows refused.field-0-0 trial are (subst (IsRefusedPair setting.kept (fine_signals setting.signals) c.in-Ok.rows) refused.field-0-is refused.ensures.refused)

@@ -10,19 +10,19 @@ use Rattle.track_spelling.proofs.pairs.push_all_pairs.Goals as goal
 
 pub loop-k-preserved : goal.loop-k-preserved
 loop-k-preserved c =
-    let ss = fine_signals c.args.signals in
+    let signals = fine_signals c.args.signals in
     let pairs = c.args.pairs.now in
     let points = c.args.points.now in
-    let k = c.loop-k.k in
+    let place = c.loop-k.k in
     let inside = c.loop-k-test.true in
     let each = c.requires in
-    let within : k < length points = omega arith in
-    let p = c.index-pairs-k.result in
-    let is = c.index-pairs-k.is in
+    let within : place < length points = omega arith in
+    let pair = c.index-pairs-k.result in
+    let pair_is = c.index-pairs-k.is in
     record {
-      text = placed_pushed ss c.loop-k.out.items c.push_placed_pair.new.out.items _ pairs points k p _ inside within is c.in_ok-push_placed_pair.ensures.text c.loop-k.invariant.text;
-      whole = All-more IsWholePair pairs k p inside c.loop-k.invariant.whole (subst IsWholePair is c.in_ok-push_placed_pair.ensures.whole);
-      points = All-more (λ (m : List ℤ). length m ≡ 3) points k _ within c.loop-k.invariant.points c.in_ok-push_placed_pair.ensures.point;
+      text = placed_pushed signals c.loop-k.out.items c.push_placed_pair.new.out.items _ pairs points place pair _ inside within pair_is c.in_ok-push_placed_pair.ensures.text c.loop-k.invariant.text;
+      whole = All-more IsWholePair pairs place pair inside c.loop-k.invariant.whole (subst IsWholePair pair_is c.in_ok-push_placed_pair.ensures.whole);
+      points = All-more (λ (m : List ℤ). length m ≡ 3) points place _ within c.loop-k.invariant.points c.in_ok-push_placed_pair.ensures.point;
     }
 
 pub returns-clause-whole : goal.returns-clause-whole

@@ -9,18 +9,18 @@ use Rattle.track_spelling.proofs.parts.push_track.Goals as goal
 
 pub returns-clause-text : goal.returns-clause-text
 returns-clause-text c =
-    let t = c.args.track.now in
-    let ss = fine_signals t.signals in
+    let track = c.args.track.now in
+    let signals = fine_signals track.signals in
     let arcs = rw c.as_slice.ensures at c.in_ok-push_arcs.ensures.text in
     let pairs = rw (c.as_slice-2.ensures, c.as_slice-3.ensures) at c.push_pairs.ensures.text in
-    let behind = then_written c.push_head.new.out.items _ _ (counted_arcs ss t.arcs) (counted_placed_pairs ss t.pairs t.points) _ arcs pairs in
-    let head = track_head_lines c.args.ratio c.args.budget t.system t.base t.signals in
-    then_written c.args.out.now.items _ _ head (counted_arcs ss t.arcs ++ counted_placed_pairs ss t.pairs t.points) _ c.in_ok-push_head.ensures.text behind
+    let behind = then_written c.push_head.new.out.items _ _ (counted_arcs signals track.arcs) (counted_placed_pairs signals track.pairs track.points) _ arcs pairs in
+    let head = track_head_lines c.args.ratio c.args.budget track.system track.base track.signals in
+    then_written c.args.out.now.items _ _ head (counted_arcs signals track.arcs ++ counted_placed_pairs signals track.pairs track.points) _ c.in_ok-push_head.ensures.text behind
 
 pub returns-clause-whole : goal.returns-clause-whole
 returns-clause-whole c =
     let arcs = rw c.as_slice.ensures at c.in_ok-push_arcs.ensures.whole in
     let pairs = rw c.as_slice-2.ensures at c.push_pairs.ensures.whole in
     let points = rw c.as_slice-3.ensures at c.push_pairs.ensures.points in
-    let r = c.push_pairs.result in
-    on_ok_weaker r (λ each. record { base = c.in_ok-push_head.ensures.base; arcs = arcs; points = each.1; pairs = each.0 }) (both _ _ r pairs points)
+    let spelling = c.push_pairs.result in
+    on_ok_weaker spelling (λ each. record { base = c.in_ok-push_head.ensures.base; arcs = arcs; points = each.1; pairs = each.0 }) (both _ _ spelling pairs points)

@@ -9,13 +9,13 @@ pub loop-k-preserved : goal.loop-k-preserved
 loop-k-preserved c =
     let pairs = c.args.pairs.now in
     let moves = c.args.moves.now in
-    let k = c.loop-k.k in
+    let place = c.loop-k.k in
     let inside = c.loop-k-test.true in
     let each = c.requires in
-    let within : k < length moves = omega arith in
+    let within : place < length moves = omega arith in
     record {
-      text = move_pushed c.loop-k.out.items c.push_move_line.new.out.items _ pairs moves k _ _ inside within c.in_ok-push_move_line.ensures.text c.loop-k.invariant.text;
-      whole = All-more (λ (m : List ℤ). length m ≡ 3) moves k _ within c.loop-k.invariant.whole c.in_ok-push_move_line.ensures.whole;
+      text = move_pushed c.loop-k.out.items c.push_move_line.new.out.items _ pairs moves place _ _ inside within c.in_ok-push_move_line.ensures.text c.loop-k.invariant.text;
+      whole = All-more (λ (m : List ℤ). length m ≡ 3) moves place _ within c.loop-k.invariant.whole c.in_ok-push_move_line.ensures.whole;
     }
 
 pub returns-clause-whole : goal.returns-clause-whole

@@ -8,20 +8,20 @@ use Rattle.track_spelling.proofs.tails.push_vectors.Goals as goal
 
 pub returns-clause-text : goal.returns-clause-text
 returns-clause-text c =
-    let o = c.args.out.now.items in
-    let b = c.args.best.now in
+    let written = c.args.out.now.items in
+    let best = c.args.best.now in
     let pairs = c.args.pairs.now in
     let moves = c.args.moves.now in
-    let z1 = vector_line (codes "z1") (take b.size b.first) in
-    let z2 = vector_line (codes "z2") (take b.size b.second) in
-    let p1_fits : SFits w128 b.p1 = search rules in
-    let p2_fits : SFits w128 b.p2 = search rules in
+    let first_line = vector_line (codes "z1") (take best.size best.first) in
+    let second_line = vector_line (codes "z2") (take best.size best.second) in
+    let p1_fits : SFits w128 best.p1 = search rules in
+    let p2_fits : SFits w128 best.p2 = search rules in
     let top_fits : SFits w128 c.args.top = search rules in
-    let values = rw (to_z-of_z w128 b.p1 p1_fits, to_z-of_z w128 b.p2 p2_fits, to_z-of_z w128 c.args.top top_fits) at c.in_ok-push_values_line.ensures in
-    let two = then_lines o _ _ (z1 ∷ []) (z2 ∷ []) c.in_ok-push_vector_line.ensures c.in_ok-push_vector_line-2.ensures in
-    let three = then_lines o _ _ (z1 ∷ z2 ∷ []) (move_lines pairs moves) two c.in_ok-push_move_lines.ensures.text in
-    let four = then_lines o _ _ (z1 ∷ z2 ∷ move_lines pairs moves) (values_line c.args.h b.p1 b.p2 c.args.top ∷ []) three values in
-    then_written o _ _ (track_vectors_lines pairs c.args.h moves b c.args.top) (last_line c.args.fixed ∷ []) _ four c.push_last_line.ensures
+    let values = rw (to_z-of_z w128 best.p1 p1_fits, to_z-of_z w128 best.p2 p2_fits, to_z-of_z w128 c.args.top top_fits) at c.in_ok-push_values_line.ensures in
+    let two = then_lines written _ _ (first_line ∷ []) (second_line ∷ []) c.in_ok-push_vector_line.ensures c.in_ok-push_vector_line-2.ensures in
+    let three = then_lines written _ _ (first_line ∷ second_line ∷ []) (move_lines pairs moves) two c.in_ok-push_move_lines.ensures.text in
+    let four = then_lines written _ _ (first_line ∷ second_line ∷ move_lines pairs moves) (values_line c.args.h best.p1 best.p2 c.args.top ∷ []) three values in
+    then_written written _ _ (track_vectors_lines pairs c.args.h moves best c.args.top) (last_line c.args.fixed ∷ []) _ four c.push_last_line.ensures
 
 pub returns-clause-whole : goal.returns-clause-whole
 returns-clause-whole c = anyway c.push_last_line.result (record { move_each = c.in_ok-push_move_lines.ensures.whole; first = search rules; second = search rules })

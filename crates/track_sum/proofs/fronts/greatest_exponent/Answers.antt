@@ -35,19 +35,19 @@ pub loop-k-preserved : goal.loop-k-preserved
 loop-k-preserved c =
     let pairs : List PairRows = c.args.pairs.now in
     let arcs : List Arc = c.args.arcs.now in
-    let ss : List ℕ = fine_signals c.args.signals in
+    let fine : List ℕ = fine_signals c.args.signals in
     let k : ℕ = c.loop-k.k in
     let old : ℕ = c.loop-k.greatest in
     let new : ℕ = c.if-left-eq0.greatest in
     let inside : k < length pairs = search rules in
-    let at : (x : PairRows) → x ≡ get_or pairs k x → (d : PairRows) → get_or pairs k d ≡ x = λ x e d. get_or_default pairs k d x inside ∙ sym e in
-    let of : (x d : PairRows) (g : FrontForm) → x ≡ get_or pairs k x → IsFrontOfPair arcs ss (get_or pairs k d) g → IsFrontOfPair arcs ss x g =
-    λ x d g e i. subst (λ (p : PairRows). IsFrontOfPair arcs ss p g) (at x e d) i in
-    let n : Next arcs ss pairs c.args.every k old new = elim c.if-left-eq0.branch [
+    let same_pair : (x : PairRows) → x ≡ get_or pairs k x → (d : PairRows) → get_or pairs k d ≡ x = λ x e d. get_or_default pairs k d x inside ∙ sym e in
+    let is_front : (x d : PairRows) (g : FrontForm) → x ≡ get_or pairs k x → IsFrontOfPair arcs fine (get_or pairs k d) g → IsFrontOfPair arcs fine x g =
+    λ x d g e i. subst (λ (p : PairRows). IsFrontOfPair arcs fine p g) (same_pair x e d) i in
+    let next_holds : Next arcs fine pairs c.args.every k old new = elim c.if-left-eq0.branch [
       | then-left-eq0 w ↦ record {
         from = same new w.raised-greatest.result old w.greatest-is w.raised-greatest.ensures.from;
-        above = λ v d g i. same new w.raised-greatest.result g.h w.greatest-is (w.raised-greatest.ensures.above g (of w.index-pairs-k.result d g w.index-pairs-k.is i));
-        one = ⊎_elim (λ own. inl (λ d g i. own g (of w.index-pairs-k.result d g w.index-pairs-k.is i) ∙ sym w.greatest-is)) (λ e. inr (w.greatest-is ∙ e)) w.raised-greatest.ensures.one;
+        above = λ v d g i. same new w.raised-greatest.result g.h w.greatest-is (w.raised-greatest.ensures.above g (is_front w.index-pairs-k.result d g w.index-pairs-k.is i));
+        one = ⊎_elim (λ own. inl (λ d g i. own g (is_front w.index-pairs-k.result d g w.index-pairs-k.is i) ∙ sym w.greatest-is)) (λ e. inr (w.greatest-is ∙ e)) w.raised-greatest.ensures.one;
         few = le_trans (le_of_eq w.greatest-is) w.raised-greatest.ensures.few;
       }
       | else-left-eq0 w ↦ record {
@@ -62,17 +62,17 @@ loop-k-preserved c =
       | else-left-eq0 w ↦ ap (λ (r : PairRoom). r.front.columns) w.room-is
     ] in
     record {
-      above = λ e. below_more (λ j. (d : PairRows) (g : FrontForm) → IsFrontOfPair arcs ss (get_or pairs j d) g → g.h ≤ new) k
-          (λ j l d g i. le_trans (c.loop-k.invariant.above e j l d g i) n.from) (λ d g i. n.above (inl e) d g i);
+      above = λ e. below_more (λ j. (d : PairRows) (g : FrontForm) → IsFrontOfPair arcs fine (get_or pairs j d) g → g.h ≤ new) k
+          (λ j l d g i. le_trans (c.loop-k.invariant.above e j l d g i) next_holds.from) (λ d g i. next_holds.above (inl e) d g i);
       attained = λ l. ⊎_elim
           (λ own. (k, (lt-add-one k, own)))
           (λ (e : new ≡ old). ⊎_elim
-          (λ (none : k ≡ 0). (k, (lt-add-one k, λ d g i. least g.h new old (n.above (inr none) d g i) e (c.loop-k.invariant.none none))))
-          (λ (some : 1 ≤ k). let a = c.loop-k.invariant.attained some in (a.0, (later a.0 k a.1.0, λ d g i. a.1.1 d g i ∙ sym e)))
+          (λ (none : k ≡ 0). (k, (lt-add-one k, λ d g i. least g.h new old (next_holds.above (inr none) d g i) e (c.loop-k.invariant.none none))))
+          (λ (some : 1 ≤ k). let is_attained = c.loop-k.invariant.attained some in (is_attained.0, (later is_attained.0 k is_attained.1.0, λ d g i. is_attained.1.1 d g i ∙ sym e)))
           (either k))
-          n.one;
+          next_holds.one;
       none = λ e. absurd (omega (arith, e));
-      few = n.few;
+      few = next_holds.few;
       columns = columns ∙ c.loop-k.invariant.columns;
     }
   where
@@ -92,8 +92,8 @@ pub returns-clause-attained : goal.returns-clause-attained
 returns-clause-attained c = λ l.
     let k : ℕ = c.loop-k.k in
     let upper : k ≤ length c.args.pairs.now = search rules in
-    let a = c.loop-k.invariant.attained (some k (length c.args.pairs.now) l c.loop-k-test.false) in
-    (a.0, (lt_of_lt_of_le a.1.0 upper, a.1.1))
+    let is_attained = c.loop-k.invariant.attained (some k (length c.args.pairs.now) l c.loop-k-test.false) in
+    (is_attained.0, (lt_of_lt_of_le is_attained.1.0 upper, is_attained.1.1))
   where
     some : (k n : ℕ) → 1 ≤ n → n ≤ k → 1 ≤ k
     some k n h g = omega (arith, h, g)

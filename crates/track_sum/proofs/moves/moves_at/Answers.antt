@@ -28,11 +28,11 @@ pub loop-pair-preserved : goal.loop-pair-preserved
 loop-pair-preserved c =
     let z : List ℤ = c.args.z.now in
     let k : ℕ = c.loop-pair.pair-index in
-    let p : PairFactors = c.pair-item.result in
+    let factors : PairFactors = c.pair-item.result in
     let m : List ℤ = c.in-Ok.moved in
     let narrow : HasWide m → ⊥ = λ v. false≢true (c.in-Ok.ensures.refused.1 (subst HasWide c.in-Ok.ensures.ok v)) in
     record {
-      moves = move_more z c.args.pairs.now c.loop-pair.moves.items c.push.new.self.items k p m c.loop-pair.invariant.moves c.loop-pair-test.true
+      moves = move_more z c.args.pairs.now c.loop-pair.moves.items c.push.new.self.items k factors m c.loop-pair.invariant.moves c.loop-pair-test.true
           (sym c.pair-item.is) c.in-Ok.ensures.ok c.in_ok-push-in-Ok.ensures.items;
       form = c.move_at.ensures.form ∙ c.loop-pair.invariant.form;
       narrow = subst (λ (ms : List (List ℤ)). All (λ m. HasWide m → ⊥) ms) (sym c.in_ok-push-in-Ok.ensures.items)

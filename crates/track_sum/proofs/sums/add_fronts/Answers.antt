@@ -70,25 +70,25 @@ size_zero x e = omega (arith, ints)
 
 pub loop-pair-init : goal.loop-pair-init
 loop-pair-init c =
-    let z : (i j : ℕ) → entry c.args.table.now i j ≡ pos 0 = λ i j. ap (λ (t : List (List ℤ)). entry t i j) c.requires.zeros ∙ zero_entry MOST_COLUMNS MOST_COLUMNS i j in
+    let all_zero : (i j : ℕ) → entry c.args.table.now i j ≡ pos 0 = λ i j. ap (λ (t : List (List ℤ)). entry t i j) c.requires.zeros ∙ zero_entry MOST_COLUMNS MOST_COLUMNS i j in
     let none : c.in_ok-kept.kept.items ≡ [] = search rules in
     record {
-      sums = λ fs are r k l b. zero_first _ _ (z (3 + r) (3 + k));
+      sums = λ fs are r k l b. zero_first _ _ (all_zero (3 + r) (3 + k));
       factors = subst (λ (ks : List PairFactors). AreFactors c.args.arcs.now (fine_signals c.args.signals) [] ks) (sym none) tt;
       columns = c.requires.columns;
       fronts = λ j l d. absurd (omega (arith, l));
       above = λ j l d f i. absurd (omega (arith, l));
-      sizes = λ r k l b. size_zero _ (z (3 + r) (3 + k));
+      sizes = λ r k l b. size_zero _ (all_zero (3 + r) (3 + k));
     }
 
 pub add_front-requires-clause-sizes : goal.add_front-requires-clause-sizes
 add_front-requires-clause-sizes c =
     let arcs : List Arc = c.args.arcs.now in
-    let ss : List ℕ = fine_signals c.args.signals in
-    let f : FrontForm = c.fill.new.self.front in
-    let columns : f.columns ≡ 4 + integer_count arcs ss = columns_of_front arcs ss c.pair-item.result f c.in-Ok.ensures.front in
+    let fine : List ℕ = fine_signals c.args.signals in
+    let pair_front : FrontForm = c.fill.new.self.front in
+    let columns : pair_front.columns ≡ 4 + integer_count arcs fine = columns_of_front arcs fine c.pair-item.result pair_front c.in-Ok.ensures.front in
     λ r q l b. few (unsigned_abs (entry c.loop-pair.table (3 + r) (3 + q))) c.loop-pair.pair-index (length c.args.pairs.now)
-    (c.loop-pair.invariant.sizes r q l (within q (integer_count arcs ss) f.columns b columns)) c.loop-pair-test.true c.requires.few
+    (c.loop-pair.invariant.sizes r q l (within q (integer_count arcs fine) pair_front.columns b columns)) c.loop-pair-test.true c.requires.few
   where
     within : (b i k : ℕ) → b < k - 3 → k ≡ 4 + i → b < 1 + i
     within b i k l e = omega arith
@@ -97,26 +97,26 @@ pub loop-pair-preserved : goal.loop-pair-preserved
 loop-pair-preserved c =
     let pairs : List PairRows = c.args.pairs.now in
     let arcs : List Arc = c.args.arcs.now in
-    let ss : List ℕ = fine_signals c.args.signals in
+    let fine : List ℕ = fine_signals c.args.signals in
     let k : ℕ = c.loop-pair.pair-index in
-    let p : PairRows = c.pair-item.result in
-    let f : FrontForm = c.fill.new.self.front in
-    let is : IsFrontOfPair arcs ss p f = c.in-Ok.ensures.front in
+    let pair : PairRows = c.pair-item.result in
+    let pair_front : FrontForm = c.fill.new.self.front in
+    let is_front : IsFrontOfPair arcs fine pair pair_front = c.in-Ok.ensures.front in
     let inside : k < length pairs = search rules in
-    let within : (b i : ℕ) → b < 1 + i → f.columns ≡ 4 + i → b < f.columns - 3 = λ b i l e. omega arith in
-    let columns : f.columns ≡ 4 + integer_count arcs ss = columns_of_front arcs ss p f is in
+    let within : (b i : ℕ) → b < 1 + i → pair_front.columns ≡ 4 + i → b < pair_front.columns - 3 = λ b i l e. omega arith in
+    let columns : pair_front.columns ≡ 4 + integer_count arcs fine = columns_of_front arcs fine pair pair_front is_front in
     record {
-      sums = λ fs are r q l b. one_more arcs ss p c.args.h (c.args.h - f.h) k fs f (front_place arcs ss pairs fs k p are inside (sym c.pair-item.is)) is refl r q l b _ _ _
-          (c.loop-pair.invariant.sums fs are r q l b) (c.add_front.ensures.sums r q l (within q (integer_count arcs ss) b columns));
-      factors = factors_more arcs ss pairs c.loop-pair.kept.items c.push.new.self.items k p c.of.result c.loop-pair.invariant.factors inside (sym c.pair-item.is)
-          (record { front = f; is = is; columns = c.of.ensures.columns; d = c.of.ensures.d; l = c.of.ensures.l }) c.in_ok-push-in-Ok.ensures.items;
+      sums = λ fs are r q l b. one_more arcs fine pair c.args.h (c.args.h - pair_front.h) k fs pair_front (front_place arcs fine pairs fs k pair are inside (sym c.pair-item.is)) is_front refl r q l b _ _ _
+          (c.loop-pair.invariant.sums fs are r q l b) (c.add_front.ensures.sums r q l (within q (integer_count arcs fine) b columns));
+      factors = factors_more arcs fine pairs c.loop-pair.kept.items c.push.new.self.items k pair c.of.result c.loop-pair.invariant.factors inside (sym c.pair-item.is)
+          (record { front = pair_front; is = is_front; columns = c.of.ensures.columns; d = c.of.ensures.d; l = c.of.ensures.l }) c.in_ok-push-in-Ok.ensures.items;
       columns = c.in-Ok.ensures.columns ∙ c.loop-pair.invariant.columns;
-      fronts = below_more (λ j. (d : PairRows) → HasFront arcs ss (get_or pairs j d)) k c.loop-pair.invariant.fronts
-          (λ d. (f, subst (λ (x : PairRows). IsFrontOfPair arcs ss x f) (c.pair-item.is ∙ sym (get_or_default pairs k d p inside)) is));
-      above = below_more (λ j. (d : PairRows) (g : FrontForm) → IsFrontOfPair arcs ss (get_or pairs j d) g → g.h ≤ c.args.most) k c.loop-pair.invariant.above
-          (λ d g i. within_most g.h f.h c.args.most (one_front arcs ss p g f (subst (λ (x : PairRows). IsFrontOfPair arcs ss x g) (get_or_default pairs k d p inside ∙ sym c.pair-item.is) i) is).h
+      fronts = below_more (λ j. (d : PairRows) → HasFront arcs fine (get_or pairs j d)) k c.loop-pair.invariant.fronts
+          (λ d. (pair_front, subst (λ (x : PairRows). IsFrontOfPair arcs fine x pair_front) (c.pair-item.is ∙ sym (get_or_default pairs k d pair inside)) is_front));
+      above = below_more (λ j. (d : PairRows) (g : FrontForm) → IsFrontOfPair arcs fine (get_or pairs j d) g → g.h ≤ c.args.most) k c.loop-pair.invariant.above
+          (λ d g i. within_most g.h pair_front.h c.args.most (one_front arcs fine pair g pair_front (subst (λ (x : PairRows). IsFrontOfPair arcs fine x g) (get_or_default pairs k d pair inside ∙ sym c.pair-item.is) i) is_front).h
           c.if-front-most.false);
-      sizes = λ r q l b. larger _ _ k (c.add_front.ensures.sizes r q l (within q (integer_count arcs ss) b columns)) (c.loop-pair.invariant.sizes r q l b);
+      sizes = λ r q l b. larger _ _ k (c.add_front.ensures.sizes r q l (within q (integer_count arcs fine) b columns)) (c.loop-pair.invariant.sizes r q l b);
     }
 
 -- the first pair whose front is over
@@ -124,12 +124,12 @@ pub returns-then-front-most-clause-stopped : goal.returns-then-front-most-clause
 returns-then-front-most-clause-stopped c =
     let pairs : List PairRows = c.args.pairs.now in
     let k : ℕ = c.loop-pair.pair-index in
-    let p : PairRows = c.pair-item.result in
-    let f : FrontForm = c.fill.new.self.front in
+    let pair : PairRows = c.pair-item.result in
+    let pair_front : FrontForm = c.fill.new.self.front in
     let inside : k < length pairs = search rules in
-    let is : IsFrontOfPair c.args.arcs.now (fine_signals c.args.signals) p f = c.in-Ok.ensures.front in
-    λ are. apart f.h c.args.most c.if-front-most.true
-    (are k inside p f (subst (λ (x : PairRows). IsFrontOfPair c.args.arcs.now (fine_signals c.args.signals) x f) (c.pair-item.is ∙ sym (get_or_default pairs k p p inside)) is))
+    let is_front : IsFrontOfPair c.args.arcs.now (fine_signals c.args.signals) pair pair_front = c.in-Ok.ensures.front in
+    λ are. apart pair_front.h c.args.most c.if-front-most.true
+    (are k inside pair pair_front (subst (λ (x : PairRows). IsFrontOfPair c.args.arcs.now (fine_signals c.args.signals) x pair_front) (c.pair-item.is ∙ sym (get_or_default pairs k pair pair inside)) is_front))
   where
     apart : (a b : ℕ) → b < a → a ≤ b → ⊥
     apart a b h g = absurd (omega (arith, h, g))

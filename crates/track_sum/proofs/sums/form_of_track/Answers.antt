@@ -14,17 +14,17 @@ use Rattle.track_sum.proofs.sums.form_of_track.Goals as goal
 pub returns-in-Ok-clause-form : goal.returns-in-Ok-clause-form
 returns-in-Ok-clause-form c =
     let arcs : List Arc = c.args.arcs.now in
-    let ss : List ℕ = fine_signals c.args.signals in
-    let sum : (fs : List FrontForm) × IsSumOfFronts arcs ss c.args.pairs.now fs c.in-Ok.summed.sum =
-    IfOk-at_ok (λ s. (fs : List FrontForm) × IsSumOfFronts arcs ss c.args.pairs.now fs s.sum) c.in-Ok.is c.in_ok-summed.ensures.sum in
-    IfOk-weaker c.finished.result (λ f. IsFinishOf c.in-Ok.summed.sum f.form) (λ f. (fs : List FrontForm) × IsTrackForm arcs ss c.args.pairs.now fs f.form)
+    let fine : List ℕ = fine_signals c.args.signals in
+    let sum : (fs : List FrontForm) × IsSumOfFronts arcs fine c.args.pairs.now fs c.in-Ok.summed.sum =
+    IfOk-at_ok (λ s. (fs : List FrontForm) × IsSumOfFronts arcs fine c.args.pairs.now fs s.sum) c.in-Ok.is c.in_ok-summed.ensures.sum in
+    IfOk-weaker c.finished.result (λ f. IsFinishOf c.in-Ok.summed.sum f.form) (λ f. (fs : List FrontForm) × IsTrackForm arcs fine c.args.pairs.now fs f.form)
     (λ f is. (sum.0, record { sum = c.in-Ok.summed.sum; of_fronts = sum.1; finished = is })) c.finished.ensures.form
 
 pub returns-in-Ok-clause-factors : goal.returns-in-Ok-clause-factors
 returns-in-Ok-clause-factors c =
-    let P : List PairFactors → Type 0 = AreFactors c.args.arcs.now (fine_signals c.args.signals) c.args.pairs.now in
-    let kept : P c.in-Ok.summed.factors.items = IfOk-at_ok (λ s. P s.factors.items) c.in-Ok.is c.in_ok-summed.ensures.factors in
-    IfOk-weaker c.finished.result (λ f. f.factors.items ≡ c.in-Ok.summed.factors.items) (λ f. P f.factors.items) (λ f same. subst P (sym same) kept) c.finished.ensures.factors
+    let are_factors : List PairFactors → Type 0 = AreFactors c.args.arcs.now (fine_signals c.args.signals) c.args.pairs.now in
+    let kept : are_factors c.in-Ok.summed.factors.items = IfOk-at_ok (λ s. are_factors s.factors.items) c.in-Ok.is c.in_ok-summed.ensures.factors in
+    IfOk-weaker c.finished.result (λ f. f.factors.items ≡ c.in-Ok.summed.factors.items) (λ f. are_factors f.factors.items) (λ f same. subst are_factors (sym same) kept) c.finished.ensures.factors
 
 pub returns-in-Ok-clause-few : goal.returns-in-Ok-clause-few
 returns-in-Ok-clause-few c =
@@ -34,10 +34,10 @@ returns-in-Ok-clause-few c =
 pub returns-in-Ok-clause-refused : goal.returns-in-Ok-clause-refused
 returns-in-Ok-clause-refused c =
     let arcs : List Arc = c.args.arcs.now in
-    let ss : List ℕ = fine_signals c.args.signals in
-    let sum : (fs : List FrontForm) × IsSumOfFronts arcs ss c.args.pairs.now fs c.in-Ok.summed.sum =
-    IfOk-at_ok (λ s. (fs : List FrontForm) × IsSumOfFronts arcs ss c.args.pairs.now fs s.sum) c.in-Ok.is c.in_ok-summed.ensures.sum in
-    IfErr-weaker c.finished.result (λ e. IsToldAs e (finish_of c.in-Ok.summed.sum)) (λ e. IsFirstRefused arcs ss c.args.pairs.now e ⊎ IsFinishRefused arcs ss c.args.pairs.now e)
+    let fine : List ℕ = fine_signals c.args.signals in
+    let sum : (fs : List FrontForm) × IsSumOfFronts arcs fine c.args.pairs.now fs c.in-Ok.summed.sum =
+    IfOk-at_ok (λ s. (fs : List FrontForm) × IsSumOfFronts arcs fine c.args.pairs.now fs s.sum) c.in-Ok.is c.in_ok-summed.ensures.sum in
+    IfErr-weaker c.finished.result (λ e. IsToldAs e (finish_of c.in-Ok.summed.sum)) (λ e. IsFirstRefused arcs fine c.args.pairs.now e ⊎ IsFinishRefused arcs fine c.args.pairs.now e)
     (λ e told. inr (record { fronts = sum.0; sum = c.in-Ok.summed.sum; of_fronts = sum.1; told = told })) c.finished.ensures.refused
 
 pub returns-in-Err-clause-refused : goal.returns-in-Err-clause-refused

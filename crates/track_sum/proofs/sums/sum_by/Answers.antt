@@ -36,31 +36,31 @@ all_summed arcs given ss pairs kept greatest e t same counted free factors is so
 pub form_table-p-requires-clause-small : goal.form_table-p-requires-clause-small
 form_table-p-requires-clause-small c =
     let arcs : List Arc = c.args.arcs.now in
-    let ss : List ℕ = fine_signals c.args.signals in
+    let fine : List ℕ = fine_signals c.args.signals in
     let h : ℕ = c.greatest_exponent-most.result + c.least_power.result in
-    let factors : AreFactors arcs ss c.args.pairs.now c.in-Ok.factors.items = IfOk-at_ok (λ k. AreFactors arcs ss c.args.pairs.now k.items) c.in-Ok.is c.in_ok-factors.ensures.factors in
-    let sums : HoldsSums arcs ss c.args.pairs.now h c.add_fronts.new.table = IfOk-at_ok (λ k. HoldsSums arcs ss c.args.pairs.now h c.add_fronts.new.table) c.in-Ok.is c.in_ok-factors.ensures.sums in
-    let above : AreAtMost arcs ss c.args.pairs.now c.greatest_exponent-most.result = IfOk-at_ok (λ k. AreAtMost arcs ss c.args.pairs.now c.greatest_exponent-most.result) c.in-Ok.is c.in_ok-factors.ensures.above in
-    let s = all_summed arcs c.fine_signals.result.now ss c.args.pairs.now c.in-Ok.factors.items c.greatest_exponent-most.result c.least_power.result c.add_fronts.new.table c.fine_signals.ensures.value
+    let factors : AreFactors arcs fine c.args.pairs.now c.in-Ok.factors.items = IfOk-at_ok (λ k. AreFactors arcs fine c.args.pairs.now k.items) c.in-Ok.is c.in_ok-factors.ensures.factors in
+    let sums : HoldsSums arcs fine c.args.pairs.now h c.add_fronts.new.table = IfOk-at_ok (λ k. HoldsSums arcs fine c.args.pairs.now h c.add_fronts.new.table) c.in-Ok.is c.in_ok-factors.ensures.sums in
+    let above : AreAtMost arcs fine c.args.pairs.now c.greatest_exponent-most.result = IfOk-at_ok (λ k. AreAtMost arcs fine c.args.pairs.now c.greatest_exponent-most.result) c.in-Ok.is c.in_ok-factors.ensures.above in
+    let is_summed = all_summed arcs c.fine_signals.result.now fine c.args.pairs.now c.in-Ok.factors.items c.greatest_exponent-most.result c.least_power.result c.add_fronts.new.table c.fine_signals.ensures.value
     c.fine_signals.ensures.are c.requires.free factors (record { above = above; attained = c.greatest_exponent-most.ensures.attained c.requires.some }) c.requires.some
     c.requires.few c.least_power.ensures.enough c.least_power.ensures.least sums in
     subst (λ (n : ℕ). SmallForm (form_from (entry c.add_fronts.new.table) 3 n))
-    (sym (order_is arcs ss c.fine_signals.result.now c.integer_count-integers.result c.fine_signals.ensures.value c.integer_count-integers.ensures)) s.small
+    (sym (order_is arcs fine c.fine_signals.result.now c.integer_count-integers.result c.fine_signals.ensures.value c.integer_count-integers.ensures)) is_summed.small
 
 pub returns-in-Ok-clause-sum : goal.returns-in-Ok-clause-sum
 returns-in-Ok-clause-sum c =
     let arcs : List Arc = c.args.arcs.now in
-    let ss : List ℕ = fine_signals c.args.signals in
+    let fine : List ℕ = fine_signals c.args.signals in
     let h : ℕ = c.greatest_exponent-most.result + c.least_power.result in
-    let factors : AreFactors arcs ss c.args.pairs.now c.in-Ok.factors.items = IfOk-at_ok (λ k. AreFactors arcs ss c.args.pairs.now k.items) c.in-Ok.is c.in_ok-factors.ensures.factors in
-    let sums : HoldsSums arcs ss c.args.pairs.now h c.add_fronts.new.table = IfOk-at_ok (λ k. HoldsSums arcs ss c.args.pairs.now h c.add_fronts.new.table) c.in-Ok.is c.in_ok-factors.ensures.sums in
-    let above : AreAtMost arcs ss c.args.pairs.now c.greatest_exponent-most.result = IfOk-at_ok (λ k. AreAtMost arcs ss c.args.pairs.now c.greatest_exponent-most.result) c.in-Ok.is c.in_ok-factors.ensures.above in
-    let s = all_summed arcs c.fine_signals.result.now ss c.args.pairs.now c.in-Ok.factors.items c.greatest_exponent-most.result c.least_power.result c.add_fronts.new.table c.fine_signals.ensures.value
+    let factors : AreFactors arcs fine c.args.pairs.now c.in-Ok.factors.items = IfOk-at_ok (λ k. AreFactors arcs fine c.args.pairs.now k.items) c.in-Ok.is c.in_ok-factors.ensures.factors in
+    let sums : HoldsSums arcs fine c.args.pairs.now h c.add_fronts.new.table = IfOk-at_ok (λ k. HoldsSums arcs fine c.args.pairs.now h c.add_fronts.new.table) c.in-Ok.is c.in_ok-factors.ensures.sums in
+    let above : AreAtMost arcs fine c.args.pairs.now c.greatest_exponent-most.result = IfOk-at_ok (λ k. AreAtMost arcs fine c.args.pairs.now c.greatest_exponent-most.result) c.in-Ok.is c.in_ok-factors.ensures.above in
+    let is_summed = all_summed arcs c.fine_signals.result.now fine c.args.pairs.now c.in-Ok.factors.items c.greatest_exponent-most.result c.least_power.result c.add_fronts.new.table c.fine_signals.ensures.value
     c.fine_signals.ensures.are c.requires.free factors (record { above = above; attained = c.greatest_exponent-most.ensures.attained c.requires.some }) c.requires.some
     c.requires.few c.least_power.ensures.enough c.least_power.ensures.least sums in
-    sum_is arcs ss c.args.pairs.now c.least_power.result (c.greatest_exponent-most.result + c.least_power.result)
-    (c.integer_count-integers.result + 1) c.add_fronts.new.table c.form_table-p.result c.of-sum.result s
-    (order_is arcs ss c.fine_signals.result.now c.integer_count-integers.result c.fine_signals.ensures.value c.integer_count-integers.ensures) c.form_table-p.ensures.form
+    sum_is arcs fine c.args.pairs.now c.least_power.result (c.greatest_exponent-most.result + c.least_power.result)
+    (c.integer_count-integers.result + 1) c.add_fronts.new.table c.form_table-p.result c.of-sum.result is_summed
+    (order_is arcs fine c.fine_signals.result.now c.integer_count-integers.result c.fine_signals.ensures.value c.integer_count-integers.ensures) c.form_table-p.ensures.form
     (c.of-sum.ensures.columns ∙ more c.integer_count-integers.result) c.of-sum.ensures.h c.of-sum.ensures.d c.of-sum.ensures.l c.of-sum.ensures.p
   where
     more : (n : ℕ) → (3 + n) + 1 ≡ 3 + (n + 1)
@@ -74,8 +74,8 @@ stopped_by arcs ss pairs P Q Over f is = f is
 pub returns-in-Err-clause-stopped : goal.returns-in-Err-clause-stopped
 returns-in-Err-clause-stopped c =
     let arcs : List Arc = c.args.arcs.now in
-    let ss : List ℕ = fine_signals c.args.signals in
+    let fine : List ℕ = fine_signals c.args.signals in
     let pairs : List PairRows = c.args.pairs.now in
-    let over : Type 0 = AreAtMost arcs ss pairs c.greatest_exponent-most.result → ⊥ in
-    stopped_by arcs ss pairs over (c.args.every ≢ 1) c.in-Err.stopped (λ not e. not (c.greatest_exponent-most.ensures.above e))
-    (IfErr-at_err (IsStopped arcs ss pairs over) c.in-Err.is c.in_ok-factors.ensures.stopped)
+    let over : Type 0 = AreAtMost arcs fine pairs c.greatest_exponent-most.result → ⊥ in
+    stopped_by arcs fine pairs over (c.args.every ≢ 1) c.in-Err.stopped (λ not e. not (c.greatest_exponent-most.ensures.above e))
+    (IfErr-at_err (IsStopped arcs fine pairs over) c.in-Err.is c.in_ok-factors.ensures.stopped)

@@ -29,15 +29,15 @@ loop-pair-preserved c =
     let pairs = c.args.pairs.now in
     let i = c.loop-pair.pair-index in
     let moves = c.loop-pair.moves.items in
-    let p = c.pair-item.result in
-    let m = c.in_ok-moved.moved in
+    let pair = c.pair-item.result in
+    let moved = c.in_ok-moved.moved in
     let items = c.in_ok-push.ensures.items in
     let inside = c.loop-pair-test.true in
     let each = c.loop-pair.invariant.each in
     let later = drop (i + 1) pairs in
-    let one = length_push moves m in
-    let split : drop i pairs ≡ p ∷ later = drop_more pairs i p inside ∙ ap (λ (q : PairRows). q ∷ later) (sym c.pair-item.is) in
-    let this : p ≡ get_or pairs (length moves) p = c.pair-item.is ∙ ap (λ (k : ℕ). get_or pairs k p) (sym each) in
+    let one = length_push moves moved in
+    let split : drop i pairs ≡ pair ∷ later = drop_more pairs i pair inside ∙ ap (λ (q : PairRows). q ∷ later) (sym c.pair-item.is) in
+    let this : pair ≡ get_or pairs (length moves) pair = c.pair-item.is ∙ ap (λ (k : ℕ). get_or pairs k pair) (sym each) in
     let within : length moves < length pairs = omega (arith, each, inside) in
     record {
       reads =
@@ -45,23 +45,23 @@ loop-pair-preserved c =
           ∙ c.in_ok-moved.ensures.reads (numbers_of later);
       took =
           c.loop-pair.invariant.took ∙ ap (λ (l : List (List ℕ)). move_lines pairs moves ++ l) c.in_ok-moved.ensures.took
-          ∙ moves_took pairs moves p m c.next_move.new.lines.left within this
+          ∙ moves_took pairs moves pair moved c.next_move.new.lines.left within this
           ∙ ap (λ (ms : List (List ℤ)). move_lines pairs ms ++ c.next_move.new.lines.left) (sym items);
       each = rw items (omega (arith, one, each));
       inside = omega (arith, inside);
-      in_range = rw items (All-push IsMove moves m c.loop-pair.invariant.in_range c.in_ok-moved.ensures.in_range);
-      whole = rw items (All-push (λ (x : List ℤ). length x ≡ 3) moves m c.loop-pair.invariant.whole c.in_ok-moved.ensures.whole);
+      in_range = rw items (All-push IsMove moves moved c.loop-pair.invariant.in_range c.in_ok-moved.ensures.in_range);
+      whole = rw items (All-push (λ (x : List ℤ). length x ≡ 3) moves moved c.loop-pair.invariant.whole c.in_ok-moved.ensures.whole);
     }
 
 pub returns-in_err-moved-clause-reads : goal.returns-in_err-moved-clause-reads
 returns-in_err-moved-clause-reads c =
-    let e = err_from_is_err_and c.from_residual.result c.from_residual.ensures.1 in
+    let is_error = err_from_is_err_and c.from_residual.result c.from_residual.ensures.1 in
     let pairs = c.args.pairs.now in
     let i = c.loop-pair.pair-index in
-    let p = c.pair-item.result in
+    let pair = c.pair-item.result in
     let later = drop (i + 1) pairs in
-    let split : drop i pairs ≡ p ∷ later = drop_more pairs i p c.loop-pair-test.true ∙ ap (λ (q : PairRows). q ∷ later) (sym c.pair-item.is) in
-    rw (e.1, e.2) (c.loop-pair.invariant.reads ∙ ap (λ (ps : List PairRows). rest_gives track_rules c.loop-pair.lines (before_moves (numbers_of ps))) split
+    let split : drop i pairs ≡ pair ∷ later = drop_more pairs i pair c.loop-pair-test.true ∙ ap (λ (q : PairRows). q ∷ later) (sym c.pair-item.is) in
+    rw (is_error.1, is_error.2) (c.loop-pair.invariant.reads ∙ ap (λ (ps : List PairRows). rest_gives track_rules c.loop-pair.lines (before_moves (numbers_of ps))) split
     ∙ c.in_err-moved.ensures.reads (numbers_of later))
 
 pub returns-clause-reads : goal.returns-clause-reads

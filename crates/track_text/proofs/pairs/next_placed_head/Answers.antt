@@ -19,19 +19,19 @@ returns-in_err-point-clause-reads c = λ budget ss arcs numbers.
     let f = frame budget ss in
     let left = c.args.left in
     let least = c.args.least in
-    let h = c.in_ok-head.head in
+    let placed_head = c.in_ok-head.head in
     let head = c.in_ok-head.ensures.reads (before_pairs f arcs left least numbers) (λ p. PairPoint f arcs (left - 1) p.number p.count numbers)
     (pair_taken f arcs left least numbers c.requires) in
-    rw (p.1, p.2) (head ∙ c.in_err-point.ensures.reads (PairPoint f arcs (left - 1) h.number h.count numbers) (λ p. before_rows f arcs (left - 1) h.number h.count 0 numbers)
-    (point_taken f arcs (left - 1) h.number h.count numbers))
+    rw (p.1, p.2) (head ∙ c.in_err-point.ensures.reads (PairPoint f arcs (left - 1) placed_head.number placed_head.count numbers) (λ p. before_rows f arcs (left - 1) placed_head.number placed_head.count 0 numbers)
+    (point_taken f arcs (left - 1) placed_head.number placed_head.count numbers))
 
 pub returns-clause-reads : goal.returns-clause-reads
 returns-clause-reads c = λ budget ss arcs numbers.
     let f = frame budget ss in
     let left = c.args.left in
     let least = c.args.least in
-    let h = c.in_ok-head.head in
+    let placed_head = c.in_ok-head.head in
     let head = c.in_ok-head.ensures.reads (before_pairs f arcs left least numbers) (λ p. PairPoint f arcs (left - 1) p.number p.count numbers)
     (pair_taken f arcs left least numbers c.requires) in
-    head ∙ c.in_ok-point.ensures.reads (PairPoint f arcs (left - 1) h.number h.count numbers) (λ p. before_rows f arcs (left - 1) h.number h.count 0 numbers)
-    (point_taken f arcs (left - 1) h.number h.count numbers)
+    head ∙ c.in_ok-point.ensures.reads (PairPoint f arcs (left - 1) placed_head.number placed_head.count numbers) (λ p. before_rows f arcs (left - 1) placed_head.number placed_head.count 0 numbers)
+    (point_taken f arcs (left - 1) placed_head.number placed_head.count numbers)

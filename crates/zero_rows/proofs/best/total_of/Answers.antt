@@ -5,11 +5,11 @@ use Rattle.zero_rows.proofs.best.total_of.Goals as goal
 
 pub diffs-preserved : goal.diffs-preserved
 diffs-preserved c =
-    let p = parts c.diffs.rest.now c.in-len1-up.len_at_least c.diffs.invariant.small in
+    let difference_bounds = parts c.diffs.rest.now c.in-len1-up.len_at_least c.diffs.invariant.small in
     record {
-      small = p.small;
-      value = omega (arith, ints, p.low, p.high, p.sum, p.count);
-      count = omega (arith, p.count, c.diffs.invariant.count);
-      low = omega (arith, ints, p.count, p.low, p.high);
-      high = omega (arith, ints, p.count, p.low, p.high);
+      small = difference_bounds.small;
+      value = omega (arith, ints, difference_bounds.low, difference_bounds.high, difference_bounds.sum, difference_bounds.count);
+      count = omega (arith, difference_bounds.count, c.diffs.invariant.count);
+      low = omega (arith, ints, difference_bounds.count, difference_bounds.low, difference_bounds.high);
+      high = omega (arith, ints, difference_bounds.count, difference_bounds.low, difference_bounds.high);
     }

@@ -9,8 +9,8 @@ use Rattle.zero_rows.proofs.rows.read_claim.Goals as goal
 
 pub returns-in_err-first-clause-reads : goal.returns-in_err-first-clause-reads
 returns-in_err-first-clause-reads c =
-    let p = err_from_is_err_and c.from_residual.result c.from_residual.ensures.1 in
-    rw (p.1, p.2) (has_none rows_rules Head _ _ _ _ refl c.in_err-first.ensures)
+    let is_error = err_from_is_err_and c.from_residual.result c.from_residual.ensures.1 in
+    rw (is_error.1, is_error.2) (has_none rows_rules Head _ _ _ _ refl c.in_err-first.ensures)
 
 pub returns-then-ne-clause-reads : goal.returns-then-ne-clause-reads
 returns-then-ne-clause-reads c =
@@ -22,8 +22,8 @@ pub returns-in_err-second-clause-reads : goal.returns-in_err-second-clause-reads
 returns-in_err-second-clause-reads c =
     let line = c.in_ok-first.first.bytes.now in
     let same = same_bytes c.ne.result line c.as_slice.result.now (codes "zero 1") c.ne.ensures c.as_slice.ensures c.if-ne.false in
-    let p = err_from_is_err_and c.from_residual-in_err-second.result c.from_residual-in_err-second.ensures.1 in
-    rw (p.1, p.2) (takes rows_rules Head Claim _ _ _ line c.in_ok-first.ensures (admits_head line same) ∙ has_none rows_rules Claim _ _ _ _ refl c.in_err-second.ensures)
+    let is_error = err_from_is_err_and c.from_residual-in_err-second.result c.from_residual-in_err-second.ensures.1 in
+    rw (is_error.1, is_error.2) (takes rows_rules Head Claim _ _ _ line c.in_ok-first.ensures (admits_head line same) ∙ has_none rows_rules Claim _ _ _ _ refl c.in_err-second.ensures)
 
 pub returns-in-Ok-clause-reads : goal.returns-in-Ok-clause-reads
 returns-in-Ok-clause-reads c =

@@ -14,8 +14,8 @@ use Rattle.zero_rows.proofs.rows.read_diffs.Goals as goal
 
 pub returns-in_err-line-clause-reads : goal.returns-in_err-line-clause-reads
 returns-in_err-line-clause-reads c = λ z.
-    let p = err_from_is_err_and c.from_residual.result c.from_residual.ensures.1 in
-    rw (p.1, p.2) (c.lines.invariant.reads z ∙ has_long rows_rules (Diff (rows z c.lines.diffs.items)) _ _ _ c.in_err-line.ensures)
+    let is_error = err_from_is_err_and c.from_residual.result c.from_residual.ensures.1 in
+    rw (is_error.1, is_error.2) (c.lines.invariant.reads z ∙ has_long rows_rules (Diff (rows z c.lines.diffs.items)) _ _ _ c.in_err-line.ensures)
 
 pub returns-then-len-ge-MAX_DIFFS-clause-reads : goal.returns-then-len-ge-MAX_DIFFS-clause-reads
 returns-then-len-ge-MAX_DIFFS-clause-reads c = λ z.

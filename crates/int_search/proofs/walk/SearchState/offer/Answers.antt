@@ -15,16 +15,16 @@ use Rattle.int_search.proofs.walk.SearchState.offer.Goals as goal
 
 pub returns : goal.returns
 returns c =
-    let f : SearchForm = search_form c.args.form.now in
-    let w : SearchState = c.args.self.now in
+    let form : SearchForm = search_form c.args.form.now in
+    let state : SearchState = c.args.self.now in
     let m : List (List ℤ) = c.args.map.now in
-    let z : length w.z ≡ MOST_INTEGERS = search rules in
-    let mo = c.args.form.now.columns_to in
-    let l : length (suffix w.z 0 f.size) ≡ f.size = let q = suffix-length w.z 0 f.size (omega arith) in omega arith in
-    let t = c.value_at-p.type_inv in
-    let pe : to_z w128 (of_z w128 c.value_at-p.result) ≡ c.value_at-p.result = omega (arith, ints) in
-    let kept : KeepsBest f.size c.value_at-p.result c.in-Some.y w.best c.offer.new.self =
-    subst (λ (n : ℕ). KeepsBest n c.value_at-p.result c.in-Some.y w.best c.offer.new.self) c.requires.size (rw pe at c.offer.ensures) in
-    let held : Holds f.size c.in-Some.y (search_image c.args.form.now m (suffix w.z 0 f.size)) =
-    subst (λ (n : ℕ). Holds n c.in-Some.y (image_of m n (suffix w.z 0 n))) c.requires.size c.in-Some.ensures in
-    offers_best f (search_image c.args.form.now m) w c.value_at-p.result c.in-Some.y c.offer.new.self c.requires.can.one_to_one l c.value_at-p.ensures kept held
+    let vector_full : length state.z ≡ MOST_INTEGERS = search rules in
+    let few_columns = c.args.form.now.columns_to in
+    let suffix_long : length (suffix state.z 0 form.size) ≡ form.size = let suffix_length_is = suffix-length state.z 0 form.size (omega arith) in omega arith in
+    let value_fits = c.value_at-p.type_inv in
+    let value_kept : to_z w128 (of_z w128 c.value_at-p.result) ≡ c.value_at-p.result = omega (arith, ints) in
+    let kept : KeepsBest form.size c.value_at-p.result c.in-Some.y state.best c.offer.new.self =
+    subst (λ (n : ℕ). KeepsBest n c.value_at-p.result c.in-Some.y state.best c.offer.new.self) c.requires.size (rw value_kept at c.offer.ensures) in
+    let held : Holds form.size c.in-Some.y (search_image c.args.form.now m (suffix state.z 0 form.size)) =
+    subst (λ (n : ℕ). Holds n c.in-Some.y (image_of m n (suffix state.z 0 n))) c.requires.size c.in-Some.ensures in
+    offers_best form (search_image c.args.form.now m) state c.value_at-p.result c.in-Some.y c.offer.new.self c.requires.can.one_to_one suffix_long c.value_at-p.ensures kept held

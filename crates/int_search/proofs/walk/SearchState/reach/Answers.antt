@@ -13,87 +13,87 @@ use Rattle.int_search.proofs.walk.SearchState.reach.Goals as goal
 
 pub room-requires-clause-p_size : goal.room-requires-clause-p_size
 room-requires-clause-p_size c =
-    let s : unsigned_abs c.args.self.now.best.p2 ≤ 2 ^ 62 = p2_size (search_form c.args.form.now) c.requires.walk.image c.args.self.now
+    let value_small : unsigned_abs c.args.self.now.best.p2 ≤ 2 ^ 62 = p2_size (search_form c.args.form.now) c.requires.walk.image c.args.self.now
     (searchable c.args.form.now c.requires.some) c.requires.walk.walk in
     omega (arith, ints)
 
 pub room-requires-clause-low_size : goal.room-requires-clause-low_size
 room-requires-clause-low_size c =
-    let s : unsigned_abs c.top-level.result.low ≤ 2 ^ 122 = low_size (search_form c.args.form.now) c.requires.walk.image c.args.self.now c.top-level.result
+    let low_small : unsigned_abs c.top-level.result.low ≤ 2 ^ 122 = low_size (search_form c.args.form.now) c.requires.walk.image c.args.self.now c.top-level.result
     (searchable c.args.form.now c.requires.some) c.requires.walk.walk c.top-level.ensures in
     omega (arith, ints)
 
 pub term_within-requires-clause-d_from : goal.term_within-requires-clause-d_from
 term_within-requires-clause-d_from c =
-    let d = weight_here c.args.form.now c.requires.walk.image c.args.self.now c.top-level.result c.len.result c.requires.some c.requires.walk.walk c.top-level.ensures c.requires.level c.len.ensures in
-    let a = d.from in
-    let b = d.to in
+    let weight = weight_here c.args.form.now c.requires.walk.image c.args.self.now c.top-level.result c.len.result c.requires.some c.requires.walk.walk c.top-level.ensures c.requires.level c.len.ensures in
+    let weight_from_one = weight.from in
+    let weight_at_most = weight.to in
     omega (arith, ints)
 
 pub term_within-requires-clause-d_to : goal.term_within-requires-clause-d_to
 term_within-requires-clause-d_to c =
-    let d = weight_here c.args.form.now c.requires.walk.image c.args.self.now c.top-level.result c.len.result c.requires.some c.requires.walk.walk c.top-level.ensures c.requires.level c.len.ensures in
-    let a = d.from in
-    let b = d.to in
+    let weight = weight_here c.args.form.now c.requires.walk.image c.args.self.now c.top-level.result c.len.result c.requires.some c.requires.walk.walk c.top-level.ensures c.requires.level c.len.ensures in
+    let weight_from_one = weight.from in
+    let weight_at_most = weight.to in
     omega (arith, ints)
 
 pub returns-in_err-term : goal.returns-in_err-term
 returns-in_err-term c =
-    let f : SearchForm = search_form c.args.form.now in
-    let w : SearchState = c.args.self.now in
-    let a : Level = c.top-level.result in
-    let ch : Choice = c.nearest-choice.result in
-    let k = searchable c.args.form.now c.requires.some in
-    let mo = c.args.form.now.columns_to in
-    let d = weight_here c.args.form.now c.requires.walk.image w a c.len.result c.requires.some c.requires.walk.walk c.top-level.ensures c.requires.level c.len.ensures in
-    let df = d.from in
-    let dt = d.to in
-    let lv = latest_level f c.requires.walk.image w a c.requires.walk.walk c.top-level.ensures in
-    let sizes = chosen_sizes f a _ ch.entry ch.offset ch.is_up lv c.nearest-choice.ensures in
-    let os : unsigned_abs ch.offset ≤ 2 ^ 100 = sizes.1 in
-    let ps : unsigned_abs w.best.p2 ≤ 2 ^ 62 = p2_size f c.requires.walk.image w k c.requires.walk.walk in
-    let ls : unsigned_abs a.low ≤ 2 ^ 122 = low_size f c.requires.walk.image w a k c.requires.walk.walk c.top-level.ensures in
-    let left : c.room.result ≡ (pos (2 ^ 60) *ℤ w.best.p2) -ℤ a.low = grind (arith, to_z-of_z) in
-    let rs = c.room.ensures.size in
-    let de : to_z w64 (of_z w64 (get_or c.args.form.now.d (3 + w.size - c.len.result) (pos 0))) ≡ get_or c.args.form.now.d (3 + w.size - c.len.result) (pos 0) = omega (arith, ints) in
-    let ce : to_z w128 (of_z w128 ch.offset) ≡ ch.offset = omega (arith, ints) in
-    let re : to_z w128 (of_z w128 c.room.result) ≡ c.room.result = omega (arith, ints) in
-    let far : c.room.result <ℤ (get_or c.args.form.now.d (3 + w.size - c.len.result) (pos 0) *ℤ (ch.offset *ℤ ch.offset)) = rw (de, ce, re) at c.in_err-term.ensures in
+    let form : SearchForm = search_form c.args.form.now in
+    let state : SearchState = c.args.self.now in
+    let level : Level = c.top-level.result in
+    let choice : Choice = c.nearest-choice.result in
+    let is_searchable = searchable c.args.form.now c.requires.some in
+    let few_columns = c.args.form.now.columns_to in
+    let weight = weight_here c.args.form.now c.requires.walk.image state level c.len.result c.requires.some c.requires.walk.walk c.top-level.ensures c.requires.level c.len.ensures in
+    let weight_from_one = weight.from in
+    let weight_at_most = weight.to in
+    let is_level = latest_level form c.requires.walk.image state level c.requires.walk.walk c.top-level.ensures in
+    let sizes = chosen_sizes form level _ choice.entry choice.offset choice.is_up is_level c.nearest-choice.ensures in
+    let offset_small : unsigned_abs choice.offset ≤ 2 ^ 100 = sizes.1 in
+    let value_small : unsigned_abs state.best.p2 ≤ 2 ^ 62 = p2_size form c.requires.walk.image state is_searchable c.requires.walk.walk in
+    let low_small : unsigned_abs level.low ≤ 2 ^ 122 = low_size form c.requires.walk.image state level is_searchable c.requires.walk.walk c.top-level.ensures in
+    let left : c.room.result ≡ (pos (2 ^ 60) *ℤ state.best.p2) -ℤ level.low = grind (arith, to_z-of_z) in
+    let room_small = c.room.ensures.size in
+    let weight_kept : to_z w64 (of_z w64 (get_or c.args.form.now.d (3 + state.size - c.len.result) (pos 0))) ≡ get_or c.args.form.now.d (3 + state.size - c.len.result) (pos 0) = omega (arith, ints) in
+    let offset_kept : to_z w128 (of_z w128 choice.offset) ≡ choice.offset = omega (arith, ints) in
+    let room_kept : to_z w128 (of_z w128 c.room.result) ≡ c.room.result = omega (arith, ints) in
+    let far : c.room.result <ℤ (get_or c.args.form.now.d (3 + state.size - c.len.result) (pos 0) *ℤ (choice.offset *ℤ choice.offset)) = rw (weight_kept, offset_kept, room_kept) at c.in_err-term.ensures in
     rw c.from_residual.ensures (record {
-      popped = λ im h. walk_pop f im w a ch.entry ch.offset (get_or c.args.form.now.d (3 + w.size - c.len.result) (pos 0)) c.room.result ch.is_up k
-          (omega arith) c.top-level.ensures c.requires.level c.nearest-choice.ensures d.is left far h;
+      popped = λ im h. walk_pop form im state level choice.entry choice.offset (get_or c.args.form.now.d (3 + state.size - c.len.result) (pos 0)) c.room.result choice.is_up is_searchable
+          (omega arith) c.top-level.ensures c.requires.level c.nearest-choice.ensures weight.is left far h;
     })
 
 pub low_with-requires-clause-low_size : goal.low_with-requires-clause-low_size
 low_with-requires-clause-low_size c =
-    let s : unsigned_abs c.top-level.result.low ≤ 2 ^ 122 = low_size (search_form c.args.form.now) c.requires.walk.image c.args.self.now c.top-level.result
+    let low_small : unsigned_abs c.top-level.result.low ≤ 2 ^ 122 = low_size (search_form c.args.form.now) c.requires.walk.image c.args.self.now c.top-level.result
     (searchable c.args.form.now c.requires.some) c.requires.walk.walk c.top-level.ensures in
     omega (arith, ints)
 
 pub returns : goal.returns
 returns c =
-    let f : SearchForm = search_form c.args.form.now in
-    let w : SearchState = c.args.self.now in
-    let a : Level = c.top-level.result in
-    let ch : Choice = c.nearest-choice.result in
-    let k = searchable c.args.form.now c.requires.some in
-    let d = weight_here c.args.form.now c.requires.walk.image w a c.len.result c.requires.some c.requires.walk.walk c.top-level.ensures c.requires.level c.len.ensures in
-    let df = d.from in
-    let dt = d.to in
-    let lv = latest_level f c.requires.walk.image w a c.requires.walk.walk c.top-level.ensures in
-    let sizes = chosen_sizes f a _ ch.entry ch.offset ch.is_up lv c.nearest-choice.ensures in
-    let os : unsigned_abs ch.offset ≤ 2 ^ 100 = sizes.1 in
-    let ps : unsigned_abs w.best.p2 ≤ 2 ^ 62 = p2_size f c.requires.walk.image w k c.requires.walk.walk in
-    let ls : unsigned_abs a.low ≤ 2 ^ 122 = low_size f c.requires.walk.image w a k c.requires.walk.walk c.top-level.ensures in
-    let left : c.room.result ≡ (pos (2 ^ 60) *ℤ w.best.p2) -ℤ a.low = grind (arith, to_z-of_z) in
-    let rs = c.room.ensures.size in
-    let de : to_z w64 (of_z w64 (get_or c.args.form.now.d (3 + w.size - c.len.result) (pos 0))) ≡ get_or c.args.form.now.d (3 + w.size - c.len.result) (pos 0) = omega (arith, ints) in
-    let ce : to_z w128 (of_z w128 ch.offset) ≡ ch.offset = omega (arith, ints) in
-    let re : to_z w128 (of_z w128 c.room.result) ≡ c.room.result = omega (arith, ints) in
-    let t : IsTermWithin c.room.result (get_or c.args.form.now.d (3 + w.size - c.len.result) (pos 0)) ch.offset c.in_ok-term.term = rw (de, ce, re) at c.in_ok-term.ensures in
-    let ts = t.size in
-    let lo : to_z w128 (of_z w128 c.low_with.result) ≡ a.low +ℤ c.in_ok-term.term =
-    (let e : c.low_with.result ≡ a.low +ℤ c.in_ok-term.term = grind (arith, to_z-of_z) in
+    let form : SearchForm = search_form c.args.form.now in
+    let state : SearchState = c.args.self.now in
+    let level : Level = c.top-level.result in
+    let choice : Choice = c.nearest-choice.result in
+    let is_searchable = searchable c.args.form.now c.requires.some in
+    let weight = weight_here c.args.form.now c.requires.walk.image state level c.len.result c.requires.some c.requires.walk.walk c.top-level.ensures c.requires.level c.len.ensures in
+    let weight_from_one = weight.from in
+    let weight_at_most = weight.to in
+    let is_level = latest_level form c.requires.walk.image state level c.requires.walk.walk c.top-level.ensures in
+    let sizes = chosen_sizes form level _ choice.entry choice.offset choice.is_up is_level c.nearest-choice.ensures in
+    let offset_small : unsigned_abs choice.offset ≤ 2 ^ 100 = sizes.1 in
+    let value_small : unsigned_abs state.best.p2 ≤ 2 ^ 62 = p2_size form c.requires.walk.image state is_searchable c.requires.walk.walk in
+    let low_small : unsigned_abs level.low ≤ 2 ^ 122 = low_size form c.requires.walk.image state level is_searchable c.requires.walk.walk c.top-level.ensures in
+    let left : c.room.result ≡ (pos (2 ^ 60) *ℤ state.best.p2) -ℤ level.low = grind (arith, to_z-of_z) in
+    let room_small = c.room.ensures.size in
+    let weight_kept : to_z w64 (of_z w64 (get_or c.args.form.now.d (3 + state.size - c.len.result) (pos 0))) ≡ get_or c.args.form.now.d (3 + state.size - c.len.result) (pos 0) = omega (arith, ints) in
+    let offset_kept : to_z w128 (of_z w128 choice.offset) ≡ choice.offset = omega (arith, ints) in
+    let room_kept : to_z w128 (of_z w128 c.room.result) ≡ c.room.result = omega (arith, ints) in
+    let term_within : IsTermWithin c.room.result (get_or c.args.form.now.d (3 + state.size - c.len.result) (pos 0)) choice.offset c.in_ok-term.term = rw (weight_kept, offset_kept, room_kept) at c.in_ok-term.ensures in
+    let term_small = term_within.size in
+    let low_is : to_z w128 (of_z w128 c.low_with.result) ≡ level.low +ℤ c.in_ok-term.term =
+    (let low_is_sum : c.low_with.result ≡ level.low +ℤ c.in_ok-term.term = grind (arith, to_z-of_z) in
     omega (arith, ints)) in
-    walk_reach f c.requires.walk.image w _ (get_or c.args.form.now.d (3 + w.size - c.len.result)
-    (pos 0)) c.in_ok-term.term c.room.result k c.requires.walk.walk c.top-level.ensures c.requires.level c.nearest-choice.ensures d.is left t lo
+    walk_reach form c.requires.walk.image state _ (get_or c.args.form.now.d (3 + state.size - c.len.result)
+    (pos 0)) c.in_ok-term.term c.room.result is_searchable c.requires.walk.walk c.top-level.ensures c.requires.level c.nearest-choice.ensures weight.is left term_within low_is

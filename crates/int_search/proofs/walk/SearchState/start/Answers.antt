@@ -48,79 +48,79 @@ points : (form : Form) (map : List (List ℤ)) (z w y v : List ℤ) (p q : ℤ) 
     → p ≡ value (search_form form).p (suffix z 0 (search_form form).size) → q ≡ value (search_form form).p (suffix w 0 (search_form form).size)
     → p <ℤ pos (2 ^ 62) → q <ℤ pos (2 ^ 62) → ArePoints form map z w y v p q
 points form map z w y v p q some z_is w_is y_held v_held p_is q_is p_small q_small =
-    let f : SearchForm = search_form form in
+    let sought : SearchForm = search_form form in
     record {
-      first = record { size = ap length z_is ∙ rounded_length f f.size; held = image_held form map z y y_held; value_is = p_is; within = within_top f (rounded f f.size) _ z_is (top_first f) };
-      second = record { size = ap length w_is ∙ neighbour_length f some; held = image_held form map w v v_held; value_is = q_is; within = within_top f (neighbour f) _ w_is (top_second f) };
-      small = top_small f p q (p_is ∙ ap (λ u. value f.p u) z_is) (q_is ∙ ap (λ u. value f.p u) w_is) p_small q_small;
+      first = record { size = ap length z_is ∙ rounded_length sought sought.size; held = image_held form map z y y_held; value_is = p_is; within = within_top sought (rounded sought sought.size) _ z_is (top_first sought) };
+      second = record { size = ap length w_is ∙ neighbour_length sought some; held = image_held form map w v v_held; value_is = q_is; within = within_top sought (neighbour sought) _ w_is (top_second sought) };
+      small = top_small sought p q (p_is ∙ ap (λ u. value sought.p u) z_is) (q_is ∙ ap (λ u. value sought.p u) w_is) p_small q_small;
     }
 
 pub returns-then-p : goal.returns-then-p
 returns-then-p c =
-    let f : SearchForm = search_form c.args.form.now in
-    let p = c.value_at-p.type_inv in
-    let q = c.value_at-q.type_inv in
+    let form : SearchForm = search_form c.args.form.now in
+    let first_fits = c.value_at-p.type_inv in
+    let second_fits = c.value_at-q.type_inv in
     elim c.then-p.branch [
-      | then-p-via-then-p w ↦ inl (top_wide f (suffix c.in_ok-z.z 0 f.size) (within_top f (rounded f f.size) (suffix c.in_ok-z.z 0 f.size) c.in_ok-z.ensures.is (top_first f))
+      | then-p-via-then-p w ↦ inl (top_wide form (suffix c.in_ok-z.z 0 form.size) (within_top form (rounded form form.size) (suffix c.in_ok-z.z 0 form.size) c.in_ok-z.ensures.is (top_first form))
           (omega (arith, ints, c.value_at-p.ensures)))
-      | then-p-via-else-p+then-q w ↦ inl (top_wide f (suffix c.in_ok-w.w 0 f.size) (within_top f (neighbour f) (suffix c.in_ok-w.w 0 f.size) c.in_ok-w.ensures.is (top_second f))
+      | then-p-via-else-p+then-q w ↦ inl (top_wide form (suffix c.in_ok-w.w 0 form.size) (within_top form (neighbour form) (suffix c.in_ok-w.w 0 form.size) c.in_ok-w.ensures.is (top_second form))
           (omega (arith, ints, c.value_at-q.ensures)))
     ]
 
 pub returns-in_err-y : goal.returns-in_err-y
 returns-in_err-y c =
-    let f : SearchForm = search_form c.args.form.now in
-    let k = searchable c.args.form.now c.requires.some in
-    let v : List ℤ = suffix c.in_ok-z.z 0 f.size in
-    rw c.from_residual-in_err-y.ensures (inr (wide_point f (search_image c.args.form.now c.args.map.now) v k (ap length c.in_ok-z.ensures.is ∙ rounded_length f f.size)
-    (within_top f (rounded f f.size) v c.in_ok-z.ensures.is (top_first f)) (inl ([], inl (sym c.in_ok-z.ensures.is))) (image_large c.args.form.now c.args.map.now c.in_ok-z.z c.in_err-y.ensures)))
+    let form : SearchForm = search_form c.args.form.now in
+    let is_searchable = searchable c.args.form.now c.requires.some in
+    let vector : List ℤ = suffix c.in_ok-z.z 0 form.size in
+    rw c.from_residual-in_err-y.ensures (inr (wide_point form (search_image c.args.form.now c.args.map.now) vector is_searchable (ap length c.in_ok-z.ensures.is ∙ rounded_length form form.size)
+    (within_top form (rounded form form.size) vector c.in_ok-z.ensures.is (top_first form)) (inl ([], inl (sym c.in_ok-z.ensures.is))) (image_large c.args.form.now c.args.map.now c.in_ok-z.z c.in_err-y.ensures)))
 
 pub returns-in_err-v : goal.returns-in_err-v
 returns-in_err-v c =
-    let f : SearchForm = search_form c.args.form.now in
-    let k = searchable c.args.form.now c.requires.some in
-    let v : List ℤ = suffix c.in_ok-w.w 0 f.size in
-    rw c.from_residual-in_err-v.ensures (inr (wide_point f (search_image c.args.form.now c.args.map.now) v k (ap length c.in_ok-w.ensures.is ∙ neighbour_length f k.some)
-    (within_top f (neighbour f) v c.in_ok-w.ensures.is (top_second f)) (inl ([], inr (sym c.in_ok-w.ensures.is))) (image_large c.args.form.now c.args.map.now c.in_ok-w.w c.in_err-v.ensures)))
+    let form : SearchForm = search_form c.args.form.now in
+    let is_searchable = searchable c.args.form.now c.requires.some in
+    let vector : List ℤ = suffix c.in_ok-w.w 0 form.size in
+    rw c.from_residual-in_err-v.ensures (inr (wide_point form (search_image c.args.form.now c.args.map.now) vector is_searchable (ap length c.in_ok-w.ensures.is ∙ neighbour_length form is_searchable.some)
+    (within_top form (neighbour form) vector c.in_ok-w.ensures.is (top_second form)) (inl ([], inr (sym c.in_ok-w.ensures.is))) (image_large c.args.form.now c.args.map.now c.in_ok-w.w c.in_err-v.ensures)))
 
 pub unreachable-requires : goal.unreachable-requires
 unreachable-requires c =
-    let f : SearchForm = search_form c.args.form.now in
-    let k = searchable c.args.form.now c.requires.some in
-    let e : suffix c.in_ok-y.y 0 f.size ≡ suffix c.in_ok-v.v 0 f.size = subst (λ (n : ℕ). suffix c.in_ok-y.y 0 n ≡ suffix c.in_ok-v.v 0 n) (same_size c.args.form.now) (c.in-Equal.ensures).1 in
-    points_differ f (search_image c.args.form.now c.args.map.now) (suffix c.in_ok-z.z 0 f.size)
-    (suffix c.in_ok-w.w 0 f.size) c.in_ok-y.y c.in_ok-v.v k c.requires.one_to_one c.in_ok-z.ensures.is c.in_ok-w.ensures.is
-    (image_held c.args.form.now c.args.map.now c.in_ok-z.z c.in_ok-y.y c.in_ok-y.ensures) (image_held c.args.form.now c.args.map.now c.in_ok-w.w c.in_ok-v.v c.in_ok-v.ensures) e
+    let form : SearchForm = search_form c.args.form.now in
+    let is_searchable = searchable c.args.form.now c.requires.some in
+    let same_points : suffix c.in_ok-y.y 0 form.size ≡ suffix c.in_ok-v.v 0 form.size = subst (λ (n : ℕ). suffix c.in_ok-y.y 0 n ≡ suffix c.in_ok-v.v 0 n) (same_size c.args.form.now) (c.in-Equal.ensures).1 in
+    points_differ form (search_image c.args.form.now c.args.map.now) (suffix c.in_ok-z.z 0 form.size)
+    (suffix c.in_ok-w.w 0 form.size) c.in_ok-y.y c.in_ok-v.v is_searchable c.requires.one_to_one c.in_ok-z.ensures.is c.in_ok-w.ensures.is
+    (image_held c.args.form.now c.args.map.now c.in_ok-z.z c.in_ok-y.y c.in_ok-y.ensures) (image_held c.args.form.now c.args.map.now c.in_ok-w.w c.in_ok-v.v c.in_ok-v.ensures) same_points
 
 pub returns-in-Less : goal.returns-in-Less
 returns-in-Less c =
     let form : Form = c.args.form.now in
-    let f : SearchForm = search_form form in
+    let sought : SearchForm = search_form form in
     let im : List ℤ → List ℤ = search_image form c.args.map.now in
-    let s = c.value_at-p.type_inv in
-    let t = c.value_at-q.type_inv in
-    let p : to_z w128 (of_z w128 c.value_at-p.result) ≡ c.value_at-p.result = omega (arith, ints) in
-    let q : to_z w128 (of_z w128 c.value_at-q.result) ≡ c.value_at-q.result = omega (arith, ints) in
+    let first_fits = c.value_at-p.type_inv in
+    let second_fits = c.value_at-q.type_inv in
+    let first_kept : to_z w128 (of_z w128 c.value_at-p.result) ≡ c.value_at-p.result = omega (arith, ints) in
+    let second_kept : to_z w128 (of_z w128 c.value_at-q.result) ≡ c.value_at-q.result = omega (arith, ints) in
     let are : ArePoints form c.args.map.now c.in_ok-z.z c.in_ok-w.w c.in_ok-y.y c.in_ok-v.v c.value_at-p.result c.value_at-q.result =
     points form c.args.map.now c.in_ok-z.z c.in_ok-w.w c.in_ok-y.y c.in_ok-v.v c.value_at-p.result c.value_at-q.result (searchable form c.requires.some).some c.in_ok-z.ensures.is c.in_ok-w.ensures.is
     c.in_ok-y.ensures c.in_ok-v.ensures c.value_at-p.ensures c.value_at-q.ensures (omega (arith, ints)) (omega (arith, ints)) in
-    let g : BeginsWith f (record { first = c.in_ok-y.y; second = c.in_ok-v.v; p1 = c.value_at-p.result; p2 = c.value_at-q.result }) c.begin.result = rw (p, q) at c.begin.ensures in
-    begins f im (suffix c.in_ok-z.z 0 f.size) (suffix c.in_ok-w.w 0 f.size) c.in_ok-y.y c.in_ok-v.v c.value_at-p.result c.value_at-q.result c.begin.result are.first are.second
-    (rank_less form _ _ _ _ c.in_ok-y.y c.in_ok-v.v p q c.in-Less.ensures) are.small g
+    let begins_with : BeginsWith sought (record { first = c.in_ok-y.y; second = c.in_ok-v.v; p1 = c.value_at-p.result; p2 = c.value_at-q.result }) c.begin.result = rw (first_kept, second_kept) at c.begin.ensures in
+    begins sought im (suffix c.in_ok-z.z 0 sought.size) (suffix c.in_ok-w.w 0 sought.size) c.in_ok-y.y c.in_ok-v.v c.value_at-p.result c.value_at-q.result c.begin.result are.first are.second
+    (rank_less form _ _ _ _ c.in_ok-y.y c.in_ok-v.v first_kept second_kept c.in-Less.ensures) are.small begins_with
 
 pub returns-in-Greater : goal.returns-in-Greater
 returns-in-Greater c =
     let form : Form = c.args.form.now in
-    let f : SearchForm = search_form form in
+    let sought : SearchForm = search_form form in
     let im : List ℤ → List ℤ = search_image form c.args.map.now in
-    let s = c.value_at-p.type_inv in
-    let t = c.value_at-q.type_inv in
-    let p : to_z w128 (of_z w128 c.value_at-p.result) ≡ c.value_at-p.result = omega (arith, ints) in
-    let q : to_z w128 (of_z w128 c.value_at-q.result) ≡ c.value_at-q.result = omega (arith, ints) in
+    let first_fits = c.value_at-p.type_inv in
+    let second_fits = c.value_at-q.type_inv in
+    let first_kept : to_z w128 (of_z w128 c.value_at-p.result) ≡ c.value_at-p.result = omega (arith, ints) in
+    let second_kept : to_z w128 (of_z w128 c.value_at-q.result) ≡ c.value_at-q.result = omega (arith, ints) in
     let are : ArePoints form c.args.map.now c.in_ok-z.z c.in_ok-w.w c.in_ok-y.y c.in_ok-v.v c.value_at-p.result c.value_at-q.result =
     points form c.args.map.now c.in_ok-z.z c.in_ok-w.w c.in_ok-y.y c.in_ok-v.v c.value_at-p.result c.value_at-q.result (searchable form c.requires.some).some c.in_ok-z.ensures.is c.in_ok-w.ensures.is
     c.in_ok-y.ensures c.in_ok-v.ensures c.value_at-p.ensures c.value_at-q.ensures (omega (arith, ints)) (omega (arith, ints)) in
-    let g : BeginsWith f (record { first = c.in_ok-v.v; second = c.in_ok-y.y; p1 = c.value_at-q.result; p2 = c.value_at-p.result }) c.begin-in-Greater.result =
-    rw (p, q) at c.begin-in-Greater.ensures in
-    begins f im (suffix c.in_ok-w.w 0 f.size) (suffix c.in_ok-z.z 0 f.size) c.in_ok-v.v c.in_ok-y.y c.value_at-q.result c.value_at-p.result c.begin-in-Greater.result are.second are.first
-    (rank_less form _ _ _ _ c.in_ok-v.v c.in_ok-y.y q p c.in-Greater.ensures) are.small g
+    let begins_with : BeginsWith sought (record { first = c.in_ok-v.v; second = c.in_ok-y.y; p1 = c.value_at-q.result; p2 = c.value_at-p.result }) c.begin-in-Greater.result =
+    rw (first_kept, second_kept) at c.begin-in-Greater.ensures in
+    begins sought im (suffix c.in_ok-w.w 0 sought.size) (suffix c.in_ok-z.z 0 sought.size) c.in_ok-v.v c.in_ok-y.y c.value_at-q.result c.value_at-p.result c.begin-in-Greater.result are.second are.first
+    (rank_less form _ _ _ _ c.in_ok-v.v c.in_ok-y.y second_kept first_kept c.in-Greater.ensures) are.small begins_with

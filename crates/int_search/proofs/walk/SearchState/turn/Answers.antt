@@ -23,8 +23,8 @@ returns-then-self-budget c = subst (λ (m : ℕ). IsOver (search_form c.args.for
 
 pub returns-then-is_large : goal.returns-then-is_large
 returns-then-is_large c =
-    let s = reach_entry (search_form c.args.form.now) c.args.self.now c.in-Some.reach c.in-Some.ensures in
-    let b = c.is_large.ensures.yes (rw c.if-is_large.true (search rules)) in
+    let entry_small = reach_entry (search_form c.args.form.now) c.args.self.now c.in-Some.reach c.in-Some.ensures in
+    let is_large_entry = c.is_large.ensures.yes (rw c.if-is_large.true (search rules)) in
     let spent = c.if-self-budget.false in
     let visits = c.requires.visits in
     inl (walk_wide (search_form c.args.form.now) (search_image c.args.form.now c.args.map.now) c.args.self.now c.in-Some.reach c.args.budget c.requires.walk c.in-Some.ensures (omega arith)
@@ -32,34 +32,34 @@ returns-then-is_large c =
 
 pub visit-requires-clause-small : goal.visit-requires-clause-small
 visit-requires-clause-small c =
-    let s = reach_entry (search_form c.args.form.now) c.args.self.now c.in-Some.reach c.in-Some.ensures in
-    let b = c.is_large.ensures.no c.if-is_large.false in
+    let entry_small = reach_entry (search_form c.args.form.now) c.args.self.now c.in-Some.reach c.in-Some.ensures in
+    let not_large = c.is_large.ensures.no c.if-is_large.false in
     omega (arith, ints)
 
 pub returns-then-visit : goal.returns-then-visit
 returns-then-visit c =
-    let f : SearchForm = search_form c.args.form.now in
-    let w : SearchState = c.args.self.now in
+    let form : SearchForm = search_form c.args.form.now in
+    let state : SearchState = c.args.self.now in
     let new : SearchState = c.visit.new.self in
-    let v : Visits f (search_image c.args.form.now c.args.map.now) w new = c.if-visit.ensures in
-    let n = c.requires.visits in
-    let ne = c.if-self-budget.false in
-    let vs = v.visits in
-    let se : new.size ≡ w.size = v.walk.size ∙ sym c.requires.walk.size in
-    let l : (c.args.budget - new.visits) * (w.size + 2) + length new.stack < (c.args.budget - w.visits) * (w.size + 2) + length w.stack =
-    left_less c.args.budget w.visits new.visits (w.size + 2) (length new.stack) (length w.stack) vs (omega arith) v.depth (omega arith) in
-    (v.walk, omega arith, subst (λ (m : ℕ). (c.args.budget - new.visits) * (m + 2) + length new.stack < (c.args.budget - w.visits) * (w.size + 2) + length w.stack) (sym se) l)
+    let visits_entry : Visits form (search_image c.args.form.now c.args.map.now) state new = c.if-visit.ensures in
+    let visits_at_most = c.requires.visits in
+    let below_budget = c.if-self-budget.false in
+    let one_more_visit = visits_entry.visits in
+    let same_size : new.size ≡ state.size = visits_entry.walk.size ∙ sym c.requires.walk.size in
+    let fewer_left : (c.args.budget - new.visits) * (state.size + 2) + length new.stack < (c.args.budget - state.visits) * (state.size + 2) + length state.stack =
+    left_less c.args.budget state.visits new.visits (state.size + 2) (length new.stack) (length state.stack) one_more_visit (omega arith) visits_entry.depth (omega arith) in
+    (visits_entry.walk, omega arith, subst (λ (m : ℕ). (c.args.budget - new.visits) * (m + 2) + length new.stack < (c.args.budget - state.visits) * (state.size + 2) + length state.stack) (sym same_size) fewer_left)
 
 pub returns-in_default : goal.returns-in_default
 returns-in_default c =
-    let w : SearchState = c.args.self.now in
-    let f : SearchForm = search_form c.args.form.now in
+    let state : SearchState = c.args.self.now in
+    let form : SearchForm = search_form c.args.form.now in
     let im : List ℤ → List ℤ = search_image c.args.form.now c.args.map.now in
-    let n : 0 < length w.stack = some_of c.len.result (length w.stack) c.len.ensures c.if-len-eq0.false in
-    let m : IsWalk f im (record w { stack = drop 1 w.stack }) = c.in_default.ensures.popped im c.requires.walk in
-    let y : length (drop 1 w.stack) + 1 ≡ length w.stack = drop_length w.stack n in
-    let g : length c.pop.new.self ≡ length (drop 1 w.stack) = ap length c.pop.ensures in
-    (subst (λ (fs : List Level). IsWalk f im (record w { stack = fs })) (sym c.pop.ensures) m, c.requires.visits, omega arith)
+    let some_levels : 0 < length state.stack = some_of c.len.result (length state.stack) c.len.ensures c.if-len-eq0.false in
+    let popped_walk : IsWalk form im (record state { stack = drop 1 state.stack }) = c.in_default.ensures.popped im c.requires.walk in
+    let one_shorter : length (drop 1 state.stack) + 1 ≡ length state.stack = drop_length state.stack some_levels in
+    let popped_length : length c.pop.new.self ≡ length (drop 1 state.stack) = ap length c.pop.ensures in
+    (subst (λ (fs : List Level). IsWalk form im (record state { stack = fs })) (sym c.pop.ensures) popped_walk, c.requires.visits, omega arith)
 
 pub returns-else-visit : goal.returns-else-visit
 returns-else-visit c =

@@ -21,49 +21,49 @@ later_part-requires-clause-small c = small_set c.args.self.now.z _ _ c.requires.
 
 pub returns-then-i-eq0 : goal.returns-then-i-eq0
 returns-then-i-eq0 c =
-    let f : SearchForm = search_form c.args.form.now in
-    let w : SearchState = c.args.self.now in
-    let r : NextEntry = c.args.reach.now in
-    let mo = c.args.form.now.columns_to in
-    let s = c.requires.walk.size in
-    let l = c.len.ensures in
-    let x = small_w64 r.choice.entry c.requires.small in
-    let i : w.size - c.len.result ≡ 0 = omega arith in
-    let n : f.size - length w.stack ≡ 0 = omega arith in
-    let rx : r.choice.entry ≡ to_z w64 (of_z w64 r.choice.entry) = sym x in
-    let small = small_set w.z (w.size - c.len.result) (to_z w64 (of_z w64 r.choice.entry)) c.requires.walk.small (rw x c.requires.small) in
-    leaf_visit f (search_image c.args.form.now c.args.map.now) w c.offer.new.self r c.moved.result
-    (set w.z (w.size - c.len.result) (to_z w64 (of_z w64 r.choice.entry))) c.replace.new.self c.offer.result
-    (searchable c.args.form.now c.requires.can.some) (omega arith) c.requires.walk c.requires.reach c.requires.small c.moved.ensures n
-    (ap₂ (λ a b. set w.z a b) i x) c.replace.ensures small c.offer.ensures
+    let form : SearchForm = search_form c.args.form.now in
+    let state : SearchState = c.args.self.now in
+    let next : NextEntry = c.args.reach.now in
+    let few_columns = c.args.form.now.columns_to in
+    let size_is = c.requires.walk.size in
+    let depth_is = c.len.ensures in
+    let entry_kept = small_w64 next.choice.entry c.requires.small in
+    let place_is_first : state.size - c.len.result ≡ 0 = omega arith in
+    let none_left : form.size - length state.stack ≡ 0 = omega arith in
+    let same_entry : next.choice.entry ≡ to_z w64 (of_z w64 next.choice.entry) = sym entry_kept in
+    let small = small_set state.z (state.size - c.len.result) (to_z w64 (of_z w64 next.choice.entry)) c.requires.walk.small (rw entry_kept c.requires.small) in
+    leaf_visit form (search_image c.args.form.now c.args.map.now) state c.offer.new.self next c.moved.result
+    (set state.z (state.size - c.len.result) (to_z w64 (of_z w64 next.choice.entry))) c.replace.new.self c.offer.result
+    (searchable c.args.form.now c.requires.can.some) (omega arith) c.requires.walk c.requires.reach c.requires.small c.moved.ensures none_left
+    (ap₂ (λ a b. set state.z a b) place_is_first entry_kept) c.replace.ensures small c.offer.ensures
 
 pub returns : goal.returns
 returns c =
-    let f : SearchForm = search_form c.args.form.now in
-    let w : SearchState = c.args.self.now in
-    let r : NextEntry = c.args.reach.now in
-    let mo = c.args.form.now.columns_to in
-    let h = c.requires.walk in
-    let s = h.size in
-    let l = c.len.ensures in
+    let form : SearchForm = search_form c.args.form.now in
+    let state : SearchState = c.args.self.now in
+    let next : NextEntry = c.args.reach.now in
+    let few_columns = c.args.form.now.columns_to in
+    let is_walk = c.requires.walk in
+    let size_is = is_walk.size in
+    let depth_is = c.len.ensures in
     let some = c.requires.reach.some in
-    let dep = h.depth in
-    let x = small_w64 r.choice.entry c.requires.small in
-    let i : w.size - c.len.result ≡ f.size - length w.stack = omega arith in
-    let above : 0 < f.size - length w.stack = omega arith in
-    let z : List ℤ = set w.z (w.size - c.len.result) (to_z w64 (of_z w64 r.choice.entry)) in
-    let st : c.push.new.self ≡ c.fresh.result ∷ (c.moved.result ∷ drop 1 w.stack) = c.push.ensures ∙ ap (λ t. c.fresh.result ∷ t) c.replace.ensures in
-    let rs = c.later_part.ensures.size in
-    let j : w.size - c.len.result - 1 + 1 ≡ f.size - length w.stack = omega arith in
-    let r0 : to_z w128 (of_z w128 c.later_part.result) ≡ c.later_part.result = omega (arith, ints) in
-    let ee : to_z w128 (of_z w128 c.later_part.result) ≡ rest f (suffix z (f.size - length w.stack) f.size) = r0 ∙ c.later_part.ensures.value ∙ ap (λ m. rest f (suffix z m f.size)) j in
-    let small = small_set w.z (w.size - c.len.result) (to_z w64 (of_z w64 r.choice.entry)) h.small (rw x c.requires.small) in
-    let le : to_z w128 (of_z w128 r.low) ≡ r.low = grind (arith, to_z-of_z) in
-    let y : length (drop 1 w.stack) + 1 ≡ length w.stack = drop_length w.stack some in
+    let dep = is_walk.depth in
+    let entry_kept = small_w64 next.choice.entry c.requires.small in
+    let place_is : state.size - c.len.result ≡ form.size - length state.stack = omega arith in
+    let above : 0 < form.size - length state.stack = omega arith in
+    let z : List ℤ = set state.z (state.size - c.len.result) (to_z w64 (of_z w64 next.choice.entry)) in
+    let stack_is : c.push.new.self ≡ c.fresh.result ∷ (c.moved.result ∷ drop 1 state.stack) = c.push.ensures ∙ ap (λ t. c.fresh.result ∷ t) c.replace.ensures in
+    let rest_small = c.later_part.ensures.size in
+    let place_after : state.size - c.len.result - 1 + 1 ≡ form.size - length state.stack = omega arith in
+    let rest_kept : to_z w128 (of_z w128 c.later_part.result) ≡ c.later_part.result = omega (arith, ints) in
+    let rest_is : to_z w128 (of_z w128 c.later_part.result) ≡ rest form (suffix z (form.size - length state.stack) form.size) = rest_kept ∙ c.later_part.ensures.value ∙ ap (λ m. rest form (suffix z m form.size)) place_after in
+    let small = small_set state.z (state.size - c.len.result) (to_z w64 (of_z w64 next.choice.entry)) is_walk.small (rw entry_kept c.requires.small) in
+    let low_kept : to_z w128 (of_z w128 next.low) ≡ next.low = grind (arith, to_z-of_z) in
+    let one_shorter : length (drop 1 state.stack) + 1 ≡ length state.stack = drop_length state.stack some in
     record {
-      walk = walk_inner f (search_image c.args.form.now c.args.map.now) w r c.moved.result c.fresh.result z c.push.new.self _ (searchable c.args.form.now c.requires.can.some)
-          (omega arith) h c.requires.reach c.requires.small
-          c.moved.ensures above (ap₂ (λ a b. set w.z a b) i x) st small ee (rw le at c.fresh.ensures);
+      walk = walk_inner form (search_image c.args.form.now c.args.map.now) state next c.moved.result c.fresh.result z c.push.new.self _ (searchable c.args.form.now c.requires.can.some)
+          (omega arith) is_walk c.requires.reach c.requires.small
+          c.moved.ensures above (ap₂ (λ a b. set state.z a b) place_is entry_kept) stack_is small rest_is (rw low_kept at c.fresh.ensures);
       visits = refl;
-      depth = let g = ap length st in omega arith;
+      depth = let stack_length = ap length stack_is in omega arith;
     }

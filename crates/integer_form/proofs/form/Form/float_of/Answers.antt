@@ -14,7 +14,7 @@ use Rattle.integer_form.proofs.form.Form.float_of.Goals as goal
 
 -- no column is solved before
 nothing : (n : ℕ) (y : List ℤ) → list_from (item y) n (n - n) ≡ []
-nothing n y = let e : n - n ≡ 0 = omega arith in ap (λ (k : ℕ). list_from (item y) n k) e
+nothing n y = let nothing_left : n - n ≡ 0 = omega arith in ap (λ (k : ℕ). list_from (item y) n k) nothing_left
 
 whole : (f : Form) (x y : List ℤ) → list_from (item x) 0 (f.columns - 1) ≡ solved (stored f.d f.l f.columns 0 (f.columns - 1))
     (list_from (item y) (f.columns - 1) (f.columns - 1 - (f.columns - 1))) → list_from (item x) 0 (f.columns - 1) ≡ float_point f
@@ -37,10 +37,10 @@ returns-clause-ok c = float_item (c.args.self.now.columns - 1) c.solve.new.numbe
 pub returns-clause-refused : goal.returns-clause-refused
 returns-clause-refused c =
     let zero : (i : ℕ) → c.args.self.now.columns - 1 ≤ i → item c.solve.new.numbers i ≡ pos 0 = λ i h. c.in_ok-solve.ensures.outside i h ∙ zero_item MOST_FACTORS i in
-    let e : (j : ℕ) → item c.solve.new.numbers j ≡ item (float_point c.args.self.now) j =
+    let same_numbers : (j : ℕ) → item c.solve.new.numbers j ≡ item (float_point c.args.self.now) j =
     float_item (c.args.self.now.columns - 1) c.solve.new.numbers (float_point c.args.self.now)
     (whole c.args.self.now c.solve.new.numbers (replicate MOST_FACTORS (pos 0)) (c.in_ok-solve.ensures.solved c.args.self.now.d)) zero in
-    (λ h. absurd cc, λ w. absurd (narrow c.args.self.now c.solve.new.numbers e c.in_ok-solve.ensures.narrow zero w))
+    (λ h. absurd cc, λ w. absurd (narrow c.args.self.now c.solve.new.numbers same_numbers c.in_ok-solve.ensures.narrow zero w))
 
 pub returns-in_err-solve-clause-refused : goal.returns-in_err-solve-clause-refused
 returns-in_err-solve-clause-refused c =
@@ -49,5 +49,5 @@ returns-in_err-solve-clause-refused c =
   where
     wide : (f : Form) (y : List ℤ) → HasWideBefore (f.columns - 1)
         (solved (stored f.d f.l f.columns 0 (f.columns - 1)) (list_from (item y) (f.columns - 1) (f.columns - 1 - (f.columns - 1)))) → HasWide (float_point f)
-    wide f y w = let v : HasWideBefore (f.columns - 1) (float_point f) =
-        subst (λ (s : List ℤ). HasWideBefore (f.columns - 1) (solved (stored f.d f.l f.columns 0 (f.columns - 1)) s)) (nothing (f.columns - 1) y) w in (v.0, v.1.1)
+    wide f y w = let has_wide : HasWideBefore (f.columns - 1) (float_point f) =
+        subst (λ (s : List ℤ). HasWideBefore (f.columns - 1) (solved (stored f.d f.l f.columns 0 (f.columns - 1)) s)) (nothing (f.columns - 1) y) w in (has_wide.0, has_wide.1.1)

@@ -33,45 +33,45 @@ column_is e x y a b d t p q r h = h ∙ ap₂ (λ u v. u *ℤ (v *ℤ v) +ℤ po
 -- the sum so far, and the next column
 sum_is : (o t : ℤ) (k : ℕ) → k < MOST_FORM_COLUMNS → unsigned_abs o ≤ k * 2 ^ 120 → unsigned_abs t ≤ 2 ^ 120 → (o +ℤ to_z w128 (of_z w128 t) ≡ o +ℤ t) ×
     (unsigned_abs (o +ℤ t) ≤ (k + 1) * 2 ^ 120) × (unsigned_abs (o +ℤ t) ≤ 2 ^ 126)
-sum_is o t k h p q = let s : unsigned_abs (o +ℤ t) ≤ unsigned_abs o + unsigned_abs t = size_add o t in (ap (λ a. o +ℤ a) (as_w128 t (omega arith)), omega arith, omega arith)
+sum_is o t k h p q = let sum_size_at_most : unsigned_abs (o +ℤ t) ≤ unsigned_abs o + unsigned_abs t = size_add o t in (ap (λ a. o +ℤ a) (as_w128 t (omega arith)), omega arith, omega arith)
 
 few : (columns k : ℕ) → columns ≤ MOST_COLUMNS → k < columns - 3 → k < MOST_FORM_COLUMNS
 few columns k h g = omega arith
 
 pub overflow_add-sum : goal.overflow_add-sum
 overflow_add-sum c =
-    let to : c.args.self.now.columns ≤ MOST_COLUMNS = c.args.self.now.columns_to in
-    let w : (to_z w128 c.loop-k.sum-bits +ℤ to_z w128 (of_z w128 c.column_value-sum.result) ≡ to_z w128 c.loop-k.sum-bits +ℤ c.column_value-sum.result) ×
+    let columns_at_most : c.args.self.now.columns ≤ MOST_COLUMNS = c.args.self.now.columns_to in
+    let sum_fits : (to_z w128 c.loop-k.sum-bits +ℤ to_z w128 (of_z w128 c.column_value-sum.result) ≡ to_z w128 c.loop-k.sum-bits +ℤ c.column_value-sum.result) ×
     (unsigned_abs (to_z w128 c.loop-k.sum-bits +ℤ c.column_value-sum.result) ≤ (c.loop-k.k + 1) * 2 ^ 120) × (unsigned_abs (to_z w128 c.loop-k.sum-bits +ℤ c.column_value-sum.result) ≤ 2 ^ 126) =
-    sum_is (to_z w128 c.loop-k.sum-bits) c.column_value-sum.result c.loop-k.k (few c.args.self.now.columns c.loop-k.k to c.loop-k-test.true) c.loop-k.invariant.size c.column_value-sum.ensures.size in
-    rw w.0 (fits (to_z w128 c.loop-k.sum-bits +ℤ c.column_value-sum.result) w.2)
+    sum_is (to_z w128 c.loop-k.sum-bits) c.column_value-sum.result c.loop-k.k (few c.args.self.now.columns c.loop-k.k columns_at_most c.loop-k-test.true) c.loop-k.invariant.size c.column_value-sum.ensures.size in
+    rw sum_fits.0 (fits (to_z w128 c.loop-k.sum-bits +ℤ c.column_value-sum.result) sum_fits.2)
   where
     fits : (x : ℤ) → unsigned_abs x ≤ 2 ^ 126 → FitsSigned w128 x
     fits x h = omega (arith, ints)
 
 pub loop-k-preserved : goal.loop-k-preserved
 loop-k-preserved c =
-    let f : Form = c.args.self.now in
+    let form : Form = c.args.self.now in
     let n : ℕ = c.args.self.now.columns - 3 in
     let r : ℕ = (c.args.self.now.columns - 3 - 1) - c.loop-k.k in
     let x : List ℤ = c.with_one-x.result in
-    let to : c.args.self.now.columns ≤ MOST_COLUMNS = c.args.self.now.columns_to in
+    let columns_at_most : c.args.self.now.columns ≤ MOST_COLUMNS = c.args.self.now.columns_to in
     let o : ℤ = to_z w128 c.loop-k.sum-bits in
     let t : ℤ = c.column_value-sum.result in
     let y : ℤ = c.later_products-later.result in
-    let w : (o +ℤ to_z w128 (of_z w128 t) ≡ o +ℤ t) × (unsigned_abs (o +ℤ t) ≤ (c.loop-k.k + 1) * 2 ^ 120) × (unsigned_abs (o +ℤ t) ≤ 2 ^ 126) =
-    sum_is o t c.loop-k.k (few c.args.self.now.columns c.loop-k.k to c.loop-k-test.true) c.loop-k.invariant.size c.column_value-sum.ensures.size in
-    let v : to_z w128 (of_z w128 (o +ℤ to_z w128 (of_z w128 t))) ≡ o +ℤ t = ap (λ z. to_z w128 (of_z w128 z)) w.0 ∙ as_w128 (o +ℤ t) w.2 in
-    let small : unsigned_abs (entry f.p r r) < 2 ^ 52 = f.entries_in r r in
+    let sum_fits : (o +ℤ to_z w128 (of_z w128 t) ≡ o +ℤ t) × (unsigned_abs (o +ℤ t) ≤ (c.loop-k.k + 1) * 2 ^ 120) × (unsigned_abs (o +ℤ t) ≤ 2 ^ 126) =
+    sum_is o t c.loop-k.k (few c.args.self.now.columns c.loop-k.k columns_at_most c.loop-k-test.true) c.loop-k.invariant.size c.column_value-sum.ensures.size in
+    let same_sum : to_z w128 (of_z w128 (o +ℤ to_z w128 (of_z w128 t))) ≡ o +ℤ t = ap (λ z. to_z w128 (of_z w128 z)) sum_fits.0 ∙ as_w128 (o +ℤ t) sum_fits.2 in
+    let small : unsigned_abs (entry form.p r r) < 2 ^ 52 = form.entries_in r r in
     let narrow : unsigned_abs (item x r) ≤ 2 ^ 30 = c.with_one-x.ensures.size r (omega (arith, c.requires.count)) in
-    let pa : to_z w64 (of_z w64 c.at.result) ≡ entry f.p r r = as_w64 c.at.result (omega (arith, subst (λ (z : ℤ). unsigned_abs z < 2 ^ 52) (sym c.at.ensures.value) small)) ∙ c.at.ensures.value in
-    let xa : to_z w64 (of_z w64 (item x r)) ≡ item x r = as_w64 (item x r) (omega arith) in
-    let ya : to_z w128 (of_z w128 y) ≡ y = as_w128 y (omega (arith, c.later_products-later.ensures.size)) in
-    let is : t ≡ entry f.p r r *ℤ (item x r *ℤ item x r) +ℤ pos 2 *ℤ (item x r *ℤ y) =
-    column_is (entry f.p r r) (item x r) y (to_z w64 (of_z w64 c.at.result)) (to_z w64 (of_z w64 (item x r))) (to_z w128 (of_z w128 y)) t pa xa ya c.column_value-sum.ensures.value in
+    let entry_is : to_z w64 (of_z w64 c.at.result) ≡ entry form.p r r = as_w64 c.at.result (omega (arith, subst (λ (z : ℤ). unsigned_abs z < 2 ^ 52) (sym c.at.ensures.value) small)) ∙ c.at.ensures.value in
+    let same_number : to_z w64 (of_z w64 (item x r)) ≡ item x r = as_w64 (item x r) (omega arith) in
+    let same_later : to_z w128 (of_z w128 y) ≡ y = as_w128 y (omega (arith, c.later_products-later.ensures.size)) in
+    let term_is : t ≡ entry form.p r r *ℤ (item x r *ℤ item x r) +ℤ pos 2 *ℤ (item x r *ℤ y) =
+    column_is (entry form.p r r) (item x r) y (to_z w64 (of_z w64 c.at.result)) (to_z w64 (of_z w64 (item x r))) (to_z w128 (of_z w128 y)) t entry_is same_number same_later c.column_value-sum.ensures.value in
     record {
-      value = v ∙ one_more (entry f.p) (item x) o t y n r c.loop-k.k refl c.loop-k-test.true c.loop-k.invariant.value c.later_products-later.ensures.value is;
-      size = rw v w.1;
+      value = same_sum ∙ one_more (entry form.p) (item x) o t y n r c.loop-k.k refl c.loop-k-test.true c.loop-k.invariant.value c.later_products-later.ensures.value term_is;
+      size = rw same_sum sum_fits.1;
     }
 
 pub returns-clause-value : goal.returns-clause-value

@@ -24,13 +24,13 @@ small x e = subst (λ (z : ℤ). unsigned_abs z < 2 ^ 120) (sym e) (omega arith)
 
 pub invariant_of-result : goal.invariant_of-result
 invariant_of-result c =
-    let z : (i j : ℕ) → entry c.zeros.result i j ≡ pos 0 = nothing c.zeros.result c.zeros.ensures.zeros in
+    let all_zeros : (i j : ℕ) → entry c.zeros.result i j ≡ pos 0 = nothing c.zeros.result c.zeros.ensures.zeros in
     record {
       columns_from = omega arith;
       columns_to = omega arith;
-      symmetric = λ i j. z i j ∙ sym (z j i);
-      entries_in = λ i j. small (entry c.zeros.result i j) (z i j);
-      nothing_outside = λ i j h. z i j;
+      symmetric = λ i j. all_zeros i j ∙ sym (all_zeros j i);
+      entries_in = λ i j. small (entry c.zeros.result i j) (all_zeros i j);
+      nothing_outside = λ i j h. all_zeros i j;
       radii_in = radii;
     }
 

@@ -10,26 +10,26 @@ use Rattle.obs_store.proofs.sats.Satellites.add.Goals as goal
 
 pub invariant_of-self-2 : goal.invariant_of-self-2
 invariant_of-self-2 c =
-    let s : SatObs = record { number = c.args.number; values = c.args.values.now } in
+    let sat : SatObs = record { number = c.args.number; values = c.args.values.now } in
     let sats = c.self.inside.sats.items in
     let values = c.self.inside.values.items in
     let count = c.store_values-count.result in
-    let one : StoredSat = record { number = s.number; count = count } in
+    let one : StoredSat = record { number = sat.number; count = count } in
     let pushed : c.push_reserved.new.self.items ≡ sats ++ one ∷ [] = c.push_reserved.ensures.items ∙ ap (λ (l : List StoredSat). l ++ one ∷ []) c.in_ok-reserve.ensures.items in
-    let stored : AreStoredBehind values c.store_values-count.new.stored.items count s.values =
-    subst (λ (l : List StoredValue). AreStoredBehind l c.store_values-count.new.stored.items count s.values) c.in_ok-reserve-2.ensures.items c.store_values-count.ensures in
-    let fresh : has_satellite s.number c.args.self.now ≡ false = c.requires.once in
-    are_stored_push sats c.push_reserved.new.self.items values c.store_values-count.new.stored.items s count c.self.invariant pushed stored
+    let stored : AreStoredBehind values c.store_values-count.new.stored.items count sat.values =
+    subst (λ (l : List StoredValue). AreStoredBehind l c.store_values-count.new.stored.items count sat.values) c.in_ok-reserve-2.ensures.items c.store_values-count.ensures in
+    let fresh : has_satellite sat.number c.args.self.now ≡ false = c.requires.once in
+    are_stored_push sats c.push_reserved.new.self.items values c.store_values-count.new.stored.items sat count c.self.invariant pushed stored
     c.requires.from_first c.requires.to_last (rw (← c.self.view_is) at fresh)
 
 pub returns-clause-added : goal.returns-clause-added
 returns-clause-added c =
-    let s : SatObs = record { number = c.args.number; values = c.args.values.now } in
+    let sat : SatObs = record { number = c.args.number; values = c.args.values.now } in
     let sats = c.self.inside.sats.items in
     let values = c.self.inside.values.items in
     let count = c.store_values-count.result in
-    let one : StoredSat = record { number = s.number; count = count } in
+    let one : StoredSat = record { number = sat.number; count = count } in
     let pushed : c.push_reserved.new.self.items ≡ sats ++ one ∷ [] = c.push_reserved.ensures.items ∙ ap (λ (l : List StoredSat). l ++ one ∷ []) c.in_ok-reserve.ensures.items in
-    let stored : AreStoredBehind values c.store_values-count.new.stored.items count s.values =
-    subst (λ (l : List StoredValue). AreStoredBehind l c.store_values-count.new.stored.items count s.values) c.in_ok-reserve-2.ensures.items c.store_values-count.ensures in
-    rw (← c.self.view_is) (stored_push sats c.push_reserved.new.self.items values c.store_values-count.new.stored.items s count c.self.invariant.all pushed stored)
+    let stored : AreStoredBehind values c.store_values-count.new.stored.items count sat.values =
+    subst (λ (l : List StoredValue). AreStoredBehind l c.store_values-count.new.stored.items count sat.values) c.in_ok-reserve-2.ensures.items c.store_values-count.ensures in
+    rw (← c.self.view_is) (stored_push sats c.push_reserved.new.self.items values c.store_values-count.new.stored.items sat count c.self.invariant.all pushed stored)

@@ -10,24 +10,24 @@ use Rattle.obs_store.proofs.tally.Tally.add_epoch.Goals as goal
 pub add-requires-clause-inside : goal.add-requires-clause-inside
 add-requires-clause-inside c =
     let sats = (get_or c.args.epochs.now c.args.at c.index-epochs-at.result).sats in
-    let k = c.loop-place.place in
-    let z : SatObs = record { number = 0; values = [] } in
-    let inside : k < length sats = omega (arith, c.loop-place-test.true, c.len-place-end.ensures.value) in
-    subst (λ (n : ℕ). n ≤ 36) (sym (c.number_at.ensures ∙ number_in sats k z inside)) (c.len-place-end.ensures.kept.numbers k z inside).1
+    let place = c.loop-place.place in
+    let no_sat : SatObs = record { number = 0; values = [] } in
+    let inside : place < length sats = omega (arith, c.loop-place-test.true, c.len-place-end.ensures.value) in
+    subst (λ (n : ℕ). n ≤ 36) (sym (c.number_at.ensures ∙ number_in sats place no_sat inside)) (c.len-place-end.ensures.kept.numbers place no_sat inside).1
 
 pub loop-place-preserved : goal.loop-place-preserved
 loop-place-preserved c d =
-    let xs = c.args.epochs.now in
-    let e = get_or xs c.args.at c.index-epochs-at.result in
-    let k = c.loop-place.place in
-    let z : SatObs = record { number = 0; values = [] } in
-    let inside : k < length e.sats = omega (arith, c.loop-place-test.true, c.len-place-end.ensures.value) in
-    let same : get_or xs c.args.at d ≡ e = get_or_default xs c.args.at d c.index-epochs-at.result c.requires.inside in
-    let named : c.number_at.result ≡ (get_or e.sats k z).number = c.number_at.ensures ∙ number_in e.sats k z inside in
+    let epochs = c.args.epochs.now in
+    let epoch = get_or epochs c.args.at c.index-epochs-at.result in
+    let place = c.loop-place.place in
+    let no_sat : SatObs = record { number = 0; values = [] } in
+    let inside : place < length epoch.sats = omega (arith, c.loop-place-test.true, c.len-place-end.ensures.value) in
+    let same : get_or epochs c.args.at d ≡ epoch = get_or_default epochs c.args.at d c.index-epochs-at.result c.requires.inside in
+    let named : c.number_at.result ≡ (get_or epoch.sats place no_sat).number = c.number_at.ensures ∙ number_in epoch.sats place no_sat inside in
     let order = c.loop-place.self.order.items in
     let counts = c.loop-place.self.counts in
-    let behind = λ (f : Epoch) (j : ℕ). take c.args.at xs ++ with_sats f (take j f.sats) ∷ [] in
-    let held : IsCountOf (behind e k) order counts = subst (λ (f : Epoch). IsCountOf (behind f k) order counts) same (c.loop-place.invariant d) in
-    subst (λ (f : Epoch). IsCountOf (behind f (k + 1)) c.add.new.self.order.items c.add.new.self.counts) (sym same)
-    (one_more (take c.args.at xs) e e.sats k z c.number_at.result order counts c.add.new.self.order.items c.add.new.self.counts c.len-place-end.ensures.kept inside named held
+    let behind = λ (f : Epoch) (j : ℕ). take c.args.at epochs ++ with_sats f (take j f.sats) ∷ [] in
+    let held : IsCountOf (behind epoch place) order counts = subst (λ (f : Epoch). IsCountOf (behind f place) order counts) same (c.loop-place.invariant d) in
+    subst (λ (f : Epoch). IsCountOf (behind f (place + 1)) c.add.new.self.order.items c.add.new.self.counts) (sym same)
+    (one_more (take c.args.at epochs) epoch epoch.sats place no_sat c.number_at.result order counts c.add.new.self.order.items c.add.new.self.counts c.len-place-end.ensures.kept inside named held
     c.in_ok-add.ensures.order c.in_ok-add.ensures.counts)

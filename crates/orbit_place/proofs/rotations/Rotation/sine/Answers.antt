@@ -4,6 +4,6 @@ use Rattle.orbit_place.proofs.rotations.Rotation.sine.Goals as goal
 
 pub new-requires : goal.new-requires
 new-requires g c =
-    let r = c.args.self.now in
-    let w = both_within g.row.OFF g.row.WIDTH r.cos r.sin r.near_circle r.close r.cos_narrow r.sin_narrow r.fine in
-    (omega arith, (omega arith, (w.1, r.sin_narrow)))
+    let rotation = c.args.self.now in
+    let within = both_within g.row.OFF g.row.WIDTH rotation.cos rotation.sin rotation.near_circle rotation.close rotation.cos_narrow rotation.sin_narrow rotation.fine in
+    (omega arith, (omega arith, (within.1, rotation.sin_narrow)))

@@ -25,8 +25,8 @@ pub returns-in_err-end_line-clause-takes : goal.returns-in_err-end_line-clause-t
 returns-in_err-end_line-clause-takes c = λ system.
     let text = c.lines.self in
     let new = c.end_line.new.self in
-    let p = err_from_is_err_and c.from_residual.result c.from_residual.ensures.1 in
-    rw (p.1, p.2) (fails_on system c.args.piece.now c.lines.rest.now (gives_behind system c.args.self.now) (gives_behind system text) (gives_behind system text)
+    let is_error = err_from_is_err_and c.from_residual.result c.from_residual.ensures.1 in
+    rw (is_error.1, is_error.2) (fails_on system c.args.piece.now c.lines.rest.now (gives_behind system c.args.self.now) (gives_behind system text) (gives_behind system text)
     (gives_behind system new) c.in_err-end_line.field-0.0 (c.lines.invariant.gives system)
     (step_fails system text.number text.line c.lines.rest.now c.in-Some.bytes.now c.in-Some.behind.now (expected_in text.file) (expected_in new.file)
     c.in_err-end_line.field-0.0 c.in-Some.ensures.ends c.in_err-end_line.ensures.taken))

@@ -10,25 +10,25 @@ use Rattle.session.proofs.file_rounds.FileRunRounds.first_shifts.Goals as goal
 
 pub loop-k-preserved : goal.loop-k-preserved
 loop-k-preserved c =
-    let f = c.args.self.now.files.now in
+    let files = c.args.self.now.files.now in
     let pushed : c.push.new.self.items ≡ c.loop-k.arcs.items ++ c.first_arc.result ∷ [] = c.in_ok-push.ensures.items in
     record {
-      first = more_first f.screened.boxes f.kept f.position c.args.point.now f.signals c.loop-k.k c.loop-k.arcs.items c.push.new.self.items c.first_arc.result c.loop-k.invariant.first
+      first = more_first files.screened.boxes files.kept files.position c.args.point.now files.signals c.loop-k.k c.loop-k.arcs.items c.push.new.self.items c.first_arc.result c.loop-k.invariant.first
           (λ a at. record { same = c.first_arc.ensures.same a at; near = c.first_arc.ensures.near a at }) pushed;
       size = subst (AreShiftsBelow (2 ^ 39)) (sym pushed)
           (All-push (λ (b : Arc). All (IsBelow (2 ^ 39)) b.shift) c.loop-k.arcs.items c.first_arc.result c.loop-k.invariant.size c.first_arc.ensures.size);
-      used = subst (All (HasUsedShifts (fine_signals f.signals))) (sym pushed)
-          (All-push (HasUsedShifts (fine_signals f.signals)) c.loop-k.arcs.items c.first_arc.result c.loop-k.invariant.used c.first_arc.ensures.used);
+      used = subst (All (HasUsedShifts (fine_signals files.signals))) (sym pushed)
+          (All-push (HasUsedShifts (fine_signals files.signals)) c.loop-k.arcs.items c.first_arc.result c.loop-k.invariant.used c.first_arc.ensures.used);
     }
 
 pub returns-clause-begins : goal.returns-clause-begins
 returns-clause-begins c =
-    let f = c.args.self.now.files.now in
+    let files = c.args.self.now.files.now in
     let all : c.loop-k.k ≡ length c.args.self.now.files.now.kept = omega (arith, c.len-k-end.ensures) in
-    begins f.screened.boxes f.kept f.position c.args.point.now f.signals c.loop-k.k c.loop-k.arcs.items c.loop-k.invariant.first all
+    begins files.screened.boxes files.kept files.position c.args.point.now files.signals c.loop-k.k c.loop-k.arcs.items c.loop-k.invariant.first all
 
 pub returns-clause-arcs : goal.returns-clause-arcs
 returns-clause-arcs c =
-    let f = c.args.self.now.files.now in
+    let files = c.args.self.now.files.now in
     let all : c.loop-k.k ≡ length c.args.self.now.files.now.kept = omega (arith, c.len-k-end.ensures) in
-    same_first f.screened.boxes f.kept f.position c.args.point.now f.signals c.loop-k.k c.loop-k.arcs.items c.loop-k.invariant.first all
+    same_first files.screened.boxes files.kept files.position c.args.point.now files.signals c.loop-k.k c.loop-k.arcs.items c.loop-k.invariant.first all

@@ -15,13 +15,13 @@ rows_with-requires-clause-arcs c = arcs_along c.args.self.now.files.now.kept c.a
 
 pub rows_with-requires-clause-halves : goal.rows_with-requires-clause-halves
 rows_with-requires-clause-halves c =
-    let f = c.args.self.now.files.now in
-    subst (λ (halves : List Pseudorange). AreBaseHalves f.screened.boxes f.position halves) (sym c.as_slice.ensures.value) c.requires.ready.2.0
+    let files = c.args.self.now.files.now in
+    subst (λ (halves : List Pseudorange). AreBaseHalves files.screened.boxes files.position halves) (sym c.as_slice.ensures.value) c.requires.ready.2.0
 
 pub invariant_of-from : goal.invariant_of-from
 invariant_of-from c =
-    let f = c.args.self.now.files.now in
+    let files = c.args.self.now.files.now in
     record {
-      sights_hold = subst (λ (sights : List Sight). AreRoverSights f.screened.boxes c.args.point.now sights) (sym c.as_slice-2.ensures.value)
-          (subst (λ (p : List ℤ). AreRoverSights f.screened.boxes p c.turn_to.new.self.sights.items) c.in_ok-turn_to.ensures.there c.turn_to.ensures.kept);
+      sights_hold = subst (λ (sights : List Sight). AreRoverSights files.screened.boxes c.args.point.now sights) (sym c.as_slice-2.ensures.value)
+          (subst (λ (p : List ℤ). AreRoverSights files.screened.boxes p c.turn_to.new.self.sights.items) c.in_ok-turn_to.ensures.there c.turn_to.ensures.kept);
     }

@@ -7,7 +7,7 @@ use Rattle.session_jobs.proofs.arcs.KeptArcsSessionCommand.answer.Goals as goal
 pub returns-clause-answered : goal.returns-clause-answered
 returns-clause-answered c =
     let begun = c.in_ok-begun.begun in
-    let is = c.in_ok-begun.ensures in
+    let begun_holds = c.in_ok-begun.ensures in
     let cut = c.in_ok-cut.cut in
     let are = c.in_ok-cut.ensures.screened in
     let text = arcs_text c.args.options.now.system cut.arcs.kept cut.arcs.short in
@@ -19,12 +19,12 @@ returns-clause-answered c =
         short = cut.arcs.short;
         are = record {
           position = begun.position;
-          position_is = is.position;
+          position_is = begun_holds.position;
           signals = begun.signals;
-          signals_are = is.signals;
-          sparse = is.sparse;
+          signals_are = begun_holds.signals;
+          sparse = begun_holds.sparse;
           taken = begun.taken.items;
-          taken_are = is.taken;
+          taken_are = begun_holds.taken;
           used = cut.screened.used;
           used_are = are.used_are;
           kept_are = are.kept_are;

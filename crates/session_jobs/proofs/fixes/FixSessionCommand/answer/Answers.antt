@@ -10,16 +10,16 @@ pub returns-clause-answered : goal.returns-clause-answered
 returns-clause-answered c =
     let outcome = c.in_ok-outcome.outcome in
     let files = c.args.files in
-    let is = c.in_ok-outcome.ensures.outcome files.base files.rover files.nav c.in_ok-started.ensures.start in
+    let outcome_holds = c.in_ok-outcome.ensures.outcome files.base files.rover files.nav c.in_ok-started.ensures.start in
     let written = c.in_ok-output_of.ensures in
     record {
       verdict = written.verdict;
       answer = record {
         outcome = outcome;
-        is = is;
-        fixed = fixed_for files.base files.rover files.nav c.args.options.now outcome is c.in_ok-outcome.ensures.strictly_best;
-        only = ends_once files.base files.rover files.nav c.args.options.now outcome is;
-        stands = λ cert full. stands_for files.base files.rover files.nav c.args.options.now outcome cert is full;
+        is = outcome_holds;
+        fixed = fixed_for files.base files.rover files.nav c.args.options.now outcome outcome_holds c.in_ok-outcome.ensures.strictly_best;
+        only = ends_once files.base files.rover files.nav c.args.options.now outcome outcome_holds;
+        stands = λ cert full. stands_for files.base files.rover files.nav c.args.options.now outcome cert outcome_holds full;
         whole = written.whole;
         end_is = written.ended;
       };

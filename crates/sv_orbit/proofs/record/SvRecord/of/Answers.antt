@@ -15,23 +15,23 @@ use Rattle.sv_orbit.proofs.record.SvRecord.of.Goals as goal
 pub invariant_of-result : goal.invariant_of-result
 invariant_of-result c =
     let eph = c.args.eph.now in
-    let e : c.of-clock.result.eph ≡ eph = c.of-clock.ensures.eph in
+    let same_elements : c.of-clock.result.eph ≡ eph = c.of-clock.ensures.eph in
     record {
       eccentricity_in = subst (λ (b : Iv 60). Holds b (value_of c.of-clock.result.eph.ecc)) (sym c.of.ensures) c.of-clock.result.eccentricity_in;
-      axis_in = subst (λ (f : Eph). (x : Rational) → x ≈ mul_r (value_of f.root_a) (value_of f.root_a) → Holds c.axis.result.held x) (sym e) c.axis.ensures.holds;
+      axis_in = subst (λ (f : Eph). (x : Rational) → x ≈ mul_r (value_of f.root_a) (value_of f.root_a) → Holds c.axis.result.held x) (sym same_elements) c.axis.ensures.holds;
       axis_least = c.axis.ensures.least;
-      perigee_in = subst (λ (f : Eph). (p : Pair) → IsPairOf5 (value_of f.peri) p → HoldsBoth c.perigee.result.cos c.perigee.result.sin p) (sym e) c.perigee.ensures;
-      inclination_in = subst (λ (f : Eph). Holds c.decimal_box.result.held (value_of f.incl)) (sym e) (holds_own 56 c.decimal_box.result.held (value_of eph.incl) c.decimal_box.ensures);
-      node_in = subst (λ (f : Eph). Holds c.decimal_box-2.result.held (value_of f.node)) (sym e) (holds_own 56 c.decimal_box-2.result.held (value_of eph.node) c.decimal_box-2.ensures);
-      inclination_rate_in = subst (λ (f : Eph). Holds c.decimal_box-3.result.held (times (10 ^ 4) (value_of f.incl_rate))) (sym e)
+      perigee_in = subst (λ (f : Eph). (p : Pair) → IsPairOf5 (value_of f.peri) p → HoldsBoth c.perigee.result.cos c.perigee.result.sin p) (sym same_elements) c.perigee.ensures;
+      inclination_in = subst (λ (f : Eph). Holds c.decimal_box.result.held (value_of f.incl)) (sym same_elements) (holds_own 56 c.decimal_box.result.held (value_of eph.incl) c.decimal_box.ensures);
+      node_in = subst (λ (f : Eph). Holds c.decimal_box-2.result.held (value_of f.node)) (sym same_elements) (holds_own 56 c.decimal_box-2.result.held (value_of eph.node) c.decimal_box-2.ensures);
+      inclination_rate_in = subst (λ (f : Eph). Holds c.decimal_box-3.result.held (times (10 ^ 4) (value_of f.incl_rate))) (sym same_elements)
           (c.decimal_box-3.ensures.holds (times (10 ^ 4) (value_of eph.incl_rate)) refl);
-      node_rate_in = subst (λ (f : Eph). Holds c.relative_rate.result.held (sub_r (times (10 ^ 4) (value_of f.node_rate)) (times (10 ^ 4) earth_rate))) (sym e)
+      node_rate_in = subst (λ (f : Eph). Holds c.relative_rate.result.held (sub_r (times (10 ^ 4) (value_of f.node_rate)) (times (10 ^ 4) earth_rate))) (sym same_elements)
           (c.relative_rate.ensures (times (10 ^ 4) (value_of eph.node_rate)) (c.decimal_box-4.ensures.holds (times (10 ^ 4) (value_of eph.node_rate)) refl));
-      earth_turn_in = subst (λ (f : Eph). Holds c.earth_turn.result.held (mul_r earth_rate (of_whole (pos f.toe_second)))) (sym e) c.earth_turn.ensures;
-      cuc_in = subst (λ (f : Eph). Holds c.decimal_box-5.result.held (value_of f.cuc)) (sym e) (holds_own 60 c.decimal_box-5.result.held (value_of eph.cuc) c.decimal_box-5.ensures);
-      cus_in = subst (λ (f : Eph). Holds c.decimal_box-6.result.held (value_of f.cus)) (sym e) (holds_own 60 c.decimal_box-6.result.held (value_of eph.cus) c.decimal_box-6.ensures);
-      cic_in = subst (λ (f : Eph). Holds c.decimal_box-7.result.held (value_of f.cic)) (sym e) (holds_own 60 c.decimal_box-7.result.held (value_of eph.cic) c.decimal_box-7.ensures);
-      cis_in = subst (λ (f : Eph). Holds c.decimal_box-8.result.held (value_of f.cis)) (sym e) (holds_own 60 c.decimal_box-8.result.held (value_of eph.cis) c.decimal_box-8.ensures);
-      crc_in = subst (λ (f : Eph). Holds c.decimal_box-9.result.held (value_of f.crc)) (sym e) (holds_own 40 c.decimal_box-9.result.held (value_of eph.crc) c.decimal_box-9.ensures);
-      crs_in = subst (λ (f : Eph). Holds c.decimal_box-10.result.held (value_of f.crs)) (sym e) (holds_own 40 c.decimal_box-10.result.held (value_of eph.crs) c.decimal_box-10.ensures);
+      earth_turn_in = subst (λ (f : Eph). Holds c.earth_turn.result.held (mul_r earth_rate (of_whole (pos f.toe_second)))) (sym same_elements) c.earth_turn.ensures;
+      cuc_in = subst (λ (f : Eph). Holds c.decimal_box-5.result.held (value_of f.cuc)) (sym same_elements) (holds_own 60 c.decimal_box-5.result.held (value_of eph.cuc) c.decimal_box-5.ensures);
+      cus_in = subst (λ (f : Eph). Holds c.decimal_box-6.result.held (value_of f.cus)) (sym same_elements) (holds_own 60 c.decimal_box-6.result.held (value_of eph.cus) c.decimal_box-6.ensures);
+      cic_in = subst (λ (f : Eph). Holds c.decimal_box-7.result.held (value_of f.cic)) (sym same_elements) (holds_own 60 c.decimal_box-7.result.held (value_of eph.cic) c.decimal_box-7.ensures);
+      cis_in = subst (λ (f : Eph). Holds c.decimal_box-8.result.held (value_of f.cis)) (sym same_elements) (holds_own 60 c.decimal_box-8.result.held (value_of eph.cis) c.decimal_box-8.ensures);
+      crc_in = subst (λ (f : Eph). Holds c.decimal_box-9.result.held (value_of f.crc)) (sym same_elements) (holds_own 40 c.decimal_box-9.result.held (value_of eph.crc) c.decimal_box-9.ensures);
+      crs_in = subst (λ (f : Eph). Holds c.decimal_box-10.result.held (value_of f.crs)) (sym same_elements) (holds_own 40 c.decimal_box-10.result.held (value_of eph.crs) c.decimal_box-10.ensures);
     }

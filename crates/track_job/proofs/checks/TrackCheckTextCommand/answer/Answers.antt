@@ -3,7 +3,7 @@ use Rattle.track_job.proofs.checks.TrackCheckTextCommand.answer.Goals as goal
 
 pub returns-clause-answered : goal.returns-clause-answered
 returns-clause-answered c =
-    let is = c.in_ok-verdict.ensures in
+    let verdict_holds = c.in_ok-verdict.ensures in
     let said = c.in_ok-verdict_output.ensures in
     record {
       verdict = said.verdict;
@@ -13,10 +13,10 @@ returns-clause-answered c =
         spelled = c.in_ok-cert.ensures.ok;
         answer = record {
           verdict = c.in_ok-verdict.verdict;
-          is = is.verdict;
-          only = is.only;
-          best = λ e. is.strictly_best (ap Ok e);
-          by_ratio = λ e. is.by_ratio (ap Ok e);
+          is = verdict_holds.verdict;
+          only = verdict_holds.only;
+          best = λ e. verdict_holds.strictly_best (ap Ok e);
+          by_ratio = λ e. verdict_holds.by_ratio (ap Ok e);
           end_is = said.ended;
         };
       };

@@ -9,26 +9,26 @@ use Rattle.track_rows.proofs.walks.TrackSoFar.step.Goals as goal
 
 pub track-requires : goal.track-requires
 track-requires c =
-    let t = setting_of c.args.files.now in
-    let trial = subst (λ (x : Trial). IsTrialOf t c.as_slice-arcs.result.now (flagged c.as_slice.result.now) c.args.pair x) c.in-Tracked.is c.in_ok-cause.ensures.trial in
+    let setting = setting_of c.args.files.now in
+    let trial = subst (λ (x : Trial). IsTrialOf setting c.as_slice-arcs.result.now (flagged c.as_slice.result.now) c.args.pair x) c.in-Tracked.is c.in_ok-cause.ensures.trial in
     c.requires.walked.flags.count ∙ sym (length_same c.args.files.now.kept.now c.in-Tracked.arcs.items trial.0.is_tried.are_tried.same)
 
 pub returns-in-Lost-clause-walk : goal.returns-in-Lost-clause-walk
 returns-in-Lost-clause-walk c =
-    let t = setting_of c.args.files.now in
-    let w = c.args.self.now in
-    let trial = subst (λ (x : Trial). IsTrialOf t c.as_slice-arcs.result.now (flagged c.as_slice.result.now) c.args.pair x) c.in-Lost.is c.in_ok-cause.ensures.trial in
-    let by_arcs = subst (λ (xs : List Arc). IsTrialOf t xs (flagged c.as_slice.result.now) c.args.pair (Trial.Lost c.in-Lost.cause)) c.as_slice-arcs.ensures.value trial in
-    let by_flags = subst (λ (xs : List Bool). IsTrialOf t w.arcs.items (flagged xs) c.args.pair (Trial.Lost c.in-Lost.cause)) c.as_slice.ensures.value by_arcs in
-    on_ok_weaker c.lose.result (λ more. more t c.requires.walked by_flags) c.lose.ensures
+    let setting = setting_of c.args.files.now in
+    let walk = c.args.self.now in
+    let trial = subst (λ (x : Trial). IsTrialOf setting c.as_slice-arcs.result.now (flagged c.as_slice.result.now) c.args.pair x) c.in-Lost.is c.in_ok-cause.ensures.trial in
+    let by_arcs = subst (λ (xs : List Arc). IsTrialOf setting xs (flagged c.as_slice.result.now) c.args.pair (Trial.Lost c.in-Lost.cause)) c.as_slice-arcs.ensures.value trial in
+    let by_flags = subst (λ (xs : List Bool). IsTrialOf setting walk.arcs.items (flagged xs) c.args.pair (Trial.Lost c.in-Lost.cause)) c.as_slice.ensures.value by_arcs in
+    on_ok_weaker c.lose.result (λ more. more setting c.requires.walked by_flags) c.lose.ensures
 
 pub returns-in-Tracked-clause-walk : goal.returns-in-Tracked-clause-walk
 returns-in-Tracked-clause-walk c =
-    let t = setting_of c.args.files.now in
-    let w = c.args.self.now in
-    let x : Trial = Trial.Tracked c.in-Tracked.point c.in-Tracked.rows c.in-Tracked.arcs in
-    let trial = subst (λ (y : Trial). IsTrialOf t c.as_slice-arcs.result.now (flagged c.as_slice.result.now) c.args.pair y) c.in-Tracked.is c.in_ok-cause.ensures.trial in
-    let fits = subst (λ (y : Trial). Fits t.signals y) c.in-Tracked.is c.in_ok-cause.ensures.fits in
-    let by_arcs = subst (λ (xs : List Arc). IsTrialOf t xs (flagged c.as_slice.result.now) c.args.pair x) c.as_slice-arcs.ensures.value trial in
-    let by_flags = subst (λ (xs : List Bool). IsTrialOf t w.arcs.items (flagged xs) c.args.pair x) c.as_slice.ensures.value by_arcs in
-    on_ok_weaker c.track.result (λ more. more t c.requires.walked by_flags fits) c.track.ensures
+    let setting = setting_of c.args.files.now in
+    let walk = c.args.self.now in
+    let tracked : Trial = Trial.Tracked c.in-Tracked.point c.in-Tracked.rows c.in-Tracked.arcs in
+    let trial = subst (λ (y : Trial). IsTrialOf setting c.as_slice-arcs.result.now (flagged c.as_slice.result.now) c.args.pair y) c.in-Tracked.is c.in_ok-cause.ensures.trial in
+    let fits = subst (λ (y : Trial). Fits setting.signals y) c.in-Tracked.is c.in_ok-cause.ensures.fits in
+    let by_arcs = subst (λ (xs : List Arc). IsTrialOf setting xs (flagged c.as_slice.result.now) c.args.pair tracked) c.as_slice-arcs.ensures.value trial in
+    let by_flags = subst (λ (xs : List Bool). IsTrialOf setting walk.arcs.items (flagged xs) c.args.pair tracked) c.as_slice.ensures.value by_arcs in
+    on_ok_weaker c.track.result (λ more. more setting c.requires.walked by_flags fits) c.track.ensures

@@ -12,9 +12,9 @@ same f k z columns d l = λ t. baseline_at (d t) (l t) (columns t) z
 
 pub returns-clause-ok : goal.returns-clause-ok
 returns-clause-ok c =
-    let f = c.put_in.new.front in
-    IfOk-weaker c.baseline_of.result (λ m. m ≡ baseline_at f.d f.l f.columns c.args.z.now) (λ m. m ≡ move_by c.args.z.now c.args.self.now)
-    (λ m e. e ∙ same f c.args.self.now c.args.z.now c.put_in.ensures.columns c.put_in.ensures.d c.put_in.ensures.l) c.baseline_of.ensures.ok
+    let front = c.put_in.new.front in
+    IfOk-weaker c.baseline_of.result (λ m. m ≡ baseline_at front.d front.l front.columns c.args.z.now) (λ m. m ≡ move_by c.args.z.now c.args.self.now)
+    (λ m e. e ∙ same front c.args.self.now c.args.z.now c.put_in.ensures.columns c.put_in.ensures.d c.put_in.ensures.l) c.baseline_of.ensures.ok
 
 pub returns-clause-refused : goal.returns-clause-refused
 returns-clause-refused c = subst (λ (m : List ℤ). IsErr c.baseline_of.result ↔ HasWide m)

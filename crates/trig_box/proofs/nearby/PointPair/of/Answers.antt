@@ -6,13 +6,13 @@ use Rattle.trig_box.proofs.nearby.PointPair.of.Goals as goal
 
 pub invariant_of-result : goal.invariant_of-result
 invariant_of-result c =
-    let p = c.point_pair-cos.ensures in
-    let ec = to_z-of_z w64 c.point_pair-cos.result.0 (fits_pair c.point_pair-cos.result.0 p.cos_size) in
-    let es = to_z-of_z w64 c.point_pair-cos.result.1 (fits_pair c.point_pair-cos.result.1 p.sin_size) in
+    let pair_stands = c.point_pair-cos.ensures in
+    let same_cosine = to_z-of_z w64 c.point_pair-cos.result.0 (fits_pair c.point_pair-cos.result.0 pair_stands.cos_size) in
+    let same_sine = to_z-of_z w64 c.point_pair-cos.result.1 (fits_pair c.point_pair-cos.result.1 pair_stands.sin_size) in
     record {
       range = subst (λ (z : ℤ). unsigned_abs z ≤ 2 ^ 60) (sym (to_z-of_z w64 c.args.angle c.ranges.angle)) c.requires;
-      cos_is = ec ∙ p.cos;
-      sin_is = es ∙ p.sin;
-      cos_size = subst (λ (z : ℤ). unsigned_abs z ≤ 3 * 2 ^ 61) (sym ec) p.cos_size;
-      sin_size = subst (λ (z : ℤ). unsigned_abs z ≤ 3 * 2 ^ 61) (sym es) p.sin_size;
+      cos_is = same_cosine ∙ pair_stands.cos;
+      sin_is = same_sine ∙ pair_stands.sin;
+      cos_size = subst (λ (z : ℤ). unsigned_abs z ≤ 3 * 2 ^ 61) (sym same_cosine) pair_stands.cos_size;
+      sin_size = subst (λ (z : ℤ). unsigned_abs z ≤ 3 * 2 ^ 61) (sym same_sine) pair_stands.sin_size;
     }
