@@ -27,7 +27,7 @@
 //! | `zero` | that every other whole number has a greater sum than the printed one | the rival with the least sum |
 //! | `list` | what the observation file holds, of RINEX 3 or of RINEX 2 | |
 //! | `orbit` | numbers that hold every solution of the satellite's equations, for the record chosen at the tick | that none is chosen |
-//! | `fix`, `track` | the certificate of a session that stands for the files, with integers that, with their move or moves, are strictly best and best by the ratio for all rational data in the printed boxes (`AnswersFix`, `AnswersTrack`) | the text of an outcome that is no fix, with its cause; a certificate still stands for the files, and with its rows the run could end in no other way |
+//! | `fix`, `track` | the certificate of a session that stands for the files, with integers that, with their move or moves, are strictly best and best by the ratio for all rational data in the printed boxes (`AnswersFix`, `AnswersTrack`) | the text of an outcome that is no fix, with its cause; a certificate still stands for the files, and with its rows the run could end in no other way, but where a search gave up |
 //! | `check`, `check-track` | `certified`, where the integers of the text are best in that sense | `not certified` and why |
 //! | `residuals` | what is left of each row's observations | that the certificate has no vectors |
 //! | `migrate` | the spelling of the lifted certificate, whose tail is fixed, and best in the printed boxes and in the old ones (`migrate_job`) | the same where its tail isn't fixed |

@@ -40,7 +40,7 @@ fn row_of(arc: u16, code: i64, direction: [i64; 3]) -> Option<Row>
     Row::new(arc, y, 700, direction, [32; 3])
 }
 
-// A pair whose observations are so many times larger.
+// A pair whose observations are `times` as large.
 fn pair_of(alloc: Global, number: u32, times: i64) -> Result<Option<PairRows>, AllocError>
     requires { number < MOST_PAIRS }
 {

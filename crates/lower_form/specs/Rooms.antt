@@ -3,6 +3,6 @@ use Rattle.std.specs.Prelude.{◌≡◌, ◌⊎◌, ℕ, ◌≤◌, pos}
 use Rattle.form_tables.specs.Tables.{entry}
 use Rattle.lower_form.specs.declared.fronts.FrontRoom.{FrontRoom}
 
--- of its factors only those of the baseline's columns with later ones of so many columns may be other than 0
+-- of its factors only those of the baseline's columns with later ones of these columns may be other than 0
 abbrev pub IsClean : ℕ → FrontRoom → Type 0
 IsClean columns room = (r i : ℕ) → (3 ≤ i) ⊎ ((r ≤ i) ⊎ (columns ≤ r)) → entry room.factors r i ≡ pos 0

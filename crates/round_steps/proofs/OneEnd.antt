@@ -150,7 +150,7 @@ only_end last s ratio budget tail is =
     let here : Ends last s ratio budget tail = round_ends last s ratio budget tail is in
     record { ends = is; only = λ t other. pair_up last s ratio budget t tail (round_ends last s ratio budget t other) here; stays = no_step last s ratio budget tail here }
 
--- the last round that is allowed is the one with which so many were made
+-- the last round that is allowed is the one with which the most are made
 last_made : (rules : Rules) (made : RoundCounts) (before : List Session) (s : Session) → s.scale ≡ 0 → Reaches rules made before (round_of s)
     → is_last s.scale before ≡ nat_eq made.fine (most_rounds 0)
 last_made rules made before s fine reached =

@@ -104,7 +104,7 @@ impl PairRoom {
     }
 }
 
-/// The greatest exponent of the fronts of every so many-th pair, from the first on, and 0 of none. It is that of the
+/// The greatest exponent of the fronts of each `every`th pair, from the first on, and 0 of none. It is that of the
 /// matrices, so no front is made for it.
 pub(crate) fn greatest_exponent(
     room: &mut PairRoom,

@@ -138,7 +138,7 @@ pub struct SummedFronts {
     pub factors: Vec<PairFactors>,
 }
 
-/// The sum over the power of two that every so many-th pair asks for. The inner error is told of the first pair that has no
+/// The sum over the power of two that each `every`th pair asks for. The inner error is told of the first pair that has no
 /// front, or that asks for a greater power: none does where they are all asked.
 // Never inlined: its tables would then lie on the stack twice.
 #[inline(never)]
@@ -174,7 +174,7 @@ fn sum_by(
     }
 }
 
-/// Of so many pairs one is asked for its power of two before the fronts are made. Only where another one asks for a greater
+/// One pair of this many is asked for its power of two before the fronts are made. Only where another one asks for a greater
 /// power are all asked, and the fronts made again.
 const ASKED_OF: usize = 16;
 
