@@ -1,10 +1,9 @@
-use Rattle.std.proofs.Common.{◌≡◌, ⊎_elim, ℕ, ◌-◌, ◌^◌, ◌<◌, ◌≤◌, List, ℤ, pos, ◌*ℤ◌, true, unsigned_abs, arith, sym, ap, ap₂, ◌∙◌, subst}
+use Rattle.std.proofs.Common.{◌≡◌, ⊎_elim, ℕ, ◌-◌, ◌^◌, ◌<◌, ◌≤◌, List, ℤ, pos, ◌*ℤ◌, true, unsigned_abs, arith, sym, ap, ap₂, ◌∙◌, subst, eq-or-lt_of_le}
 use Rattle.whole_math.specs.Rounding.{nearest_div}
 use Rattle.form_tables.specs.Tables.{entry, item}
 use Rattle.elimination.specs.Shares.{IsNearShare}
 use Rattle.elimination.specs.StepEntries.{is_small}
 use Rattle.elimination.specs.RowSteps.{left_own, left_other, left_entry}
-use Rattle.elimination.proofs.NewEntries.{from_own}
 use Rattle.elimination.proofs.RowStepLaws.{on_diagonal, off_diagonal}
 use Rattle.elimination.proofs.RowWords.{word, widened, widened_is, read, read_size, read_positive}
 use Rattle.elimination.proofs.row_steps.step_row.Goals as goal
@@ -96,7 +95,7 @@ returns-clause-value c =
     (λ (i : r < k). c.step_others.ensures.value e k i g
     ∙ ap (λ (x : ℤ). left_other (unsigned_abs (entry q j j)) (entry q j r) (entry q j k) x) (c.step_own.ensures.others k (omega arith))
     ∙ sym (off_diagonal q n r k j (item c.args.row.now k) i))
-    (from_own r k h)
+    (eq-or-lt_of_le h)
 
 pub returns-clause-small : goal.returns-clause-small
 returns-clause-small c =
@@ -105,7 +104,7 @@ returns-clause-small c =
     (λ (i : r ≡ k). subst (λ (m : ℕ). is_small (item c.step_others.new.row m) ≡ true) i
     (subst (λ (z : ℤ). is_small z ≡ true) (sym (c.step_others.ensures.before r (omega arith))) (c.step_own.ensures.small c.if-not-step_own.false)))
     (λ (i : r < k). c.step_others.ensures.small e k i g)
-    (from_own r k h)
+    (eq-or-lt_of_le h)
 
 pub returns-clause-factor : goal.returns-clause-factor
 returns-clause-factor c =
