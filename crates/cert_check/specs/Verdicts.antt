@@ -36,7 +36,7 @@ abbrev pub IsBestIn : Session → Tail → Type 0
 IsBestIn s (Fixed h moved best top) = IsStrictlyBest s (first_of best) moved
 IsBestIn s _ = ⊥
 
--- and best by the ratio
+-- the same, and best by the ratio
 abbrev pub IsBestByRatioIn : ℕ → Session → Tail → Type 0
 IsBestByRatioIn ratio s (Fixed h moved best top) = IsBestByRatio ratio s (first_of best) moved
 IsBestByRatioIn ratio s _ = ⊥

@@ -20,7 +20,7 @@ pub record IsSearchedWithin (s : Session) (budget : ℕ) : Type 0 where
   pub best_is : IsTwoBest form best
   pub visits : KeepsBudget form budget best
 
--- so they are where the verdict rests on them
+-- where the verdict rests on the two least vectors, they are found within the budget
 abbrev pub RestsWithin : Session → ℕ → Verdict → Type 0
 RestsWithin s budget Certified = IsSearchedWithin s budget
 RestsWithin s budget (Not (cause.Overwidth Float)) = IsSearchedWithin s budget

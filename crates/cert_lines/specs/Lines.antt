@@ -36,7 +36,7 @@ signals_line Two l1 l2 l5 =
 abbrev pub kind_text : Bool → List ℕ
 kind_text datum = if datum then codes " datum" else codes " free"
 
--- with the shift of each phase among these signals
+-- the line of an arc, with the shift of each phase among these signals
 abbrev pub arc_line : List ℕ → Arc → List ℕ
 arc_line ss a = codes "arc" ++ (behind_blanks (pos a.sat ∷ pos a.first ∷ pos a.last ∷ []) ++ (kind_text a.datum ++ behind_blanks (select (phase_bands ss) a.shift)))
 
@@ -44,7 +44,7 @@ arc_line ss a = codes "arc" ++ (behind_blanks (pos a.sat ∷ pos a.first ∷ pos
 abbrev pub pair_line : ℕ → ℕ → ℤ → ℕ → List ℕ
 pair_line number tag group count = codes "pair" ++ behind_blanks (pos number ∷ pos tag ∷ group ∷ pos count ∷ [])
 
--- with the observation of each of these signals
+-- the numbers of a row, with the observation of each of these signals
 abbrev pub row_numbers : List ℕ → Row → List ℤ
 row_numbers ss r = pos r.arc ∷ (select ss r.y ++ (r.ry ∷ (r.u ++ r.ru)))
 

@@ -30,7 +30,7 @@ lifted_y y = nearest_div (pos 23 *ℤ y) 32
 abbrev pub lifted_radius : ℤ → ℤ
 lifted_radius ry = ceil_div (pos 23 *ℤ ry) 32 +ℤ pos 1
 
--- for the six signals of a row, of which L5 has none
+-- the six observations of a row, of which those on L5 are 0
 abbrev pub lifted_ys : List ℤ → List ℤ
 lifted_ys y = lifted_y (at y 0) ∷ lifted_y (at y 1) ∷ lifted_y (at y 2) ∷ lifted_y (at y 3) ∷ pos 0 ∷ pos 0 ∷ []
 
@@ -103,7 +103,7 @@ IsOldBestWhereFixed old (Overwidth place) = Unit {0}
 IsOldBestWhereFixed old (Unsettled entry) = Unit {0}
 IsOldBestWhereFixed old (Spent budget) = Unit {0}
 
--- and best by the ratio
+-- where the new tail is fixed, they are best by the ratio in the old boxes
 abbrev pub IsOldBestByRatioWhereFixed : ℕ → OldSession → Tail → Type 0
 IsOldBestByRatioWhereFixed ratio old (Fixed h moved best top) = IsOldBestByRatio ratio old (first_of best) (in_old_unit moved)
 IsOldBestByRatioWhereFixed ratio old (Unseparated h moved best top) = Unit {0}

@@ -44,7 +44,7 @@ pub record IsInOldBoxes (r : OldRow) (q : OldObserved) : Type 0 where
   pub u2 : Near (at r.u 1) (at r.ru 1) q.u2
   pub u3 : Near (at r.u 2) (at r.ru 2) q.u3
 
--- for each row of each pair
+-- each row of each pair has such an entry
 abbrev pub AreOldData : List OldPair → List (List OldObserved) → Type 0
 AreOldData pairs observed = AllZip (λ p qs. AllZip IsInOldBoxes p.rows qs) pairs observed
 

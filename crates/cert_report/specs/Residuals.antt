@@ -41,7 +41,7 @@ micrometres length_times n = nearest_div (length_times *ℤ pos (10 * unsigned_a
 abbrev pub residual : List Arc → List ℕ → List ℤ → List ℤ → List Row → Row → ℕ → ℤ
 residual arcs ss z m rows r s = micrometres ((pos (length rows) *ℤ centre arcs ss z m s r) -ℤ sum (map (centre arcs ss z m s) rows)) (length rows)
 
--- as each signal that counts sees it
+-- the residuals of a row, as each signal that counts sees it
 abbrev pub residuals : List Arc → List ℕ → List ℤ → List ℤ → List Row → Row → List ℤ
 residuals arcs ss z m rows r = map (residual arcs ss z m rows r) ss
 

@@ -56,17 +56,17 @@ abbrev pub behind_budget : Version → ℕ → Expected
 behind_budget One budget = Base One budget
 behind_budget Two budget = SystemLine budget
 
--- by how many arcs are to come
+-- what is expected, by how many arcs are to come
 abbrev pub before_arcs : Frame → ℕ → List Arc → Expected
 before_arcs f zero arcs = PairCount f arcs
 before_arcs f (suc left) arcs = NextArc f (suc left) arcs
 
--- by how many pairs are to come
+-- what is expected, by how many pairs are to come
 abbrev pub before_pairs : Frame → List Arc → ℕ → ℕ → Expected
 before_pairs f arcs zero least = Tail f arcs
 before_pairs f arcs (suc left) least = NextPair f arcs (suc left) least
 
--- by how many rows of a pair are to come
+-- what is expected, by how many rows of a pair are to come
 abbrev pub before_rows : Frame → List Arc → ℕ → ℕ → ℕ → ℕ → Expected
 before_rows f arcs pairs number zero least = before_pairs f arcs pairs (number + 1)
 before_rows f arcs pairs number (suc left) least = NextRow f arcs pairs number (suc left) least

@@ -11,7 +11,7 @@ use decimal_text::is_digit_byte;
 // After a number up to this one there is room for one more digit in 63 bits.
 const LAST_SHORT: u64 = 900_000_000_000_000_000;
 
-// So many bytes after a number's first digit are read with no look at where the text ends, if it is far enough.
+// How many bytes after a number's first digit are read with no look at where the text ends, if it is far enough.
 const MOST_AHEAD: usize = 7;
 
 /// The numbers at the head of a text, by their count and each after one blank, with 0 after them in the array; and the text

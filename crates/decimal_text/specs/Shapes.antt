@@ -6,7 +6,7 @@ pub record Begins (Is : List ℕ → Type 0) (front : List ℕ) : Type 0 where
   pub further : List ℕ
   pub whole : Is (front ++ further)
 
--- but none goes on with the next byte, or none ends here
+-- no spelling that begins so goes on with the next byte or, at the end of the text, ends here
 abbrev pub IsStuck : (List ℕ → Type 0) → List ℕ → List ℕ → Type 0
 IsStuck Is front [] = Is front → ⊥
 IsStuck Is front (b ∷ bs) = Begins Is (front ++ b ∷ []) → ⊥

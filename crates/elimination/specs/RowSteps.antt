@@ -19,7 +19,7 @@ abbrev pub left_entry : List (List ℤ) → ℕ → ℕ → ℕ → ℕ → ℤ 
 left_entry q n r c j x = cond (nat_eq r c) (left_own (unsigned_abs (entry q j j)) (n - j - 1) (entry q j r) x)
     (left_other (unsigned_abs (entry q j j)) (entry q j r) (entry q j c) x)
 
--- by the steps of the first k columns
+-- what the steps of the first k columns leave of an entry
 unfoldable pub left_after : List (List ℤ) → ℕ → ℕ → ℕ → ℕ → ℤ → ℤ
 left_after q n r c zero x = x
 left_after q n r c (suc k) x = left_entry q n r c k (left_after q n r c k x)

@@ -7,7 +7,7 @@ use Rattle.form_tables.specs.Tables.{entry}
 use Rattle.elimination.specs.declared.step.StepFault.{StepFault}
 use Rattle.elimination.specs.declared.step.StepFault.TheVariants.{Weak, WideFactor, WideEntry}
 
--- in column j, whose own entry is a
+-- the refusal by which a step stops in column j, whose own entry is a
 abbrev pub refusal_of : ℕ → ℤ → StepFault → Refusal
 refusal_of j a Weak = weak j a
 refusal_of j a WideFactor = wide_factor

@@ -10,10 +10,10 @@ use Rattle.fix_decide.specs.UpperSums.{reach_of}
 abbrev pub IsWideFor : List Arc → List ℕ → List ℤ → List ℤ → List Row → ℕ → Type 0
 IsWideFor arcs ss z m rows s = Any (λ r. pos (2 ^ 33) ≤ℤ extent (reach_of arcs ss z m s r)) rows
 
--- as some signal that counts sees it
+-- the same, as some signal that counts sees it
 abbrev pub IsWide : List Arc → List ℕ → List ℤ → List ℤ → PairRows → Type 0
 IsWide arcs ss z m p = Any (IsWideFor arcs ss z m p.rows) ss
 
--- as some signal sees some row of some pair
+-- the same of some pair
 abbrev pub AreWide : List Arc → List ℕ → List PairRows → List ℤ → List ℤ → Type 0
 AreWide arcs ss pairs z m = Any (IsWide arcs ss z m) pairs

@@ -153,7 +153,7 @@ fn builder(alloc: Global, arcs: Vec<Arc>, signals: Signals) -> Option<SessionBui
     Some(SessionBuilder::new(alloc, 0, b'G', base, base, signals, ArcList::new(arcs)))
 }
 
-// The same rows with the L1 code's y greater by so much, as by the receivers' clocks.
+// The same rows with the L1 code's y greater by `by`, as by the receivers' clocks.
 fn later_pair(alloc: Global, pair: &PairRows, by: i64) -> Result<Option<PairRows>, AllocError> {
     let mut later = PairBuilder::new(alloc, pair.number, pair.tag, 0);
     for row in pair.rows.as_slice() {

@@ -11,7 +11,7 @@ use Rattle.grammar_lines.specs.LineParts.{TakesLine}
 abbrev pub free_by : Bool → ℕ
 free_by datum = if datum then 0 else 1
 
--- where arcs are to come after these, an arc is taken
+-- where arcs are still to come after these, the line of one is taken
 pub record ArcsAreTaken {S : Type 0} (rules : Rules S (Unit {0})) (version : Version) (ss : List ℕ) (before : ℕ → List Arc → S) : Type 0 where
   pub takes : (left : ℕ) (arcs : List Arc) → 1 ≤ left → TakesLine rules (before left arcs) (arc_in version ss (free_count arcs) left) (λ a. before (left - 1) (arcs ++ a ∷ []))
 

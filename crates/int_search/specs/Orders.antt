@@ -4,7 +4,7 @@ use Rattle.std.specs.declared.cmp.Ordering.{Ordering}
 use Rattle.std.specs.declared.cmp.Ordering.TheVariants.{Less, Equal, Greater}
 use Rattle.quadratic_form.specs.TwoLeast.{Before}
 
--- by entries
+-- the order of v and w by entries
 abbrev pub IsEntryOrder : List ℤ → List ℤ → Ordering → Type 0
 IsEntryOrder v w Less = Before v w
 IsEntryOrder v w Equal = v ≡ w
@@ -14,7 +14,7 @@ IsEntryOrder v w Greater = Before w v
 abbrev pub IsRankLess : ℤ → List ℤ → ℤ → List ℤ → Type 0
 IsRankLess p v q w = (p <ℤ q) ⊎ ((p ≡ q) × Before v w)
 
--- by value, then by entries
+-- the order by value, then by entries
 abbrev pub IsRankOrder : ℤ → List ℤ → ℤ → List ℤ → Ordering → Type 0
 IsRankOrder p v q w Less = IsRankLess p v q w
 IsRankOrder p v q w Equal = (p ≡ q) × (v ≡ w)

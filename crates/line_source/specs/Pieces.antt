@@ -2,7 +2,7 @@
 use Rattle.std.specs.Prelude.{◌≡◌, ◌≤◌, ℕ, List, length, IfSome}
 use Rattle.std.specs.declared.option.Option.{Option}
 
--- All of a text was taken, which is what is told of the file where something is told: this number of bytes, for which the
+-- All of a text was taken, which is what is reported of the file where something is: this number of bytes, for which the
 -- taker stands.
 pub record IsTakenWhole (told : Option (List ℕ)) (taken : ℕ) (stands_for : List ℕ → Type 0) : Type 0 where
   pub text : List ℕ

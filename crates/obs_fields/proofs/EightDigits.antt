@@ -158,7 +158,7 @@ nines_below w a b c d e f g h is are =
 
 -- ---- sums of two digits in the bytes
 
--- the byte behind k bits
+-- the byte after k bits
 byte_at : (n k y p lo : ℕ) → n ≡ (y * 256 + p) * 2 ^ k + lo → lo < 2 ^ k → p < 256 → n / 2 ^ k % 256 ≡ p
 byte_at n k y p lo is less small = ap (λ m. m / 2 ^ k % 256) is ∙ ap (λ m. m % 256) (shr_high (y * 256 + p) k lo less) ∙ mod_low y 8 p small
 

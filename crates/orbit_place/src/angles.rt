@@ -73,7 +73,7 @@ pub fn relative_rate(rate: &SizedBox<60, SMALL, 1>) -> SizedBox<60, RELATIVE_RAT
     rate.sub(&earth_rate())
 }
 
-/// What the Earth turns by in that many seconds of a week, in radians.
+/// The angle by which the Earth turns in `second` seconds of a week, in radians.
 pub fn earth_turn(second: u32) -> SizedBox<56, EARTH_TURN, 1>
     requires { second < 604800 }
     ensures { Holds result.held (mul_r earth_rate (of_whole (pos second))) }

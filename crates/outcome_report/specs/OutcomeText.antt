@@ -1,5 +1,5 @@
 -- What is printed of the end of a run: on out the certificate, or why there is none; on err how much of the files went
--- into it, and what came of it.
+-- into it, and whether it is a fix.
 use Rattle.std.specs.Prelude.{ℕ, ℤ, Bool, true, false, List, [], ◌++◌, codes}
 use Rattle.std.specs.Fmt.{decimal, signed_decimal}
 use Rattle.obs_rows.specs.declared.sessions.Session.{Session}

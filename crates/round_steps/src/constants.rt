@@ -15,7 +15,7 @@ pub fn limits_law()
     ensures cycles { (column : ℕ) → 3 ≤ column → 4 * limit 0 column ≡ 3 * 2 ^ 16 }
     // nearly 3.25 m in 2^9 ι
     ensures coarse { (column : ℕ) → limit COARSE_SCALE column ≡ 46 }
-    // f · 2^scale in 2^-5 ι is so much in 0.1 mm
+    // f · 2^scale in 2^-5 ι, taken to 0.1 mm
     ensures moves { (scale : ℕ) (p f : ℤ) → moved_coordinate scale p f ≡ p +ℤ nearest_div (f *ℤ pos (2 ^ scale * 299_792_458)) parts }
     // 232 in 2^-5 ι are 1 mm, and 1 in 2^9 ι is 7 cm
     ensures a_millimetre { (p : ℤ) → moved_coordinate 0 p (pos 232) ≡ p +ℤ pos 10 }

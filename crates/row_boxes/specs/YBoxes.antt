@@ -22,7 +22,7 @@ pub record AreSightings (p : Pairing) (base rover : Sighting) : Type 0 where
   pub base_is : IsSighting p.base_sv p.base base
   pub rover_is : IsSighting p.rover_sv p.point rover
 
--- there is one
+-- both receivers have a sighting
 pub record HasSightings (p : Pairing) : Type 0 where
   pub base : HasSighting p.base_sv p.base
   pub rover : HasSighting p.rover_sv p.point
@@ -31,7 +31,7 @@ pub record HasSightings (p : Pairing) : Type 0 where
 abbrev pub HoldsPseudoranges : SvBox → List ℤ → Pseudorange → Type 0
 HoldsPseudoranges sv point b = (s : Sighting) → IsSighting sv point s → InBox iota_exponent b.lo b.hi (pseudorange (range_of s.travel) s.clock)
 
--- of both receivers
+-- the boxes hold the pseudoranges of both receivers
 pub record HoldsBoth (p : Pairing) (base rover : Pseudorange) : Type 0 where
   pub base_held : HoldsPseudoranges p.base_sv p.base base
   pub rover_held : HoldsPseudoranges p.rover_sv p.point rover
@@ -68,11 +68,11 @@ pub record IsGroupUpTo (most : ℤ) (p : Pairing) (scale : ℕ) (amount group : 
   pub holds : HoldsY p scale 2 amount group (pos 0) centre radius
   pub meets : MeetsOne scale centre radius
 
--- by a box that is as narrow as those that are made here
+-- such a group by a box that is as narrow as those that are made here
 abbrev pub IsAllowedGroup : Pairing → ℕ → ℤ → ℤ → Type 0
 IsAllowedGroup p scale amount group = IsGroupUpTo (most_radius scale) p scale amount group
 
--- by any box that a row may have
+-- such a group by any box that a row may have
 abbrev pub IsRowGroup : Pairing → ℕ → ℤ → ℤ → Type 0
 IsRowGroup p scale amount group = IsGroupUpTo (row_radius scale) p scale amount group
 

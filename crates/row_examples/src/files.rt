@@ -1,4 +1,4 @@
-//! Made-up files, screened, with their arcs.
+//! Files that tests make, screened, with their arcs.
 ghost use Rattle.std.specs.Prelude.{◌<◌, ◌≤◌, length, IfOk, IfSome};
 ghost use Rattle.obs_rows.specs.Arcs.{AreArcs};
 ghost use Rattle.obs_rows.specs.Ranges.{IsSystem};

@@ -37,11 +37,11 @@ pub const DEFAULT_JUMP: u32 = 12;
 /// The least number of pairs of a kept arc.
 pub const DEFAULT_ARC: u32 = 5;
 
-/// Each pair is taken,
+/// Each pair is taken.
 pub const DEFAULT_STEP: u32 = 1;
 
-/// from the first one on,
+/// Pairs are taken from the first one on.
 pub const DEFAULT_FIRST: u32 = 0;
 
-/// and at most this many.
+/// The largest number of pairs to use.
 pub const DEFAULT_COUNT: u32 = MOST_PAIRS;

@@ -45,7 +45,7 @@ pub enum TrackTail {
 }
 
 impl TrackTail {
-    /// Tells two vectors with their values, the moves and the upper sum of the first, as fixed or as unseparated.
+    /// The tail with two vectors and their values, the moves and the upper sum of the first: fixed or unseparated.
     pub fn of_vectors(
         fixed: bool,
         h: u32,

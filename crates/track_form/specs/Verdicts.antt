@@ -33,7 +33,7 @@ abbrev pub IsTrackBestIn : List Arc → List ℕ → List PairRows → TrackTail
 IsTrackBestIn arcs ss pairs (Fixed h moves best top) = IsStrictlyBest arcs ss pairs (first_of best) moves
 IsTrackBestIn arcs ss pairs _ = ⊥
 
--- and best by the ratio
+-- the same, and best by the ratio
 abbrev pub IsTrackBestByRatioIn : ℕ → List Arc → List ℕ → List PairRows → TrackTail → Type 0
 IsTrackBestByRatioIn ratio arcs ss pairs (Fixed h moves best top) = IsBestByRatio ratio arcs ss pairs (first_of best) moves
 IsTrackBestByRatioIn ratio arcs ss pairs _ = ⊥

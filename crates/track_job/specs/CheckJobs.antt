@@ -25,7 +25,7 @@ IsVerdictOn cert v = IsTrackVerdict cert.track.arcs (fine_signals cert.track.sig
 abbrev pub IsBestFor : TrackCert → Type 0
 IsBestFor cert = IsTrackBestIn cert.track.arcs (fine_signals cert.track.signals) cert.track.pairs cert.tail
 
--- and best by the certificate's ratio
+-- the same, and best by the certificate's ratio
 abbrev pub IsBestByItsRatio : TrackCert → Type 0
 IsBestByItsRatio cert = IsTrackBestByRatioIn cert.ratio cert.track.arcs (fine_signals cert.track.signals) cert.track.pairs cert.tail
 

@@ -35,7 +35,7 @@ abbrev pub tracked_with : Track → List Lost → Tracked
 tracked_with track lost = record { track = track; lost = lost }
 
 -- What is decided of the tracked pairs, whose rows the certificate has: one decision, but where a search gave up. Each of these pairs
--- has a front, so no tail tells the refusal of one: a form is refused at the finish of the fronts' sum alone.
+-- has a front, so no tail reports the refusal of one: a form is refused at the finish of the fronts' sum alone.
 pub record IsDecidedTrack (o : Options) (cert : TrackCert) : Type 0 where
   pub ratio_is : cert.ratio ≡ o.ratio
   pub budget_is : cert.budget ≡ o.budget

@@ -85,14 +85,14 @@ pub record IsTried (t : TrackSetting) (arcs : List Arc) (begun : ℕ → Type 0)
   pub settles : IsSettledAt t pair point
   pub are_tried : AreTried t arcs begun pair point tried
 
--- and its fine rows are these
+-- the pair is tried, and its fine rows are these
 pub record HasTriedRows (t : TrackSetting) (arcs : List Arc) (begun : ℕ → Type 0) (pair : ℕ) (rows : PairRows) : Type 0 where
   pub point : List ℤ
   pub tried : List Arc
   pub is_tried : IsTried t arcs begun pair point tried
   pub rows_are : ArePairRows (rows_setting t tried point 0) pair rows
 
--- or one of them may be too far
+-- the pair is tried, and one of its fine rows may be too far
 pub record MayBeFar (t : TrackSetting) (arcs : List Arc) (begun : ℕ → Type 0) (pair : ℕ) : Type 0 where
   pub point : List ℤ
   pub tried : List Arc

@@ -53,7 +53,7 @@ fronts_value n fs v = sum (map (λ f. pos (2 ^ f.h) *ℤ quad (front_form n f) v
 abbrev pub BoundsPair : ℕ → List ℤ → Front → Rational → Type 0
 BoundsPair n z f g = of_whole (pos (2 ^ f.h) *ℤ value (front_form n f) z) ≤ʳ mul_r (of_whole (pos 64)) g
 
--- and at most u
+-- a sum of squares is at most u
 abbrev pub IsAtMost : Rational → ℤ → Type 0
 IsAtMost g u = g ≤ʳ of_whole u
 

@@ -19,7 +19,7 @@ abbrev pub HoldsSums : List Arc → List ℕ → List PairRows → ℕ → List 
 HoldsSums arcs ss pairs h t = (fs : List FrontForm) → AreFronts arcs ss pairs fs → (r c : ℕ) → r ≤ c → c < 1 + integer_count arcs ss →
     entry t (3 + r) (3 + c) ≡ track_entry (1 + integer_count arcs ss) h (map brief fs) r c
 
--- by the first pair that has no front, or where Q holds
+-- the sum isn't made: some pair has no front, the first with this fault, or Q holds
 abbrev pub IsStopped : List Arc → List ℕ → List PairRows → Type 0 → NoSum → Type 0
 IsStopped arcs ss pairs Q (Refused fault) = IsFirstRefused arcs ss pairs fault
 IsStopped arcs ss pairs Q Over = Q

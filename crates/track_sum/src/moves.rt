@@ -44,7 +44,7 @@ impl PairFactors {
     }
 }
 
-/// The baseline of each pair at the integers z, as a move in 2^-5 ι, by the factors of its front. The inner error is told
+/// The baseline of each pair at the integers z, as a move in 2^-5 ι, by the factors of its front. The inner error comes
 /// exactly where a number of one of them is 2^46 or more in size.
 ///
 /// z has an entry for each integer of the fronts.

@@ -90,7 +90,7 @@ enum NoSum {
 }
 
 /// Adds what all pairs add to the form over 2^h, after the baseline's columns, on the diagonal and after it, and keeps the
-/// factors of their fronts. The inner error is told of the first pair that has no front, or whose front's exponent is above
+/// factors of their fronts. The inner error is that of the first pair that has no front, or whose front's exponent is above
 /// `most`.
 fn add_fronts(
     alloc: Global,
@@ -138,7 +138,7 @@ pub struct SummedFronts {
     pub factors: Vec<PairFactors>,
 }
 
-/// The sum over the power of two that each `every`th pair asks for. The inner error is told of the first pair that has no
+/// The sum over the power of two that each `every`th pair asks for. The inner error is that of the first pair that has no
 /// front, or that asks for a greater power: none does where they are all asked.
 // Never inlined: its tables would then lie on the stack twice.
 #[inline(never)]
@@ -179,7 +179,7 @@ fn sum_by(
 const ASKED_OF: usize = 16;
 
 /// The fronts of all pairs, brought over one power of two and added, with no factors of the baseline's columns. The inner error is
-/// told of the first pair that has no front.
+/// that of the first pair that has no front.
 ///
 /// The power has the exponent h: the greatest exponent of a front, and the least e with 2^e at least twice the number of
 /// pairs. Over it an entry off the diagonal is the sum of the pairs' entries, each to the nearest, and one on it the sum of
@@ -229,8 +229,8 @@ fn finished(summed: SummedFronts) -> Result<TrackForm, LowerFault>
     Ok(TrackForm { form, factors })
 }
 
-/// The form of a track: the finish of the sum of its pairs' fronts. The inner error is told of the first pair that has no front, and
-/// else as the finish is refused.
+/// The form of a track: the finish of the sum of its pairs' fronts. The inner error is that of the first pair that has no front, and
+/// else that of the finish.
 pub fn form_of_track(
     alloc: Global,
     arcs: &[Arc],
