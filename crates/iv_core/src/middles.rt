@@ -12,7 +12,7 @@ fn half_of(width: i64) -> i64
 
 /// The middle of a box's ends, rounded down.
 #[inline]
-pub fn middle_of(lo: i64, hi: i64) -> i64
+pub fn middle_between(lo: i64, hi: i64) -> i64
     requires ordered { lo ≤ℤ hi }
     requires narrow { (hi -ℤ lo) ≤ℤ pos (2 ^ 62) }
     ensures low { lo ≤ℤ result }

@@ -17,7 +17,7 @@ ghost use Rattle.kepler_box.specs.Steps.{IsMeanAnomaly, IsAngle, IsEccentricity,
 
 mod rough;
 
-use iv_core::{Iv, middle_of, signed_upper_half};
+use iv_core::{Iv, middle_between, signed_upper_half};
 use rough::rough_step;
 use trig_box::{PairBox, PointPair, pair_box};
 
@@ -68,7 +68,7 @@ fn step(m: i64, e: i64, angle: i64) -> i64
     ensures angle { IsAngle result }
 {
     let sine = sine_of(angle);
-    m + pull_of(e, middle_of(sine.lo(), sine.hi()))
+    m + pull_of(e, middle_between(sine.lo(), sine.hi()))
 }
 
 // How far the right side of the equation may lie from an angle that is taken, in units of 2^-56
@@ -273,7 +273,7 @@ pub fn anomaly_by_steps(m: &Iv<56>, e: &Iv<60>) -> Anomaly
     requires eccentricity_narrow { width_of e.now ≤ℤ pos 2 }
     ensures { IsAnomalyBox m.now e.now result }
 {
-    let angle = settle(middle_of(m.lo(), m.hi()), e.lo());
+    let angle = settle(middle_between(m.lo(), m.hi()), e.lo());
     let sine = sine_of(angle);
     let right = right_side(m, e, &sine);
     let radius = widened(residual_of(angle, right.lo(), right.hi()));
@@ -320,7 +320,7 @@ pub fn anomaly_box(m: &Iv<56>, e: &Iv<60>) -> Anomaly
 {
     let means = m.lo().wrapping_add(m.hi());
     let shapes = e.lo().wrapping_add(e.hi());
-    let guess = aimed(middle_of(m.lo(), m.hi()), means, shapes);
+    let guess = aimed(middle_between(m.lo(), m.hi()), means, shapes);
     match found_at(m, e, guess) {
         Some(found) => found,
         None => anomaly_by_steps(m, e),
