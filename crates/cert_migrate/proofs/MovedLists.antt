@@ -1,6 +1,7 @@
 -- Fronts of lists.
 use Rattle.std.proofs.Common.{◌≡◌, ℕ, zero, suc, ◌<◌, ◌≤◌, ◌^◌, unsigned_abs, List, [], ◌∷◌, take, get_or, ℤ, pos, arith, refl, ap}
-use Rattle.int_search.specs.Vectors.{IsZeroFrom, IsSmall}
+use Rattle.integer_form.specs.Kept.{IsZeroFrom}
+use Rattle.int_search.specs.Vectors.{IsSmall}
 
 zero_at : (m : ℕ) (xs : List ℤ) (i : ℕ) → get_or xs i (pos 0) ≡ pos 0 → get_or (take m xs) i (pos 0) ≡ pos 0
 zero_at zero [] i e = refl

@@ -9,7 +9,7 @@ use Rattle.obs_rows.specs.declared.pair_rows.PairRows.{PairRows}
 use Rattle.obs_rows.specs.declared.sessions.Session.{Session}
 use Rattle.obs_rows.specs.Ranges.{IsWithin}
 use Rattle.int_search.specs.declared.answer.TwoBest.{TwoBest}
-use Rattle.int_search.specs.Vectors.{IsZeroFrom}
+use Rattle.integer_form.specs.Kept.{IsZeroFrom}
 use Rattle.cert_data.specs.declared.tails.Tail.{Tail}
 use Rattle.cert_data.specs.declared.tails.Tail.TheVariants as now
 use Rattle.cert_data.specs.declared.certs.Cert.{Cert}

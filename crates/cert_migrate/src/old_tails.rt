@@ -1,6 +1,6 @@
 //! How a certificate of the first version ends.
 ghost use Rattle.std.specs.Prelude.{◌≤◌};
-ghost use Rattle.int_search.specs.Vectors.{IsZeroFrom};
+ghost use Rattle.integer_form.specs.Kept.{IsZeroFrom};
 
 use cert_data::Place;
 

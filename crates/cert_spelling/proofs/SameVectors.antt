@@ -10,7 +10,7 @@ use Rattle.int_search.specs.declared.answer.TwoBest.{TwoBest}
 use Rattle.cert_lines.specs.Lines.{vector_line, values_line}
 use Rattle.cert_lines.proofs.Sizes.{entries_small, values_small}
 use Rattle.form_tables.specs.declared.sizes.TheConstants.{MOST_INTEGERS}
-use Rattle.int_search.specs.Vectors.{IsZeroFrom}
+use Rattle.integer_form.specs.Kept.{IsZeroFrom}
 use Rattle.cert_lines.proofs.SameLines.{cons_same, numbers_same}
 use Rattle.cert_data.specs.Tails.{AreValues}
 

@@ -2,7 +2,8 @@
 ghost use Rattle.std.specs.Prelude.{◌≡◌, ◌≤◌, ◌++◌, ◌∷◌, ℕ, List, take, codes, IfOk};
 ghost use Rattle.obs_rows.specs.declared.arcs.Arc.{Arc};
 ghost use Rattle.obs_rows.specs.Integers.{integer_count};
-ghost use Rattle.int_search.specs.Vectors.{IsSmall, IsZeroFrom};
+ghost use Rattle.integer_form.specs.Kept.{IsZeroFrom};
+ghost use Rattle.int_search.specs.Vectors.{IsSmall};
 ghost use Rattle.rinex_head.specs.Walk.{ReadsFree};
 ghost use Rattle.cert_lines.specs.Lines.{vector_line};
 ghost use Rattle.cert_data.specs.Tails.{IsTailOf};

@@ -1,6 +1,7 @@
 //! The lines of a tail, and the end.
 ghost use Rattle.std.specs.Prelude.{◌≡◌, ◌≤◌, ◌∷◌, [], ℤ, List, take, length, Ok, Err, IfOk, MatchResult};
-ghost use Rattle.int_search.specs.Vectors.{IsSmall, IsZeroFrom};
+ghost use Rattle.integer_form.specs.Kept.{IsZeroFrom};
+ghost use Rattle.int_search.specs.Vectors.{IsSmall};
 ghost use Rattle.rinex_head.specs.Places.{at_line};
 ghost use Rattle.rinex_head.specs.Walk.{rest_gives, ReadsFree};
 ghost use Rattle.cert_lines.specs.Lines.{vector_line, named_line};

@@ -9,7 +9,8 @@ use Rattle.int_search.specs.Suffixes.{SearchForm, IsSearchable, rest, offset, lo
 use Rattle.int_search.specs.PlainCount.{rounded, neighbour, first_moved, side, top, Counts}
 use Rattle.int_search.specs.VisitOrder.{IsWide}
 use Rattle.int_search.proofs.SuffixLaws.{low_grows}
-use Rattle.int_search.specs.Vectors.{IsSmall, IsZeroFrom, suffix}
+use Rattle.integer_form.specs.Kept.{IsZeroFrom}
+use Rattle.int_search.specs.Vectors.{IsSmall, suffix}
 use Rattle.int_search.proofs.SuffixArrays.{suffix-set, suffix-none, suffix-cons}
 
 pub rounded-suc : (f : SearchForm) (n : ℕ) → rounded f (suc n) ≡ nearest_div (neg_ℤ (rest f (rounded f n))) (2 ^ 30) ∷ rounded f n

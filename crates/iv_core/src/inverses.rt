@@ -1,19 +1,15 @@
 //! About the inverses of numbers. Nothing is claimed of them: what is guessed by them is tested.
-
-// The upper half of a product
-fn high(a: u64, b: u64) -> u64 {
-    (a as u128 * b as u128 >> 64) as u64
-}
+use crate::halves::upper_half;
 
 // About 2^127 over what is at least 2^63: one division of 64 bits, and a step of Newton's rule
 fn inverse_of(moved: u64) -> u64 {
     let rough = (u64::MAX >> 1) / (moved >> 32).max(1) << 32;
-    high(rough, high(rough, moved).wrapping_neg()) << 1
+    upper_half(rough, upper_half(rough, moved).wrapping_neg()) << 1
 }
 
 // About the inverse of what is greater by `more`
 fn lowered(inverse: u64, more: u64) -> u64 {
-    inverse.wrapping_sub(high(inverse, high(inverse, more)) << 1)
+    inverse.wrapping_sub(upper_half(inverse, upper_half(inverse, more)) << 1)
 }
 
 // The upper half of a product with an inverse

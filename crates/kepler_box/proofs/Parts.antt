@@ -14,17 +14,14 @@ use Rattle.kepler_box.specs.Steps.{IsStep, AreNear}
 use Rattle.iv_core.specs.Boxes.{least_corner, most_corner, Past}
 use Rattle.whole_math.proofs.Extremes.{least_case, most_case}
 use Rattle.whole_math.proofs.Inequalities.{le_refl_ℤ, le_trans_ℤ}
-use Rattle.kepler_box.proofs.Steps.{in_range}
+use Rattle.kepler_box.proofs.Steps.{in_range, size_of}
 use Rattle.kepler_box.proofs.PartCertificates.{corner_high, corner_low}
 
 -- ---- results that are no refusals
 
 corner_size : (e s : ℤ) → pos 0 ≤ℤ e → e ≤ℤ pos (2 ^ 55) → unsigned_abs s ≤ 2 ^ 61 → (neg_ℤ (pos (2 ^ 116)) ≤ℤ (e *ℤ s)) × ((e *ℤ s) ≤ℤ pos (2 ^ 116))
-corner_size e s h k l = go (e *ℤ s) (abs_mul_le e s (2 ^ 55) (2 ^ 61) (size e h k) l)
+corner_size e s h k l = go (e *ℤ s) (abs_mul_le e s (2 ^ 55) (2 ^ 61) (size_of e h k) l)
   where
-    size : (e : ℤ) → pos 0 ≤ℤ e → e ≤ℤ pos (2 ^ 55) → unsigned_abs e ≤ 2 ^ 55
-    size e h k = omega (arith, ints)
-
     go : (z : ℤ) → unsigned_abs z ≤ 2 ^ 55 * 2 ^ 61 → (neg_ℤ (pos (2 ^ 116)) ≤ℤ z) × (z ≤ℤ pos (2 ^ 116))
     go z h = (omega (arith, ints), omega (arith, ints))
 

@@ -50,15 +50,15 @@ pull_within : (z f : ℤ) → (f *ℤ pos 18446744073709551616) ≤ℤ z → z <
     → unsigned_abs z ≤ 2 ^ 55 * 2 ^ 61 → (neg_ℤ (pos (2 ^ 52)) ≤ℤ f) × (f ≤ℤ pos (2 ^ 52))
 pull_within z f h k l = (omega (arith, ints), omega (arith, ints))
 
-size_of : (e : ℤ) → pos 0 ≤ℤ e → e ≤ℤ pos (2 ^ 55) → unsigned_abs e ≤ 2 ^ 55
+pub product_within : (e s : ℤ) → unsigned_abs e ≤ 2 ^ 55 → unsigned_abs s ≤ 2 ^ 61 → (neg_ℤ (pos (2 ^ 52)) ≤ℤ floor_div (e *ℤ s) (2 ^ 64)) × (floor_div (e *ℤ s) (2 ^ 64) ≤ℤ pos (2 ^ 52))
+product_within e s h k = pull_within (e *ℤ s) (floor_div (e *ℤ s) (2 ^ 64)) (floor_le (e *ℤ s) (2 ^ 64) (lit< tt))
+    (lt_floor (e *ℤ s) (2 ^ 64) (lit< tt)) (abs_mul_le e s (2 ^ 55) (2 ^ 61) h k)
+
+pub size_of : (e : ℤ) → pos 0 ≤ℤ e → e ≤ℤ pos (2 ^ 55) → unsigned_abs e ≤ 2 ^ 55
 size_of e h k = omega (arith, ints)
 
-pub pull_size : (e s : ℤ) → pos 0 ≤ℤ e → e ≤ℤ pos (2 ^ 55) → unsigned_abs s ≤ 2 ^ 61 → (neg_ℤ (pos (2 ^ 52)) ≤ℤ floor_div (e *ℤ s) (2 ^ 64)) × (floor_div (e *ℤ s) (2 ^ 64) ≤ℤ pos (2 ^ 52))
-pull_size e s e0 e1 h = pull_within (e *ℤ s) (floor_div (e *ℤ s) (2 ^ 64)) (floor_le (e *ℤ s) (2 ^ 64) (lit< tt))
-    (lt_floor (e *ℤ s) (2 ^ 64) (lit< tt)) (abs_mul_le e s (2 ^ 55) (2 ^ 61) (size_of e e0 e1) h)
-
 pub step_near : (m e x a : ℤ) → pos 0 ≤ℤ e → e ≤ℤ pos (2 ^ 55) → IsStep m e x a → AreNear (pos (2 ^ 52)) a m
-step_near m e x a e0 e1 p = let pull_bounded = pull_size e p.sine e0 e1 p.size in go m a (floor_div (e *ℤ p.sine) (2 ^ 64)) p.next_is pull_bounded.0 pull_bounded.1
+step_near m e x a e0 e1 p = let pull_bounded = product_within e p.sine (size_of e e0 e1) p.size in go m a (floor_div (e *ℤ p.sine) (2 ^ 64)) p.next_is pull_bounded.0 pull_bounded.1
   where
     go : (m a f : ℤ) → a ≡ m +ℤ f → neg_ℤ (pos (2 ^ 52)) ≤ℤ f → f ≤ℤ pos (2 ^ 52) → AreNear (pos (2 ^ 52)) a m
     go m a f e h k = (omega (arith, ints), omega (arith, ints))

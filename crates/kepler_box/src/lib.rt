@@ -17,33 +17,12 @@ ghost use Rattle.kepler_box.specs.Steps.{IsMeanAnomaly, IsAngle, IsEccentricity,
 
 mod rough;
 
-use iv_core::Iv;
+use iv_core::{Iv, middle_between, signed_upper_half};
 use rough::rough_step;
 use trig_box::{PairBox, PointPair, pair_box};
 
 // After fourteen a further step leads at most 3 units away, wherever the first began.
 const ROUNDS: u32 = 14;
-
-fn half_of(width: i64) -> i64
-    requires low { pos 0 ≤ℤ width }
-    requires high { width ≤ℤ pos 512 }
-    ensures below { (result +ℤ result) ≤ℤ width }
-    ensures near { width ≤ℤ ((result +ℤ result) +ℤ pos 1) }
-{
-    width >> 1
-}
-
-// The middle of a box's ends, rounded down
-fn middle_of(lo: i64, hi: i64) -> i64
-    requires ordered { lo ≤ℤ hi }
-    requires narrow { (hi -ℤ lo) ≤ℤ pos 512 }
-    ensures low { lo ≤ℤ result }
-    ensures high { result ≤ℤ hi }
-    ensures nearer { (result -ℤ lo) ≤ℤ (hi -ℤ result) }
-    ensures half { ((hi -ℤ result) +ℤ (hi -ℤ result)) ≤ℤ ((hi -ℤ lo) +ℤ pos 1) }
-{
-    lo + half_of(hi - lo)
-}
 
 // The box of the sine of angle / 2^56
 fn sine_of(angle: i64) -> Iv<60>
@@ -70,32 +49,14 @@ fn sine_at(point: &PointPair) -> Iv<60>
     point.within(0).sin
 }
 
-fn product(e: i64, sine: i64) -> i128
-    requires e_size { unsigned_abs e ≤ 2 ^ 55 }
-    requires size { unsigned_abs sine ≤ 2 ^ 61 }
-    ensures value { result ≡ e *ℤ sine }
-    ensures size { unsigned_abs result ≤ 2 ^ 116 }
-{
-    e as i128 * sine as i128
-}
-
-// From units of 2^-120 to units of 2^-56, rounded down
-fn coarse(z: i128) -> i64
-    requires size { unsigned_abs z ≤ 2 ^ 116 }
-    ensures value { result ≡ floor_div z (2 ^ 64) }
-    ensures size { Within (pos (2 ^ 52)) result }
-{
-    (z >> 64) as i64
-}
-
 // e · sine in units of 2^-56, rounded down
 fn pull_of(e: i64, sine: i64) -> i64
-    requires eccentricity { IsEccentricity e }
+    requires e_size { unsigned_abs e ≤ 2 ^ 55 }
     requires size { unsigned_abs sine ≤ 2 ^ 61 }
     ensures value { result ≡ floor_div (e *ℤ sine) (2 ^ 64) }
     ensures size { Within (pos (2 ^ 52)) result }
 {
-    coarse(product(e, sine))
+    signed_upper_half(e, sine)
 }
 
 // m + e · sine of the angle
@@ -107,7 +68,7 @@ fn step(m: i64, e: i64, angle: i64) -> i64
     ensures angle { IsAngle result }
 {
     let sine = sine_of(angle);
-    m + pull_of(e, middle_of(sine.lo(), sine.hi()))
+    m + pull_of(e, middle_between(sine.lo(), sine.hi()))
 }
 
 // How far the right side of the equation may lie from an angle that is taken, in units of 2^-56
@@ -136,7 +97,7 @@ fn drawn_out(change: i64, pull: i64, sum: i64) -> i64
     requires sum { Within (pos (2 ^ 55)) sum }
     ensures { Within (pos (2 ^ 55)) result }
 {
-    change + coarse(product(8 * pull, 32 * sum))
+    change + pull_of(8 * pull, 32 * sum)
 }
 
 // The nearest angle that is in reach of m
@@ -312,7 +273,7 @@ pub fn anomaly_by_steps(m: &Iv<56>, e: &Iv<60>) -> Anomaly
     requires eccentricity_narrow { width_of e.now ≤ℤ pos 2 }
     ensures { IsAnomalyBox m.now e.now result }
 {
-    let angle = settle(middle_of(m.lo(), m.hi()), e.lo());
+    let angle = settle(middle_between(m.lo(), m.hi()), e.lo());
     let sine = sine_of(angle);
     let right = right_side(m, e, &sine);
     let radius = widened(residual_of(angle, right.lo(), right.hi()));
@@ -359,7 +320,7 @@ pub fn anomaly_box(m: &Iv<56>, e: &Iv<60>) -> Anomaly
 {
     let means = m.lo().wrapping_add(m.hi());
     let shapes = e.lo().wrapping_add(e.hi());
-    let guess = aimed(middle_of(m.lo(), m.hi()), means, shapes);
+    let guess = aimed(middle_between(m.lo(), m.hi()), means, shapes);
     match found_at(m, e, guess) {
         Some(found) => found,
         None => anomaly_by_steps(m, e),

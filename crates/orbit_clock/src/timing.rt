@@ -14,7 +14,7 @@ use crate::correction::{CLOCK, EFFECT, SENT, SHARE, Terms, pass, share_of, time_
 use crate::record::ClockRecord;
 use crate::shape::ECCENTRICITY;
 use gps_time::Tick;
-use iv_core::Iv;
+use iv_core::{Iv, middle_between};
 use kepler_box::anomaly_box;
 use sized_box::SizedBox;
 
@@ -87,15 +87,6 @@ fn sine_near(
     SizedBox::new(Iv::from_ends(sine.lo() - PAD, sine.hi() + PAD))
 }
 
-fn half_of(width: i64) -> i64
-    requires low { pos 0 ≤ℤ width }
-    requires high { width ≤ℤ pos 224698263228 }
-    ensures below { (result +ℤ result) ≤ℤ width }
-    ensures near { width ≤ℤ ((result +ℤ result) +ℤ pos 1) }
-{
-    width >> 1
-}
-
 // The middle of the ends of a box, rounded down
 fn middle_of(clock: &SizedBox<60, CLOCK, FIRST_WIDTH>) -> i64
     ensures low { clock.now.held.lo ≤ℤ result }
@@ -103,9 +94,7 @@ fn middle_of(clock: &SizedBox<60, CLOCK, FIRST_WIDTH>) -> i64
     ensures above { ((clock.now.held.hi -ℤ result) +ℤ (clock.now.held.hi -ℤ result)) ≤ℤ pos 224698263229 }
     ensures below { ((result -ℤ clock.now.held.lo) +ℤ (result -ℤ clock.now.held.lo)) ≤ℤ pos 224698263229 }
 {
-    let lo = clock.held.lo();
-    let hi = clock.held.hi();
-    lo + half_of(hi - lo)
+    middle_between(clock.held.lo(), clock.held.hi())
 }
 
 // That clock alone

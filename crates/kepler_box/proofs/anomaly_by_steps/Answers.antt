@@ -9,20 +9,20 @@ use Rattle.kepler_box.proofs.Parts.{IsReached, residual, halves, wide_of, ends_o
 use Rattle.kepler_box.proofs.anomaly_by_steps.Goals as goal
 
 reached : (c : goal.After-hi-2) →
-    IsReached c.args.m.now.lo c.args.m.now.hi c.args.e.now.lo c.args.e.now.hi c.middle_of.result c.settle-angle.result c.sine_of-sine.result.lo
+    IsReached c.args.m.now.lo c.args.m.now.hi c.args.e.now.lo c.args.e.now.hi c.middle_between.result c.settle-angle.result c.sine_of-sine.result.lo
     c.sine_of-sine.result.hi c.right_side-right.result.lo c.right_side-right.result.hi
 reached c =
-    let t : ℤ = c.middle_of.result in
+    let t : ℤ = c.middle_between.result in
     let x : ℤ = c.settle-angle.result in
     let a : ℤ = c.sine_of-sine.result.lo in
     let b : ℤ = c.sine_of-sine.result.hi in
     let same_angle = to_z-of_z w64 x (record { sfits = c.settle-angle.type_inv }) in
-    let same_middle = to_z-of_z w64 t (record { sfits = c.middle_of.type_inv }) in
+    let same_middle = to_z-of_z w64 t (record { sfits = c.middle_between.type_inv }) in
     let same_e = to_z-of_z w64 c.lo-2.result (record { sfits = c.lo-2.type_inv }) ∙ c.lo-2.ensures in
     let same_low = to_z-of_z w64 c.lo.result (record { sfits = c.lo.type_inv }) ∙ c.lo.ensures in
     let same_high = to_z-of_z w64 c.hi.result (record { sfits = c.hi.type_inv }) ∙ c.hi.ensures in
     let halves_narrow = halves c.args.m.now.lo c.args.m.now.hi t (pos 8) (pos 0) c.requires.mean_narrow
-    (subst₂ (λ (y z : ℤ). (t -ℤ y) ≤ℤ (z -ℤ t)) same_low same_high c.middle_of.ensures.nearer) (subst₂ (λ (y z : ℤ). ((z -ℤ t) +ℤ (z -ℤ t)) ≤ℤ ((z -ℤ y) +ℤ pos 1)) same_low same_high c.middle_of.ensures.half) in
+    (subst₂ (λ (y z : ℤ). (t -ℤ y) ≤ℤ (z -ℤ t)) same_low same_high c.middle_between.ensures.nearer) (subst₂ (λ (y z : ℤ). ((z -ℤ t) +ℤ (z -ℤ t)) ≤ℤ ((z -ℤ y) +ℤ pos 1)) same_low same_high c.middle_between.ensures.half) in
     record {
       sized = record {
         e_low = c.requires.eccentricity_low;
@@ -48,7 +48,7 @@ reached c =
 
 pub residual_of-requires-clause-above : goal.residual_of-requires-clause-above
 residual_of-requires-clause-above c =
-    let residual_bounds = residual c.args.m.now.lo c.args.m.now.hi c.args.e.now.lo c.args.e.now.hi c.middle_of.result c.settle-angle.result c.sine_of-sine.result.lo
+    let residual_bounds = residual c.args.m.now.lo c.args.m.now.hi c.args.e.now.lo c.args.e.now.hi c.middle_between.result c.settle-angle.result c.sine_of-sine.result.lo
     c.sine_of-sine.result.hi c.right_side-right.result.lo c.right_side-right.result.hi (reached c) in
     let same_angle = to_z-of_z w64 c.settle-angle.result (record { sfits = c.settle-angle.type_inv }) in
     let same_high = to_z-of_z w64 c.hi-2.result (record { sfits = c.hi-2.type_inv }) ∙ c.hi-2.ensures in
@@ -56,7 +56,7 @@ residual_of-requires-clause-above c =
 
 pub residual_of-requires-clause-below : goal.residual_of-requires-clause-below
 residual_of-requires-clause-below c =
-    let residual_bounds = residual c.args.m.now.lo c.args.m.now.hi c.args.e.now.lo c.args.e.now.hi c.middle_of.result c.settle-angle.result c.sine_of-sine.result.lo
+    let residual_bounds = residual c.args.m.now.lo c.args.m.now.hi c.args.e.now.lo c.args.e.now.hi c.middle_between.result c.settle-angle.result c.sine_of-sine.result.lo
     c.sine_of-sine.result.hi c.right_side-right.result.lo c.right_side-right.result.hi (reached c) in
     let same_angle = to_z-of_z w64 c.settle-angle.result (record { sfits = c.settle-angle.type_inv }) in
     let same_low = to_z-of_z w64 c.lo-3.result (record { sfits = c.lo-3.type_inv }) ∙ c.lo-3.ensures in

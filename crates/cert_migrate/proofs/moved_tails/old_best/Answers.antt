@@ -1,6 +1,6 @@
 use Rattle.std.proofs.Common.{sym, subst}
 use Rattle.int_search.specs.declared.answer.TwoBest.{TwoBest}
-use Rattle.int_search.specs.Vectors.{IsZeroFrom}
+use Rattle.integer_form.specs.Kept.{IsZeroFrom}
 use Rattle.cert_migrate.proofs.MovedLists.{front_zero}
 use Rattle.cert_migrate.proofs.moved_tails.old_best.Goals as goal
 

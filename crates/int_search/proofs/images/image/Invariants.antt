@@ -1,7 +1,8 @@
 use Rattle.std.proofs.Common.{◌≡◌, ℕ, ◌<◌, [], pos, get_or, length}
 use Rattle.whole_math.specs.Vectors.{dot}
 use Rattle.form_tables.specs.declared.sizes.TheConstants.{MOST_INTEGERS}
-use Rattle.int_search.specs.Vectors.{suffix, IsSmall, IsZeroFrom}
+use Rattle.integer_form.specs.Kept.{IsZeroFrom}
+use Rattle.int_search.specs.Vectors.{suffix, IsSmall}
 use Rattle.int_search.proofs.images.image.Given as goal
 
 abbrev pub invariant-loop-i : goal.invariant-loop-i

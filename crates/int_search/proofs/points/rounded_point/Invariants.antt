@@ -2,7 +2,8 @@ use Rattle.std.proofs.Common.{◌≡◌, ◌-◌, ◌≤◌, length}
 use Rattle.form_tables.specs.declared.sizes.TheConstants.{MOST_INTEGERS}
 use Rattle.integer_form.specs.Forms.{integers_of}
 use Rattle.int_search.specs.PlainCount.{rounded}
-use Rattle.int_search.specs.Vectors.{suffix, IsSmall, IsZeroFrom}
+use Rattle.integer_form.specs.Kept.{IsZeroFrom}
+use Rattle.int_search.specs.Vectors.{suffix, IsSmall}
 use Rattle.int_search.specs.SearchedForm.{search_form}
 use Rattle.int_search.proofs.points.rounded_point.Given as goal
 
