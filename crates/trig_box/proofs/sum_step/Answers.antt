@@ -1,4 +1,4 @@
-use Rattle.std.proofs.Common.{◌≡◌, ℕ, ◌*◌, ◌/◌, ◌%◌, ◌-◌, ◌^◌, ◌≤◌, arith, ap, le_refl, mul-le-mul}
+use Rattle.std.proofs.Common.{◌≡◌, ℕ, ◌*◌, ◌/◌, ◌%◌, ◌-◌, ◌^◌, ◌≤◌, arith, ap, ◌∙◌, le_refl, mul-le-mul}
 use Rattle.trig_box.proofs.sum_step.Goals as goal
 
 -- four times a product over 2^64
@@ -15,7 +15,7 @@ smaller : (z i k : ℕ) → z ≤ 2 ^ 60 → i ≤ k → z * 4 % 2 ^ 64 * i / 2 
 smaller z i k h g = let product_at_most : z * i ≤ 2 ^ 60 * i = mul-le-mul h (le_refl i) in rw (quarter z i h) (omega arith)
 
 pub overflow_sub-result : goal.overflow_sub-result
-overflow_sub-result g c = smaller c.args.z c.args.inner g.row.COEFFICIENT c.requires.z_small c.requires.inner_small
+overflow_sub-result g c = rw c.upper_half.ensures (smaller c.args.z c.args.inner g.row.COEFFICIENT c.requires.z_small c.requires.inner_small)
 
 pub returns-clause-value : goal.returns-clause-value
-returns-clause-value g c = ap (λ (q : ℕ). g.row.COEFFICIENT - q) (quarter c.args.z c.args.inner c.requires.z_small)
+returns-clause-value g c = ap (λ (q : ℕ). g.row.COEFFICIENT - q) (c.upper_half.ensures ∙ quarter c.args.z c.args.inner c.requires.z_small)
