@@ -66,17 +66,7 @@ impl Satellites {
         self.sats[place].number
     }
 
-    /// The satellite of that number, if it is there.
-    pub fn find(&self, number: u8) -> Option<SatObs>
-        ensures { result ≡ find (λ s. s.number == number) self.now }
-    {
-        match self.view(number) {
-            Some(sat) => Some(sat.whole()),
-            None => None,
-        }
-    }
-
-    /// The same, with its values where they are stored.
+    /// The satellite of that number, if it is there, with its values where they are stored.
     pub fn view(&self, number: u8) -> Option<SatView<'_>>
         ensures { result ≡ find (λ s. s.number == number) self.now }
     {

@@ -1,15 +1,16 @@
 //! An epoch: the further lines of its satellites' names, and their own lines (RINEX 2.11, observation record).
-ghost use Rattle.std.specs.Prelude.{◌≡◌, ◌≤◌, ◌+◌, List, ℕ, [], ◌∷◌, ◌++◌, Bool, None, Some, length, IfOk, OnOk};
+ghost use Rattle.std.specs.Prelude.{◌≡◌, ◌≤◌, ◌+◌, List, ℕ, [], ◌∷◌, ◌++◌, Bool, None, Some, length, OnOk};
 ghost use Rattle.std.specs.declared.option.Option.{Option};
 ghost use Rattle.gps_time.specs.declared.Tick.{Tick};
 ghost use Rattle.obs_store.specs.declared.series.Epoch.{Epoch};
 ghost use Rattle.obs_store.specs.declared.values.SatObs.{SatObs};
 ghost use Rattle.obs_store.specs.Missing.{missing_values};
+ghost use Rattle.obs_store.specs.Epochs.{epoch_of};
 ghost use Rattle.rinex_head.specs.Walk.{Reads, ReadsFree};
 ghost use Rattle.rinex2_obs.specs.Profile.{kept_of};
 ghost use Rattle.rinex2_obs.specs.SatNumbers.{AreNames, AreNew, IsWith};
 ghost use Rattle.rinex2_obs.specs.declared.header.Header.{Header};
-ghost use Rattle.rinex2_obs.specs.Obs2Rules.{Body, epoch_of, more_names, more_sats, obs2_rules};
+ghost use Rattle.rinex2_obs.specs.Obs2Rules.{Body, more_names, more_sats, obs2_rules};
 
 use crate::header::Header;
 use crate::sat_names::{NameList, further_names};

@@ -17,4 +17,4 @@ returns c =
     let three : length part ≡ 3 = simp (length-take, length-drop) (omega (arith, c.requires)) in
     rw same (sym (ap (λ (z : ℤ). let r : Result ℤ NumberFault = Ok z in r) c.with_sign.ensures
     ∙ usual_is text (take 10 text) c.without_blanks.result.now c.without_sign-negative.result.1.now part c.without_sign-negative.result.0 c.in_ok-digits.field-0 c.in_ok-size.field-0 text_is
-    c.without_blanks.ensures.behind c.without_sign-negative.ensures.value c.in_ok-digits.ensures.digits c.in_ok-size.ensures.digits three c.in_ok-digits.ensures.small c.in_ok-size.ensures.small))
+    c.without_blanks.ensures.value c.without_sign-negative.ensures.value c.in_ok-digits.ensures.digits c.in_ok-size.ensures.digits three c.in_ok-digits.ensures.small c.in_ok-size.ensures.small))
