@@ -1,7 +1,7 @@
 use Rattle.std.proofs.Common.{◌≡◌, List, Result, Ok, Err, IfOk, ℕ, sym, ap, ◌∙◌, subst}
 use Rattle.line_source.specs.Lines.{Reading}
 use Rattle.cert_words.specs.Spelling.{text_of_lines}
-use Rattle.cert_words.specs.TextLines.{ended_lines}
+use Rattle.line_source.specs.EndedLines.{ended_lines}
 use Rattle.cert_words.proofs.TextLaws.{AreLines, text_of_ended}
 use Rattle.rinex_head.specs.declared.place.TextFault.{TextFault}
 use Rattle.cert_data.specs.declared.certs.Cert.{Cert}

@@ -4,7 +4,7 @@ use Rattle.rinex_head.specs.declared.place.TextFault.{TextFault}
 use Rattle.rinex_head.specs.Walk.{rest_gives}
 use Rattle.rinex_head.proofs.Walks.{gives_same}
 use Rattle.cert_words.specs.Spelling.{text_of_lines}
-use Rattle.cert_words.specs.TextLines.{ended_lines}
+use Rattle.line_source.specs.EndedLines.{ended_lines}
 use Rattle.cert_words.proofs.TextLaws.{AreLines, text_of_ended}
 use Rattle.track_data.specs.declared.certs.TrackCert.{TrackCert}
 use Rattle.track_spelling.specs.Spelling.{lines_of_track, track_spelling}
