@@ -1,5 +1,6 @@
 -- Where the first line of a text ends, where each line ends with a line feed.
 use Rattle.std.proofs.Common.{◌≡◌, ◌<◌, ◌+◌, ◌==◌, ℕ, zero, suc, nat_lt, Bool, true, false, if◌then◌else◌, List, [], ◌∷◌, ◌++◌, length, take, drop, slice_index_or, length-take, length-append, refl, sym, ap, ◌∙◌, arith, append_assoc}
+use Rattle.std.specs.List.{HoldsAt}
 use Rattle.std.proofs.lemmas.List.{append-nil}
 use Rattle.std.proofs.lemmas.Bool.Decides.{nat_tests}
 use Rattle.line_source.specs.EndedLines.{without_end, lines_from, ended_lines}
@@ -55,6 +56,11 @@ long_last text long none d =
     let test : nat_lt 4096 (length text) ≡ true = grind (arith, nat_tests) in
     let more : 4096 < length (text ++ 10 ∷ []) = omega (arith, length-append text (10 ∷ [])) in
     rw (unended_all text (omega arith) none, test) more
+
+-- a line that is too long is there
+pub no_long : (lines : List (List ℕ)) → HoldsAt (λ bytes. 4096 < length bytes) lines 0 → lines ≡ [] → ⊥
+no_long [] long none = let first : List ℕ = [] in let too_long : 4096 < length first = long first in absurd (omega (arith, too_long))
+no_long (line ∷ lines) long none = absurd (cc (none))
 
 -- nothing has no lines
 pub none_by : (ends : Ends) → lines_by ends [] ≡ []
