@@ -17,7 +17,7 @@ use crate::sat_names::{NameList, further_names};
 use crate::sat_numbers::SatNames;
 use line_source::Lines;
 use obs_fields::{KeptType, Layout, set_values};
-use obs_store::{SLOTS, Satellites, Value};
+use obs_store::{SatValues, Satellites};
 use rinex_head::{At, TextFault, What, next_line};
 use std::alloc::Global;
 
@@ -43,7 +43,7 @@ fn read_rows(
     lines: &mut Lines<'_>,
     header: &Header,
     kept: &[KeptType],
-    values: &mut [Option<Value>; SLOTS],
+    values: &mut SatValues,
 ) -> Result<(), At>
     requires kept { kept.now ≡ kept_of header.now.types }
     requires missing { values.old ≡ missing_values }
@@ -87,7 +87,7 @@ fn read_satellite(
 {
     match name {
         Some(number) => {
-            let mut values = [None; SLOTS];
+            let mut values = SatValues::missing();
             match read_rows(lines, header, kept, &mut values) {
                 Ok(()) => {}
                 Err(at) => return Err(TextFault::Refused(at)),
