@@ -296,9 +296,13 @@ all_stored now k values stored is all = stored ∙ rw is (all_values 26 values (
 
 -- one value is set
 
-pub set_some : (now new : List StoredValue) (v : StoredValue) → new ≡ now ++ v ∷ []
-    → values_with missing_values new ≡ slice_set (values_with missing_values now) (slot_of v.kind) (Some (value_in v))
-set_some now new v is = rw is (values_with-append missing_values now (v ∷ []))
+pub set_some : (now new : List StoredValue) (v : StoredValue) (kind : ObsType) (value : Value) → new ≡ now ++ v ∷ [] → v.kind ≡ kind → value_in v ≡ value
+    → values_with missing_values new ≡ slice_set (values_with missing_values now) (slot_of kind) (Some value)
+set_some now new v kind value is same there =
+    let values : List (Option Value) = values_with missing_values now in
+    rw is (values_with-append missing_values now (v ∷ []))
+    ∙ ap (λ (k : ObsType). slice_set values (slot_of k) (Some (value_in v))) same
+    ∙ ap (λ (x : Value). slice_set values (slot_of kind) (Some x)) there
 
 other_slot : (values : List (Option Value)) (vs : List StoredValue) (slot : ℕ) → list_any (λ v. slot_of v.kind == slot) vs ≡ false
     → get_or (values_with values vs) slot None ≡ get_or values slot None

@@ -3,9 +3,12 @@ use Rattle.std.proofs.Common.{◌≡◌, ◌∙◌, ap, sym, arith, Some, None}
 use Rattle.obs_store.specs.declared.values.Value.{Value}
 use Rattle.obs_store.specs.declared.kinds.ObsType.TheVariants.{C1C}
 use Rattle.obs_store.specs.Kinds.{slot_of, slot_count}
-use Rattle.obs_store.proofs.StoredLaws.{stored_some, stored_none, all_stored, slot_at}
+use Rattle.obs_store.proofs.StoredLaws.{none_stored, stored_some, stored_none, all_stored, slot_at}
 use Rattle.obs_store.proofs.sat_values.SatValues.of.Goals as goal
 use Rattle.obs_store.proofs.sat_values.SatValues.of.Goals.{in-Some, in-None}
+
+pub loop-slot-init : goal.loop-slot-init
+loop-slot-init c = record { stored = rw c.new-stored.ensures (none_stored c.args.values.now); few = rw c.new-stored.ensures (omega arith) }
 
 pub loop-slot-preserved : goal.loop-slot-preserved
 loop-slot-preserved c = elim c.match-values-slot.branch [
