@@ -53,7 +53,7 @@ impl SatValues {
     }
 
     /// Sets the value of this type, or that it is missing. A value that is set twice is stored twice, and the later one counts.
-    #[tactic(auto, using(crate::proofs::StoredLaws::set_some, crate::proofs::StoredLaws::set_none))]
+    #[tactic(auto, using(crate::proofs::StoredLaws::set_some))]
     pub fn set(&mut self, kind: ObsType, value: Option<Value>)
         ensures { self.new ≡ slice_set self.old (slot_of kind) value }
     {

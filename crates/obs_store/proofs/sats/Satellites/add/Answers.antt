@@ -15,7 +15,7 @@ invariant_of-self-2 c =
     let count = c.count_of_values-count.result in
     let one : StoredSat = record { number = sat.number; count = count } in
     let pushed : c.push_reserved.new.self.items ≡ sats ++ one ∷ [] = c.push_reserved.ensures.items ∙ ap (λ (l : List StoredSat). l ++ one ∷ []) c.in_ok-reserve.ensures.items in
-    let now = c.in_ok-extend_from_slice.new.self.items in
+    let now = c.extend_from_slice.new.self.items in
     let stored : AreStoredBehind values now count sat.values = record {
       added = c.as_slice-stored.result.now;
       new_are = c.in_ok-extend_from_slice.ensures.items;
@@ -34,7 +34,7 @@ returns-clause-added c =
     let count = c.count_of_values-count.result in
     let one : StoredSat = record { number = sat.number; count = count } in
     let pushed : c.push_reserved.new.self.items ≡ sats ++ one ∷ [] = c.push_reserved.ensures.items ∙ ap (λ (l : List StoredSat). l ++ one ∷ []) c.in_ok-reserve.ensures.items in
-    let now = c.in_ok-extend_from_slice.new.self.items in
+    let now = c.extend_from_slice.new.self.items in
     let stored : AreStoredBehind values now count sat.values = record {
       added = c.as_slice-stored.result.now;
       new_are = c.in_ok-extend_from_slice.ensures.items;
