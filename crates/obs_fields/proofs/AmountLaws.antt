@@ -19,12 +19,12 @@ first_rest : (bs : List ℕ) → 1 ≤ length bs → bs ≡ get_or bs 0 0 ∷ ta
 first_rest bs some = drop_more bs 0 0 some ∙ ap (λ l. get_or bs 0 0 ∷ l) (sym (tail_is 1 bs))
 
 -- the text is blanks and then this
-record StandsAfterBlanks (text rest : List ℕ) : Type 0 where
-  before : List ℕ
-  text_is : text ≡ before ++ rest
-  blank : are_blank before ≡ true
+pub record StandsAfterBlanks (text rest : List ℕ) : Type 0 where
+  pub before : List ℕ
+  pub text_is : text ≡ before ++ rest
+  pub blank : are_blank before ≡ true
 
-without_blanks-after : (text : List ℕ) → StandsAfterBlanks text (without_blanks text)
+pub without_blanks-after : (text : List ℕ) → StandsAfterBlanks text (without_blanks text)
 without_blanks-after [] = record { before = []; text_is = refl; blank = refl }
 without_blanks-after (b ∷ bs) = by_blank (b == 32) refl (without_blanks-after bs)
   where
@@ -48,17 +48,17 @@ is_signed true whole part number = (whole ++ 46 ∷ part, refl, number)
 is_signed false whole part number = inr number
 
 -- a number with three places
-pub usual_is : (text front rest whole part : List ℕ) (negative : Bool) (w p : ℕ) → text ≡ front ++ 46 ∷ part → rest ≡ without_blanks front → rest ≡ after_sign negative whole
+pub usual_is : (text front rest whole part : List ℕ) (negative : Bool) (w p : ℕ) → text ≡ front ++ 46 ∷ part → StandsAfterBlanks front rest → rest ≡ after_sign negative whole
     → AreDigitsOf whole w → AreDigitsOf part p → length part ≡ 3 → w < 10 ^ 10 → p < 10 ^ 10
     → Ok (signed negative (1000 * w + p)) ≡ fixed_of text 3
-usual_is text front rest whole part negative w p is after sign digits digits₂ three few few₂ = read_only text 3 (Ok (signed negative (1000 * w + p))) (record {
+usual_is text front rest whole part negative w p is stands sign digits digits₂ three few few₂ = read_only text 3 (Ok (signed negative (1000 * w + p))) (record {
   negative = negative;
   whole = whole;
   part = part;
   fixed = record {
     before = stands.before;
     rest = after_sign negative whole ++ 46 ∷ part;
-    text_is = is ∙ ap (λ l. l ++ 46 ∷ part) (stands.text_is ∙ ap (λ l. stands.before ++ l) (sym after ∙ sign)) ∙ append_assoc stands.before (after_sign negative whole) (46 ∷ part);
+    text_is = is ∙ ap (λ l. l ++ 46 ∷ part) (stands.text_is ∙ ap (λ l. stands.before ++ l) sign) ∙ append_assoc stands.before (after_sign negative whole) (46 ∷ part);
     blank = stands.blank;
     number = is_signed negative whole part (is_number whole part digits.digits digits₂.digits (omega (arith, three)));
   };
@@ -67,9 +67,6 @@ usual_is text front rest whole part negative w p is after sign digits digits₂ 
   value = ap (signed negative) (sym size);
 })
   where
-    stands : StandsAfterBlanks front (without_blanks front)
-    stands = without_blanks-after front
-
     of_part : p ≡ digit_sum part
     of_part = digits₂.value ∙ digits_are part
 
