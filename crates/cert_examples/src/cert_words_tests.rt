@@ -1,8 +1,7 @@
 //! Numbers, ranges and lines of a certificate.
-use cert_words::{
-    Number, Range, TextLines, all_within, next_line, numbers_behind, push_number, push_numbers,
-};
-use rinex_head::{Flaw, What};
+use cert_words::{Number, Range, all_within, numbers_behind, push_number, push_numbers};
+use line_source::Lines;
+use rinex_head::{Flaw, What, next_line};
 use std::test::Fail;
 
 #[test]
@@ -82,15 +81,15 @@ fn keeps_ranges(rt: HostRuntime) {
 
 #[test]
 fn gives_lines(rt: HostRuntime) {
-    let mut lines = TextLines::new(b"one\r\n\ntwo");
+    let mut lines = Lines::strict(b"one\r\n\ntwo");
     for want in [b"one\r".as_slice(), b"", b"\n"] {
-        match next_line(&mut lines) {
+        match next_line(&mut lines, What::BadLine) {
             Ok(line) => assert!(rt; line.bytes == want),
             Err(_) => assert!(rt; false),
         }
     }
     assert_eq!(rt; lines.next_number(), 4);
-    assert!(rt; next_line(&mut lines).is_err());
+    assert!(rt; next_line(&mut lines, What::BadLine).is_err());
 }
 
 #[test]

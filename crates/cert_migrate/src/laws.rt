@@ -2,7 +2,7 @@
 ghost use Rattle.std.specs.Prelude.{◌≡◌, ℕ, List, Err};
 ghost use Rattle.rinex_head.specs.declared.place.At.{At};
 ghost use Rattle.rinex_head.specs.OwnFlaws.{IsOwnFlaw};
-ghost use Rattle.cert_words.specs.TextLines.{ended_lines};
+ghost use Rattle.line_source.specs.EndedLines.{ended_lines};
 ghost use Rattle.cert_lines.specs.declared.version.Version.TheVariants.{One};
 ghost use Rattle.cert_text.specs.Rules.{reading_as};
 ghost use Rattle.cert_migrate.specs.OldRules.{old_rules};

@@ -22,7 +22,7 @@ use Rattle.rinex_head.specs.Walk.{walk, Gives, OnRefusal, IfRefused}
 use Rattle.cert_lines.proofs.LineSpells.{line_length, count_spells, pair_spells, point_spells, point_length}
 use Rattle.rinex_head.specs.declared.place.TextFault.{TextFault}
 use Rattle.rinex_head.specs.declared.place.TextFault.TheVariants.{Refused, NoMemory}
-use Rattle.cert_words.specs.TextLines.{ended_lines}
+use Rattle.line_source.specs.EndedLines.{ended_lines}
 use Rattle.cert_words.proofs.TextLaws.{lines_of_text}
 use Rattle.cert_lines.specs.Forms.{Letters as LettersOf, signals_of}
 use Rattle.cert_lines.proofs.Spreading.{signals_good}

@@ -13,7 +13,7 @@ use Rattle.rinex_head.specs.Places.{and_then, place, at_line}
 use Rattle.rinex_head.specs.Walk.{Rules, admitted, walk, Gives, IfRefused}
 use Rattle.rinex_head.proofs.Stops.{at_line-number, admitted_short}
 use Rattle.rinex_head.proofs.TakenLines.{then_holds}
-use Rattle.cert_words.specs.TextLines.{ended_lines}
+use Rattle.line_source.specs.EndedLines.{ended_lines}
 use Rattle.cert_words.proofs.TextLaws.{lines_of_text}
 use Rattle.cert_lines.specs.declared.ranges.TheConstants.{COORDINATES}
 use Rattle.cert_lines.specs.declared.version.Version.{Version}

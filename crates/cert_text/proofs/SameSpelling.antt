@@ -19,7 +19,7 @@ use Rattle.obs_rows.specs.declared.limits.TheConstants.{MOST_BUDGET}
 use Rattle.cert_lines.specs.TailForms.{last_in}
 use Rattle.cert_text.specs.TailForms.{declined_in}
 use Rattle.cert_spelling.specs.Lengths.{AreWholeVectors, IsWholeTail, IsWhole}
-use Rattle.cert_words.specs.TextLines.{ended_lines}
+use Rattle.line_source.specs.EndedLines.{ended_lines}
 use Rattle.cert_words.proofs.TextLaws.{lines_of_text}
 use Rattle.cert_lines.specs.Lengths.{IsWholePair}
 use Rattle.cert_spelling.specs.Editions.{IsOfVersion}

@@ -1,6 +1,6 @@
 -- Up to the line `pairs` of a text some text of the form begins with the lines before the one that is refused.
 use Rattle.std.specs.Prelude.{◌≡◌, ◌-◌, ℕ, false, List, ◌++◌, All, take, codes}
-use Rattle.cert_words.specs.TextLines.{ended_lines}
+use Rattle.line_source.specs.EndedLines.{ended_lines}
 use Rattle.cert_lines.specs.TailForms.{begins}
 
 -- the lines before the one of this number, which are counted from 1

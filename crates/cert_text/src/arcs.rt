@@ -11,7 +11,7 @@ ghost use Rattle.cert_text.specs.Rules.{cert_rules, frame, ArcCount, PairCount};
 
 use crate::grammar::CertText;
 use cert_lines::Version;
-use cert_words::TextLines;
+use line_source::Lines;
 use obs_rows::{ArcList, Signals};
 use rinex_head::TextFault;
 use std::alloc::Global;
@@ -19,7 +19,7 @@ use std::alloc::Global;
 /// Reads the number of arcs, and the arcs.
 pub(crate) fn read_arcs(
     alloc: Global,
-    lines: &mut TextLines<'_>,
+    lines: &mut Lines<'_>,
     version: Version,
     signals: Signals,
 ) -> Result<ArcList, TextFault>

@@ -9,8 +9,8 @@ ghost use Rattle.cert_lines.specs.declared.version.Version.TheVariants.{One};
 
 use crate::grammar::CertText;
 use cert_lines::{COORDINATES, Version};
-use cert_words::TextLines;
 use grammar_lines::{next_count, next_letters, next_system, next_triple, next_word};
+use line_source::Lines;
 use obs_rows::{MOST_BUDGET, MOST_RATIO, Signals};
 use rinex_head::At;
 
@@ -26,7 +26,7 @@ pub(crate) struct Head {
 }
 
 // The system, which the first version didn't say.
-fn read_system(lines: &mut TextLines<'_>, version: Version) -> Result<u8, At>
+fn read_system(lines: &mut Lines<'_>, version: Version) -> Result<u8, At>
     ensures reads { (budget : ℕ) → ReadsFree cert_rules lines.old lines.new (behind_budget version budget) (λ s. Base version budget) result }
     ensures took { IfOk result (λ s. lines.old.left ≡ system_lines version s ++ lines.new.left) }
     ensures system { IfOk result IsSystem }
@@ -39,7 +39,7 @@ fn read_system(lines: &mut TextLines<'_>, version: Version) -> Result<u8, At>
 }
 
 /// Reads the head.
-pub(crate) fn read_head(lines: &mut TextLines<'_>, version: Version) -> Result<Head, At>
+pub(crate) fn read_head(lines: &mut Lines<'_>, version: Version) -> Result<Head, At>
     ensures reads { ReadsFree cert_rules lines.old lines.new (Form version) (λ h. ArcCount (frame version h.budget (fine_signals h.signals))) result }
     ensures took { IfOk result (λ h. lines.old.left ≡ head_lines version h.ratio h.budget h.system h.base h.point h.signals ++ lines.new.left) }
     ensures ratio { IfOk result (λ h. (1000 ≤ h.ratio) × (h.ratio ≤ MOST_RATIO)) }

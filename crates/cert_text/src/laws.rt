@@ -2,7 +2,7 @@
 ghost use Rattle.std.specs.Prelude.{◌≡◌, ℕ, List, Err};
 ghost use Rattle.rinex_head.specs.declared.place.At.{At};
 ghost use Rattle.rinex_head.specs.OwnFlaws.{IsOwnFlaw};
-ghost use Rattle.cert_words.specs.TextLines.{ended_lines};
+ghost use Rattle.line_source.specs.EndedLines.{ended_lines};
 ghost use Rattle.cert_data.specs.declared.certs.Cert.{Cert};
 ghost use Rattle.cert_spelling.specs.Spelling.{spelling};
 ghost use Rattle.cert_spelling.specs.Lengths.{IsWhole};

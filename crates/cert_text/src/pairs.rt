@@ -12,8 +12,8 @@ ghost use Rattle.cert_text.specs.Rules.{cert_rules, frame, before_pairs, PairCou
 
 use crate::grammar::CertText;
 use cert_lines::Version;
-use cert_words::TextLines;
 use grammar_lines::{next_count, next_pair_head, read_rows};
+use line_source::Lines;
 use obs_rows::{Arc, MOST_PAIRS, PairRows, Session, SessionBuilder, Signals};
 use rinex_head::TextFault;
 use std::alloc::Global;
@@ -21,7 +21,7 @@ use std::alloc::Global;
 // The next pair, whose number is at least `least`, by how many pairs are to come with it.
 fn next_pair(
     alloc: Global,
-    lines: &mut TextLines<'_>,
+    lines: &mut Lines<'_>,
     version: Version,
     signals: Signals,
     arcs: &[Arc],
@@ -46,7 +46,7 @@ fn next_pair(
 // The pairs, by their number.
 fn read_all_pairs(
     alloc: Global,
-    lines: &mut TextLines<'_>,
+    lines: &mut Lines<'_>,
     version: Version,
     mut session: SessionBuilder,
     count: u32,
@@ -88,7 +88,7 @@ fn read_all_pairs(
 /// Reads the number of pairs, and the pairs of a session that has none yet.
 pub(crate) fn read_pairs(
     alloc: Global,
-    lines: &mut TextLines<'_>,
+    lines: &mut Lines<'_>,
     version: Version,
     session: SessionBuilder,
 ) -> Result<Session, TextFault>

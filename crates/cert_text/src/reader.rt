@@ -16,13 +16,13 @@ use crate::pairs::read_pairs;
 use crate::tail::read_tail;
 use cert_data::Cert;
 use cert_lines::Version;
-use cert_words::TextLines;
+use line_source::Lines;
 use obs_rows::{SessionBuilder, fine_signals, integer_count};
 use rinex_head::{At, TextFault};
 use std::alloc::Global;
 
 // Nothing stands after a tail.
-fn read_end(lines: &mut TextLines<'_>) -> Result<(), At>
+fn read_end(lines: &mut Lines<'_>) -> Result<(), At>
     ensures { MatchResult result
         (λ u. (rest_gives cert_rules lines.old End ≡ Ok tt) × (lines.old.left ≡ []))
         (λ at. rest_gives cert_rules lines.old End ≡ Err at) }
@@ -30,7 +30,7 @@ fn read_end(lines: &mut TextLines<'_>) -> Result<(), At>
     grammar_lines::read_end::<CertText>(lines)
 }
 
-fn read_lines(alloc: Global, version: Version, mut lines: TextLines<'_>) -> Result<Cert, TextFault>
+fn read_lines(alloc: Global, version: Version, mut lines: Lines<'_>) -> Result<Cert, TextFault>
     ensures reads { Gives (rest_gives cert_rules lines.entry (Form version)) (λ c. tt) result }
     ensures took { IfOk result (λ c. lines.entry.left ≡ lines_of_cert version c) }
     ensures whole { IfOk result IsWhole }
@@ -71,7 +71,7 @@ pub fn read_as(alloc: Global, version: Version, text: &[u8]) -> Result<Cert, Tex
     ensures first { IfRefused result (λ at. BeginsBefore (IsCertificateAs version) text.now at.line) }
     ensures exact { Gives (reading_as version text.now) (λ c. tt) result }
 {
-    read_lines(alloc, version, TextLines::new(text))
+    read_lines(alloc, version, Lines::strict(text))
 }
 
 /// The certificate that a text spells, or the first place at which it is none.

@@ -17,14 +17,14 @@ use crate::grammar::CertText;
 use crate::tail_lines::declined_in;
 use cert_data::{Tail, TwoBest};
 use cert_lines::{MOVES, Version, begins};
-use cert_words::{TextLines, next_line};
 use form_tables::MOST_INTEGERS;
 use grammar_lines::{integers_in, next_integers, next_last, next_triple, next_values};
-use rinex_head::At;
+use line_source::Lines;
+use rinex_head::{At, What, next_line};
 
 // A tail with vectors, after its first line.
 fn read_vectors(
-    lines: &mut TextLines<'_>,
+    lines: &mut Lines<'_>,
     count: usize,
     first: [i64; MOST_INTEGERS],
 ) -> Result<Tail, At>
@@ -53,7 +53,7 @@ fn read_vectors(
 
 /// Reads the tail of a certificate, by the number of its integers.
 pub(crate) fn read_tail(
-    lines: &mut TextLines<'_>,
+    lines: &mut Lines<'_>,
     version: Version,
     budget: u64,
     count: usize,
@@ -65,7 +65,7 @@ pub(crate) fn read_tail(
     ensures column { IfOk result (IsColumnOf version) }
     ensures whole { IfOk result IsWholeTail }
 {
-    let line = next_line(lines)?;
+    let line = next_line(lines, What::BadLine)?;
     if begins(b"z1", line.bytes) {
         let first = integers_in(b"z1", count, line.bytes, line.number)?;
         return read_vectors(lines, count, first);

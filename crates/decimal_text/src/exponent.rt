@@ -7,7 +7,8 @@ ghost use Rattle.decimal_text.specs.Fixed.{Ends};
 ghost use Rattle.decimal_text.specs.ExpForm.{IsReadAsDec};
 ghost use Rattle.decimal_text.specs.Exp.{is_mark, behind_mark, ends_blank, only_blanks, power_digits, power_of, dec_from, dec_of, IsMarkAt};
 
-use crate::fixed::{LIMIT, NumberFault, Scan, all_blank, is_blank_byte, scan_text, with_sign};
+use crate::blanks::{all_blank, is_blank_byte};
+use crate::fixed::{LIMIT, NumberFault, Scan, scan_text, with_sign};
 use crate::whole::is_digit_byte;
 
 /// The number mant · 10^exp, where exp is the written exponent less the count of digits after the point.

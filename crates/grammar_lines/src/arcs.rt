@@ -16,14 +16,14 @@ ghost use Rattle.grammar_lines.specs.Parts.{free_by, ArcsAreTaken};
 use crate::Grammar;
 use crate::lines::next_count;
 use cert_lines::{Version, arc_in};
-use cert_words::{TextLines, next_line};
+use line_source::Lines;
 use obs_rows::{Arc, ArcList, Signals};
-use rinex_head::{At, TextFault};
+use rinex_head::{At, TextFault, What, next_line};
 use std::alloc::Global;
 
 // The next arc, by the numbers of free ones before it and of arcs that are to come with it.
 fn next_arc<G: Grammar>(
-    lines: &mut TextLines<'_>,
+    lines: &mut Lines<'_>,
     version: Version,
     signals: Signals,
     free: usize,
@@ -37,7 +37,7 @@ fn next_arc<G: Grammar>(
     ensures stands { IfOk result (λ a. IsTrue (may_stand free left a.datum)) }
     ensures whole { IfOk result IsWholeArc }
 {
-    let line = next_line(lines)?;
+    let line = next_line(lines, What::BadLine)?;
     match arc_in(version, signals, free, left, line.bytes) {
         Ok(arc) => Ok(arc),
         Err(flaw) => Err(flaw.at(line.number)),
@@ -55,7 +55,7 @@ fn free_with(free: usize, datum: bool) -> usize
 // A number of arcs, each on a line of its own.
 fn read_arc_lines<G: Grammar>(
     alloc: Global,
-    lines: &mut TextLines<'_>,
+    lines: &mut Lines<'_>,
     version: Version,
     signals: Signals,
     count: usize,
@@ -85,7 +85,7 @@ fn read_arc_lines<G: Grammar>(
 /// Reads the number of arcs, and the arcs.
 pub fn read_arcs<G: Grammar>(
     alloc: Global,
-    lines: &mut TextLines<'_>,
+    lines: &mut Lines<'_>,
     version: Version,
     signals: Signals,
 ) -> Result<ArcList, TextFault>

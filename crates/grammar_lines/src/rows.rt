@@ -14,14 +14,14 @@ ghost use Rattle.grammar_lines.specs.Parts.{RowsAreTaken};
 
 use crate::Grammar;
 use cert_lines::{PairHead, row_in};
-use cert_words::{TextLines, next_line};
+use line_source::Lines;
 use obs_rows::{Arc, PairBuilder, PairRows, Row, Signals};
-use rinex_head::{At, TextFault};
+use rinex_head::{At, TextFault, What, next_line};
 use std::alloc::Global;
 
 // The next row of the pair of this number, whose arc is at least `least`.
 fn next_row<G: Grammar>(
-    lines: &mut TextLines<'_>,
+    lines: &mut Lines<'_>,
     signals: Signals,
     arcs: &[Arc],
     number: u32,
@@ -36,7 +36,7 @@ fn next_row<G: Grammar>(
     ensures used { IfOk result (λ r. IsZeroOff (fine_signals signals) r.y) }
     ensures whole { IfOk result IsWholeRow }
 {
-    let line = next_line(lines)?;
+    let line = next_line(lines, What::BadLine)?;
     match row_in(signals, arcs, number, least, line.bytes) {
         Ok(row) => Ok(row),
         Err(flaw) => Err(flaw.at(line.number)),
@@ -46,7 +46,7 @@ fn next_row<G: Grammar>(
 /// Reads the rows of a pair.
 pub fn read_rows<G: Grammar>(
     alloc: Global,
-    lines: &mut TextLines<'_>,
+    lines: &mut Lines<'_>,
     signals: Signals,
     arcs: &[Arc],
     head: PairHead,

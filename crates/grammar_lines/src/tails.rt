@@ -14,13 +14,14 @@ ghost use Rattle.grammar_lines.specs.TailParts.{place_in};
 use crate::Grammar;
 use cert_data::{Place, place_named};
 use cert_lines::{ENTRIES, name_in, vector_in};
-use cert_words::{BAD_LINE, TextLines, line_or_end, next_line};
+use cert_words::BAD_LINE;
 use form_tables::MOST_INTEGERS;
-use rinex_head::{At, Flaw};
+use line_source::Lines;
+use rinex_head::{At, Flaw, What, line_or_end, next_line};
 
 /// The integers of a line of a word, and 0 after them.
 pub fn next_integers<G: Grammar>(
-    lines: &mut TextLines<'_>,
+    lines: &mut Lines<'_>,
     word: &[u8],
     count: usize,
 ) -> Result<[i64; MOST_INTEGERS], At>
@@ -30,7 +31,7 @@ pub fn next_integers<G: Grammar>(
     ensures small { IfOk result IsSmall }
     ensures rest { IfOk result (IsZeroFrom count) }
 {
-    let line = next_line(lines)?;
+    let line = next_line(lines, What::BadLine)?;
     integers_in(word, count, line.bytes, line.number)
 }
 
@@ -69,7 +70,7 @@ pub fn place_in(words: &[u8], line: &[u8]) -> Result<Place, Flaw>
 }
 
 /// Nothing stands after the last line.
-pub fn read_end<G: Grammar>(lines: &mut TextLines<'_>) -> Result<(), At>
+pub fn read_end<G: Grammar>(lines: &mut Lines<'_>) -> Result<(), At>
     ensures { (s : G.State) → IsEnd G.rules s → MatchResult result
         (λ u. (rest_gives G.rules lines.old s ≡ Ok tt) × (lines.old.left ≡ []))
         (λ at. rest_gives G.rules lines.old s ≡ Err at) }

@@ -1,23 +1,15 @@
 -- Numbers in the usual spelling.
-use Rattle.std.proofs.Common.{◌≡◌, ℕ, zero, suc, ◌+◌, ◌*◌, ◌^◌, ◌-◌, ◌<◌, ◌≤◌, ◌&&◌, Bool, true, false, true≢false, ◌==◌, List, [], ◌∷◌, ◌++◌, length, take, drop, get_or, Ok, refl, sym, ap, subst, ◌∙◌, arith, append_assoc, inr}
+use Rattle.std.proofs.Common.{◌≡◌, ℕ, zero, suc, ◌+◌, ◌*◌, ◌^◌, ◌-◌, ◌<◌, ◌≤◌, Bool, true, false, ◌==◌, List, [], ◌∷◌, ◌++◌, length, take, drop, get_or, Ok, refl, sym, ap, subst, ◌∙◌, arith, append_assoc, inr}
 use Rattle.std.proofs.Math.Nat.{pow-suc, mul-le-mul_right, pow-le-pow_right, one-le-pow, le-mul_of_pos_right}
 use Rattle.std.proofs.lemmas.List.{append-nil, take-append-drop, drop_more, length-drop}
 use Rattle.std.proofs.Math.Seq.{take-length}
 use Rattle.decimal_text.specs.Whole.{is_digit, are_digits, digit_sum, number_from}
-use Rattle.decimal_text.specs.Fixed.{are_blank, signed, fixed_of}
+use Rattle.decimal_text.specs.Fixed.{are_blank, without_blanks, signed, fixed_of}
 use Rattle.decimal_text.specs.FixedForm.{IsNumber, IsSigned, size_with}
 use Rattle.decimal_text.proofs.Numbers.{number_from-sum, digits_are, number_from-append}
 use Rattle.decimal_text.proofs.FixedReads.{read_only}
 use Rattle.rinex_head.specs.Columns.{padded, columns}
-use Rattle.obs_fields.specs.Amounts.{after_sign, StandsBehindBlanks, AreDigitsOf}
-
-blank_more : (bs : List ℕ) (b : ℕ) → are_blank bs ≡ true → b ≡ 32 → are_blank (bs ++ b ∷ []) ≡ true
-blank_more [] b blank is = rw is refl
-blank_more (c ∷ bs) b blank is = both (c == 32) refl (λ rest. blank_more bs b rest is)
-  where
-    both : (t : Bool) → (c == 32) ≡ t → (are_blank bs ≡ true → are_blank (bs ++ b ∷ []) ≡ true) → ((c == 32) && are_blank (bs ++ b ∷ [])) ≡ true
-    both true first more = rw first (more (rw first at blank))
-    both false first more = absurd (true≢false (sym (rw first at blank)))
+use Rattle.obs_fields.specs.Amounts.{after_sign, AreDigitsOf}
 
 pub tail_is : (first : ℕ) (bs : List ℕ) → take (length bs - first) (drop first bs) ≡ drop first bs
 tail_is first bs = ap (λ n. take n (drop first bs)) (sym (length-drop first bs)) ∙ take-length (drop first bs)
@@ -26,16 +18,19 @@ tail_is first bs = ap (λ n. take n (drop first bs)) (sym (length-drop first bs)
 first_rest : (bs : List ℕ) → 1 ≤ length bs → bs ≡ get_or bs 0 0 ∷ take (length bs - 1) (drop 1 bs)
 first_rest bs some = drop_more bs 0 0 some ∙ ap (λ l. get_or bs 0 0 ∷ l) (sym (tail_is 1 bs))
 
--- one more blank
-pub behind_more : (text rest : List ℕ) → StandsBehindBlanks text rest → 1 ≤ length rest → get_or rest 0 0 ≡ 32 → StandsBehindBlanks text (take (length rest - 1) (drop 1 rest))
-behind_more text rest stands some is =
-    let byte = get_or rest 0 0 in
-    let after = take (length rest - 1) (drop 1 rest) in
-    record {
-      before = stands.before ++ byte ∷ [];
-      text_is = stands.text_is ∙ ap (λ l. stands.before ++ l) (first_rest rest some) ∙ sym (append_assoc stands.before (byte ∷ []) after);
-      blank = blank_more stands.before byte stands.blank is;
-    }
+-- the text is blanks and then this
+pub record StandsAfterBlanks (text rest : List ℕ) : Type 0 where
+  pub before : List ℕ
+  pub text_is : text ≡ before ++ rest
+  pub blank : are_blank before ≡ true
+
+pub without_blanks-after : (text : List ℕ) → StandsAfterBlanks text (without_blanks text)
+without_blanks-after [] = record { before = []; text_is = refl; blank = refl }
+without_blanks-after (b ∷ bs) = by_blank (b == 32) refl (without_blanks-after bs)
+  where
+    by_blank : (t : Bool) → (b == 32) ≡ t → StandsAfterBlanks bs (without_blanks bs) → StandsAfterBlanks (b ∷ bs) (without_blanks (b ∷ bs))
+    by_blank true is after = rw is (record { before = b ∷ after.before; text_is = ap (λ l. b ∷ l) after.text_is; blank = rw is after.blank })
+    by_blank false is after = rw is (record { before = []; text_is = refl; blank = refl })
 
 is_number : (whole part : List ℕ) → are_digits whole ≡ true → are_digits part ≡ true → 1 ≤ length part → IsNumber (whole ++ 46 ∷ part) whole part
 is_number whole part digits digits₂ some = record {
@@ -53,7 +48,7 @@ is_signed true whole part number = (whole ++ 46 ∷ part, refl, number)
 is_signed false whole part number = inr number
 
 -- a number with three places
-pub usual_is : (text front rest whole part : List ℕ) (negative : Bool) (w p : ℕ) → text ≡ front ++ 46 ∷ part → StandsBehindBlanks front rest → rest ≡ after_sign negative whole
+pub usual_is : (text front rest whole part : List ℕ) (negative : Bool) (w p : ℕ) → text ≡ front ++ 46 ∷ part → StandsAfterBlanks front rest → rest ≡ after_sign negative whole
     → AreDigitsOf whole w → AreDigitsOf part p → length part ≡ 3 → w < 10 ^ 10 → p < 10 ^ 10
     → Ok (signed negative (1000 * w + p)) ≡ fixed_of text 3
 usual_is text front rest whole part negative w p is stands sign digits digits₂ three few few₂ = read_only text 3 (Ok (signed negative (1000 * w + p))) (record {

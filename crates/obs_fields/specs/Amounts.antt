@@ -1,13 +1,6 @@
 -- Parts of a number in the usual spelling.
-use Rattle.std.specs.Prelude.{ℕ, ◌≡◌, Bool, true, false, List, ◌∷◌, ◌++◌}
+use Rattle.std.specs.Prelude.{ℕ, ◌≡◌, Bool, true, false, List, ◌∷◌}
 use Rattle.decimal_text.specs.Whole.{are_digits, number_from}
-use Rattle.decimal_text.specs.Fixed.{are_blank}
-
--- the text is blanks and then this
-pub record StandsBehindBlanks (text rest : List ℕ) : Type 0 where
-  pub before : List ℕ
-  pub text_is : text ≡ before ++ rest
-  pub blank : are_blank before ≡ true
 
 -- digits alone, which stand for n
 pub record AreDigitsOf (text : List ℕ) (n : ℕ) : Type 0 where

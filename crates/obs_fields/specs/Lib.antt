@@ -6,3 +6,4 @@ pub mod EpochFields
 pub mod Amounts
 pub mod SatFields
 pub mod HeadParts
+pub mod Events

@@ -1,11 +1,11 @@
 //! Amounts in the usual spelling: blanks, `-` or no sign, digits, and a point with three digits after it. They are read in one pass.
 //! Eight digits of a long one, which nearly all codes and phases are, are read at once.
 ghost use Rattle.std.specs.Prelude.{◌≡◌, ◌<◌, ◌≤◌, ◌^◌, length, IfSome, Ok};
-ghost use Rattle.decimal_text.specs.Fixed.{signed, fixed_of};
-ghost use Rattle.obs_fields.specs.Amounts.{after_sign, StandsBehindBlanks, AreDigitsOf};
+ghost use Rattle.decimal_text.specs.Fixed.{fixed_of};
+ghost use Rattle.obs_fields.specs.Amounts.{after_sign, AreDigitsOf};
 
 use crate::sat_fields::digit;
-use decimal_text::is_digit_byte;
+use decimal_text::{is_digit_byte, with_sign, without_blanks};
 
 // The high half of each byte of a word, eight bytes `0`, and eight bytes 6.
 const HIGHS: u64 = 0xf0f0_f0f0_f0f0_f0f0;
@@ -13,20 +13,6 @@ const HIGHS: u64 = 0xf0f0_f0f0_f0f0_f0f0;
 const ZEROS: u64 = 0x3030_3030_3030_3030;
 
 const SIXES: u64 = 0x0606_0606_0606_0606;
-
-fn without_blanks(text: &[u8]) -> &[u8]
-    ensures behind { StandsBehindBlanks text.now result.now }
-    ensures shorter { length result.now ≤ length text.now }
-{
-    let mut rest = text;
-    while let [b, after @ ..] = rest {
-        if *b != b' ' {
-            return rest;
-        }
-        rest = after;
-    }
-    rest
-}
 
 #[tactic(auto, using(crate::proofs::AmountLaws::room_first, crate::proofs::AmountLaws::room_small))]
 fn digits(text: &[u8]) -> Option<u64>
@@ -54,17 +40,6 @@ fn without_sign(text: &[u8]) -> (bool, &[u8])
     match text {
         [b'-', whole @ ..] => (true, whole),
         _ => (false, text),
-    }
-}
-
-fn with_sign(negative: bool, size: u64) -> i64
-    requires { size < 10 ^ 14 }
-    ensures { result ≡ signed negative size }
-{
-    if negative {
-        -(size as i64)
-    } else {
-        size as i64
     }
 }
 

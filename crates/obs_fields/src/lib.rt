@@ -6,8 +6,8 @@
 //! `BadSat` at a satellite's name, `BadDate` at a date or time that is none, `Types` at a list's count, a name that stands
 //! twice or a line in the place of a further one, `Changed` at a line of an event that changes what the header says.
 //! `satellite` gives nothing for a satellite of another system, `value` nothing for a blank amount or for 0. After an `Err`
-//! of `set_values` no clause says which of the values are set. Only `kept_types` takes memory, and its `Err` means that
-//! there was none.
+//! of `set_values` no clause says which of the values are set. Only `kept_types` and `add_kept` take memory, and
+//! their `Err` means that there was none.
 //!
 //! What the lines of a header give after its first one (`HeaderLine`, specs/HeadParts.antt) is the same in both formats.
 //! proofs/HeaderLaws.antt has its laws, for each reader whose rules are `HeadRules`: lines of the form are taken
@@ -30,5 +30,6 @@ pub use layout::Layout;
 pub use offsets::{delta, position};
 pub use sat_fields::{satellite, set_values, value};
 pub use types::{
-    KeptType, MOST_TYPES, TypeList, TypeNames, first_types, further_types, kept_types, listed_types,
+    KeptType, MOST_TYPES, TypeList, TypeNames, add_kept, first_types, further_types, kept_types,
+    listed_types,
 };

@@ -8,7 +8,7 @@ ghost use Rattle.obs_fields.specs.SatFields.{is_letter, digit_of, number_at, let
 use crate::amounts::usual_amount;
 use crate::{KeptType, Layout};
 use decimal_text::NumberFault;
-use obs_store::{SLOTS, Value};
+use obs_store::{SatValues, Value};
 use rinex_head::{Flaw, System, What, bad_field, byte_in, field, fixed};
 
 fn bad_satellite(column: u32) -> Flaw
@@ -162,14 +162,14 @@ pub fn set_values(
     at: u8,
     line: &[u8],
     kept: &[KeptType],
-    values: &mut [Option<Value>; SLOTS],
+    values: &mut SatValues,
 ) -> Result<(), Flaw>
     ensures ok { OnOk result (values_in layout at kept.now line.now values.old ≡ Ok values.new) }
     ensures err { IfErr result (λ flaw. values_in layout at kept.now line.now values.old ≡ Err flaw) }
 {
     for one in kept {
         match layout.value_column(at, one.number) {
-            Some(column) => values[one.kind.slot()] = value(line, column)?,
+            Some(column) => values.set(one.kind, value(line, column)?),
             None => {}
         }
     }

@@ -7,9 +7,10 @@ ghost use Rattle.obs_fields.specs.Types.{is_listed, names_from, with_line, count
 
 use crate::{Label, Layout, label_of_line};
 use arrayvec::ArrayVec;
+use decimal_text::all_blank;
 use line_source::Line;
 use obs_store::{ObsType, SLOTS};
-use rinex_head::{Flaw, System, What, field, is_blank_line, wide_number};
+use rinex_head::{Flaw, System, What, field, wide_number};
 use std::alloc::{AllocError, Global};
 use std::marker::Model;
 
@@ -187,8 +188,8 @@ fn goes_on(layout: Layout, line: &[u8]) -> bool
     ensures { result ≡ are_blank (further_mark_in layout line.now) }
 {
     match layout {
-        Layout::Rinex2 => is_blank_line(&field::<6>(line, 1)),
-        Layout::Rinex3 => is_blank_line(&field::<1>(line, 1)),
+        Layout::Rinex2 => all_blank(&field::<6>(line, 1)),
+        Layout::Rinex3 => all_blank(&field::<1>(line, 1)),
     }
 }
 
@@ -240,16 +241,15 @@ fn kept_type(system: System, name: &[u8]) -> Option<ObsType>
     }
 }
 
-// Adds the type of this number and name, if it is kept.
-fn add_kept(
+/// Adds the type of this number in its list, if it is kept. After an `Err` no clause says which types there are.
+pub fn add_kept(
     kept: &mut Vec<KeptType>,
-    system: System,
     number: u8,
-    name: &[u8],
+    kind: Option<ObsType>,
 ) -> Result<(), AllocError>
-    ensures { OnOk result (kept.new.items ≡ kept.old.items ++ kept_at number (kept_type_in system name.now)) }
+    ensures { OnOk result (kept.new.items ≡ kept.old.items ++ kept_at number kind) }
 {
-    match kept_type(system, name) {
+    match kind {
         Some(kind) => match kept.push(KeptType { number, kind }) {
             Ok(()) => Ok(()),
             Err(_) => Err(AllocError),
@@ -268,7 +268,7 @@ pub fn kept_types(
 {
     let mut kept: Vec<KeptType> = Vec::new(alloc);
     for (number, name) in names.as_slice().iter().enumerate() {
-        add_kept(&mut kept, system, number as u8, name)?;
+        add_kept(&mut kept, number as u8, kept_type(system, name))?;
     }
     Ok(kept)
 }

@@ -1,5 +1,5 @@
 -- The satellites that stored values are read as.
-use Rattle.std.proofs.Common.{◌≡◌, ◌≢◌, ⊎_elim, ℕ, ℤ, FitsSigned, true≢false, zero, suc, ◌+◌, ◌-◌, ◌<◌, ◌≤◌, ◌==◌, true, false, ◌||◌, List, [], ◌∷◌, ◌++◌, length, take, drop, get_or, refl, sym, ap, ◌∙◌, arith, Option, None, Some, length-append, length-take, find, replicate, slice_get, slice_index, slice_set, append_assoc, add-one}
+use Rattle.std.proofs.Common.{◌≡◌, ◌≢◌, ⊎_elim, ℕ, ℤ, FitsSigned, true≢false, zero, suc, ◌+◌, ◌-◌, ◌<◌, ◌≤◌, ◌==◌, true, false, ◌||◌, List, [], ◌∷◌, ◌++◌, length, take, drop, get_or, refl, sym, ap, ◌∙◌, arith, Option, None, Some, length-append, length-take, find, replicate, slice_get, slice_index, slice_set, add-one}
 use Rattle.std.specs.List.{list_any}
 use Rattle.std.specs.Int.{w64, cast_signed, cast_unsigned, to_le_bytes}
 use Rattle.std.proofs.Math.Facts.{Fits-lt-pow, Fits-of_z}
@@ -10,7 +10,7 @@ use Rattle.std.proofs.lemmas.List.Elements.{All-push}
 use Rattle.std.proofs.lemmas.List.Quantifiers.{all_pairs_push}
 use Rattle.std.proofs.Math.Seq.{take-length, drop-nil}
 use Rattle.std.proofs.lemmas.List.Sums.{sum_by-append, sum_by-cons, sum_by_more, sum_by_more_le}
-use Rattle.std.proofs.lemmas.List.{take-append-le, drop-append-le, append-nil, drop_more, length-drop, length-set, take_more, get_or-set_same, get_or-set_other}
+use Rattle.std.proofs.lemmas.List.{take-append-le, drop-append-le, append-nil, drop_more, length-drop, length-set, take_more, get_or-set_same, get_or-set_other, set-get_or}
 use Rattle.obs_store.specs.declared.values.Value.{Value}
 use Rattle.obs_store.specs.declared.values.SatObs.{SatObs}
 use Rattle.obs_store.specs.declared.stored.StoredSat.{StoredSat}
@@ -261,18 +261,14 @@ all_values k values is = rw is (append-nil (take (length values) values) ∙ tak
 abbrev pub so_many : ℕ → List (Option Value) → List (Option Value)
 so_many k values = first_values k (slot_count - k) values
 
-pub none_stored : (old : List StoredValue) (values : List (Option Value)) → AreStoredBehind old old 0 (so_many 0 values)
+pub none_stored : (values : List (Option Value)) → values_with missing_values [] ≡ so_many 0 values
 unfolding first_values
-none_stored old values = record { added = []; new_are = sym (append-nil old); as_many = refl; values_are = refl }
+none_stored values = refl
 
-pub stored_some : (old now new : List StoredValue) (count k : ℕ) (values : List (Option Value)) (v : StoredValue) (d : Option Value) → AreStoredBehind old now count (so_many k values)
-    → k < slot_count → length values ≡ slot_count → new ≡ now ++ v ∷ [] → slot_of v.kind ≡ k → get_or values k d ≡ Some (value_in v) → AreStoredBehind old new (count + 1) (so_many (k + 1) values)
-stored_some old now new count k values v d stored inside all is slot value = record {
-  added = stored.added ++ v ∷ [];
-  new_are = is ∙ ap (λ l. l ++ v ∷ []) stored.new_are ∙ append_assoc old stored.added (v ∷ []);
-  as_many = omega (arith, length-append stored.added (v ∷ []), stored.as_many);
-  values_are = values_with-append missing_values stored.added (v ∷ []) ∙ ap (λ l. slice_set l (slot_of v.kind) (Some (value_in v))) stored.values_are ∙ one_set;
-}
+pub stored_some : (now new : List StoredValue) (k : ℕ) (values : List (Option Value)) (v : StoredValue) (d : Option Value) → values_with missing_values now ≡ so_many k values
+    → k < slot_count → length values ≡ slot_count → new ≡ now ++ v ∷ [] → slot_of v.kind ≡ k → get_or values k d ≡ Some (value_in v) → values_with missing_values new ≡ so_many (k + 1) values
+stored_some now new k values v d stored inside all is slot value =
+    rw is (values_with-append missing_values now (v ∷ [])) ∙ ap (λ l. slice_set l (slot_of v.kind) (Some (value_in v))) stored ∙ one_set
   where
     before : 26 - k ≡ suc (25 - k)
     before = omega arith
@@ -283,14 +279,10 @@ stored_some old now new count k values v d stored inside all is slot value = rec
     one_set : slice_set (so_many k values) (slot_of v.kind) (Some (value_in v)) ≡ so_many (k + 1) values
     one_set = rw (slot, before, behind, add-one) (first_set k (25 - k) values (Some (value_in v)) d (omega arith) value)
 
-pub stored_none : (old now : List StoredValue) (count k : ℕ) (values : List (Option Value)) (d : Option Value) → AreStoredBehind old now count (so_many k values)
-    → k < slot_count → length values ≡ slot_count → get_or values k d ≡ None → AreStoredBehind old now count (so_many (k + 1) values)
-stored_none old now count k values d stored inside all value = record {
-  added = stored.added;
-  new_are = stored.new_are;
-  as_many = stored.as_many;
-  values_are = stored.values_are ∙ rw (before, behind, add-one) (first_missing k (25 - k) values d (omega arith) value);
-}
+pub stored_none : (now : List StoredValue) (k : ℕ) (values : List (Option Value)) (d : Option Value) → values_with missing_values now ≡ so_many k values
+    → k < slot_count → length values ≡ slot_count → get_or values k d ≡ None → values_with missing_values now ≡ so_many (k + 1) values
+stored_none now k values d stored inside all value =
+    stored ∙ rw (before, behind, add-one) (first_missing k (25 - k) values d (omega arith) value)
   where
     before : 26 - k ≡ suc (25 - k)
     before = omega arith
@@ -298,11 +290,31 @@ stored_none old now count k values d stored inside all value = record {
     behind : 26 - (k + 1) ≡ 25 - k
     behind = omega arith
 
-pub all_stored : (old now : List StoredValue) (count k : ℕ) (values : List (Option Value)) → AreStoredBehind old now count (so_many k values) → k ≡ slot_count
-    → length values ≡ slot_count → AreStoredBehind old now count values
-all_stored old now count k values stored is all = record {
-  added = stored.added;
-  new_are = stored.new_are;
-  as_many = stored.as_many;
-  values_are = stored.values_are ∙ rw is (all_values 26 values (sym all));
-}
+pub all_stored : (now : List StoredValue) (k : ℕ) (values : List (Option Value)) → values_with missing_values now ≡ so_many k values → k ≡ slot_count
+    → length values ≡ slot_count → values_with missing_values now ≡ values
+all_stored now k values stored is all = stored ∙ rw is (all_values 26 values (sym all))
+
+-- one value is set
+
+pub set_some : (now new : List StoredValue) (v : StoredValue) (kind : ObsType) (value : Value) → new ≡ now ++ v ∷ [] → v.kind ≡ kind → value_in v ≡ value
+    → values_with missing_values new ≡ slice_set (values_with missing_values now) (slot_of kind) (Some value)
+set_some now new v kind value is same there =
+    let values : List (Option Value) = values_with missing_values now in
+    rw is (values_with-append missing_values now (v ∷ []))
+    ∙ ap (λ (k : ObsType). slice_set values (slot_of k) (Some (value_in v))) same
+    ∙ ap (λ (x : Value). slice_set values (slot_of kind) (Some x)) there
+
+other_slot : (values : List (Option Value)) (vs : List StoredValue) (slot : ℕ) → list_any (λ v. slot_of v.kind == slot) vs ≡ false
+    → get_or (values_with values vs) slot None ≡ get_or values slot None
+other_slot values [] slot none = refl
+other_slot values (v ∷ vs) slot none =
+    let parts = or_parts _ _ none in
+    let other : slot ≢ slot_of v.kind = λ e. true≢false (sym (eq-eqb (slot_of v.kind) slot (sym e)) ∙ parts.0) in
+    other_slot (slice_set values (slot_of v.kind) (Some (value_in v))) vs slot parts.1 ∙ get_or-set_other values (slot_of v.kind) slot (Some (value_in v)) None other
+
+pub set_none : (now : List StoredValue) (kind : ObsType) → list_any (λ v. slot_of v.kind == slot_of kind) now ≡ false
+    → values_with missing_values now ≡ slice_set (values_with missing_values now) (slot_of kind) None
+set_none now kind none =
+    let values : List (Option Value) = values_with missing_values now in
+    let missing : get_or values (slot_of kind) None ≡ None = other_slot missing_values now (slot_of kind) none ∙ missing_at slot_count (slot_of kind) in
+    sym (ap (λ (x : Option Value). slice_set values (slot_of kind) x) (sym missing) ∙ set-get_or values (slot_of kind) None)

@@ -1,10 +1,14 @@
 -- The epochs of a file.
-use Rattle.std.specs.Prelude.{ℕ, ◌≤◌, List, [], ◌∷◌, map, length, All, None, Some}
+use Rattle.std.specs.Prelude.{ℕ, ◌≤◌, Bool, List, [], ◌∷◌, map, length, All, None, Some}
 use Rattle.std.specs.List.Sorted.{IsStrictlyIncreasing}
 use Rattle.std.specs.declared.option.Option.{Option}
 use Rattle.gps_time.specs.declared.Tick.{Tick}
+use Rattle.obs_store.specs.declared.values.SatObs.{SatObs}
 use Rattle.obs_store.specs.declared.series.Epoch.{Epoch}
 use Rattle.obs_store.specs.Satellites.{AreSatellites}
+
+abbrev pub epoch_of : Tick → Bool → List SatObs → Epoch
+epoch_of tag power sats = record { tag = tag; power = power; sats = sats }
 
 abbrev pub tags_of : List Epoch → List ℕ
 tags_of epochs = map (λ e. e.tag.0) epochs

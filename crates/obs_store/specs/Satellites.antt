@@ -1,7 +1,12 @@
 -- The satellites of an epoch.
 use Rattle.std.specs.Prelude.{◌≢◌, ℕ, ◌≤◌, ◌==◌, Bool, List, All, AllPairs}
+use Rattle.std.specs.declared.option.Option.{Option}
 use Rattle.std.specs.List.{list_any}
+use Rattle.obs_store.specs.declared.values.Value.{Value}
 use Rattle.obs_store.specs.declared.values.SatObs.{SatObs}
+
+abbrev pub satellite_of : ℕ → List (Option Value) → SatObs
+satellite_of number values = record { number = number; values = values }
 
 -- some satellite has that number
 abbrev pub has_satellite : ℕ → List SatObs → Bool

@@ -8,8 +8,9 @@ pub const SLOTS: usize = 26;
 /// The kept observation types, by their names in RINEX 3 (its tables of observation codes).
 ///
 /// `C` is a code in metres, `L` a phase in cycles; the digit is the frequency, the last letter the tracking.
-#[derive(Clone, Copy, Debug, PartialEq, Eq)]
+#[derive(Clone, Copy, Debug, Default, PartialEq, Eq)]
 pub enum ObsType {
+    #[default]
     C1C,
     C1W,
     C1X,

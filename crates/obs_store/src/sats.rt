@@ -3,8 +3,8 @@ ghost use Rattle.std.specs.Prelude.{◌≡◌, ◌≤◌, ◌<◌, ◌==◌, [],
 ghost use Rattle.obs_store.specs.Satellites.{AreSatellites, has_satellite};
 ghost use Rattle.obs_store.specs.Seen.{numbers_of};
 
-use crate::stored::{StoredSat, StoredValue, find_sat, has_number, sat_at, store_values};
-use crate::{SLOTS, SatObs, SatView, Value};
+use crate::stored::{StoredSat, StoredValue, count_of_values, find_sat, has_number, sat_at};
+use crate::{SatObs, SatValues, SatView};
 use std::alloc::{AllocError, Global};
 use std::marker::Model;
 
@@ -66,17 +66,7 @@ impl Satellites {
         self.sats[place].number
     }
 
-    /// The satellite of that number, if it is there.
-    pub fn find(&self, number: u8) -> Option<SatObs>
-        ensures { result ≡ find (λ s. s.number == number) self.now }
-    {
-        match self.view(number) {
-            Some(sat) => Some(sat.whole()),
-            None => None,
-        }
-    }
-
-    /// The same, with its values where they are stored.
+    /// The satellite of that number, if it is there, with its values where they are stored.
     pub fn view(&self, number: u8) -> Option<SatView<'_>>
         ensures { result ≡ find (λ s. s.number == number) self.now }
     {
@@ -99,20 +89,21 @@ impl Satellites {
         ensures added { OnOk result (self.new ≡ self.old ++ sat ∷ []) }
         ensures unchanged { OnErr result (self.new ≡ self.old) }
     {
-        self.add(sat.number, &sat.values)
+        self.add(sat.number, &SatValues::of(&sat.values))
     }
 
-    /// Adds the satellite of this number with these values, which aren't copied as a whole.
-    pub fn add(&mut self, number: u8, values: &[Option<Value>; SLOTS]) -> Result<(), AllocError>
+    /// Adds the satellite of this number with these values.
+    pub fn add(&mut self, number: u8, values: &SatValues) -> Result<(), AllocError>
         requires from_first { 1 ≤ number }
         requires to_last { number ≤ 36 }
         requires once { has_satellite number self.old ≡ false }
         ensures added { OnOk result (self.new ≡ self.old ++ record { number = number; values = values.now } ∷ []) }
         ensures unchanged { OnErr result (self.new ≡ self.old) }
     {
+        let stored = values.as_slice();
+        let count = count_of_values(stored);
         self.sats.reserve(1)?;
-        self.values.reserve(SLOTS)?;
-        let count = store_values(&mut self.values, values);
+        self.values.extend_from_slice(stored)?;
         self.sats.push_reserved(StoredSat { number, count });
         Ok(())
     }

@@ -1,9 +1,9 @@
 //! How the satellites of an epoch are stored: the values that are there, and no others.
-ghost use Rattle.std.specs.Prelude.{◌≡◌, ◌≢◌, ◌+◌, ◌<◌, ◌≤◌, ◌==◌, length, find, slice_get, slice_index_or, Some, None, vec_len, vec_capacity};
+ghost use Rattle.std.specs.Prelude.{◌≡◌, ◌≢◌, ◌<◌, ◌≤◌, ◌==◌, length, find, slice_get, slice_index_or, Some, None};
 ghost use Rattle.std.specs.List.{list_any};
 ghost use Rattle.obs_store.specs.Kinds.{slot_of, slot_count};
 ghost use Rattle.obs_store.specs.Missing.{missing_values};
-ghost use Rattle.obs_store.specs.Stored.{value_in, values_with, satellites_in, count_of, AreStoredBehind};
+ghost use Rattle.obs_store.specs.Stored.{value_in, values_with, satellites_in, count_of};
 
 use crate::{ObsType, SLOTS, SatObs, SatView, Value};
 
@@ -15,7 +15,7 @@ pub struct StoredSat {
 }
 
 /// A value that is there, in ten bytes: an amount of its own type would be aligned, and take sixteen.
-#[derive(Clone, Copy, Debug)]
+#[derive(Clone, Copy, Debug, Default)]
 pub struct StoredValue {
     pub kind: ObsType,
     pub lock: u8,
@@ -23,8 +23,9 @@ pub struct StoredValue {
     pub amount: [u8; 8],
 }
 
+/// A value of this type, as it is stored.
 #[tactic(auto, using(crate::proofs::StoredLaws::amount_stored))]
-fn stored_value(kind: ObsType, value: Value) -> StoredValue
+pub fn stored_value(kind: ObsType, value: Value) -> StoredValue
     ensures kind { result.kind ≡ kind }
     ensures value { value_in result ≡ value }
 {
@@ -35,22 +36,19 @@ fn stored_value(kind: ObsType, value: Value) -> StoredValue
     }
 }
 
-/// Adds the values that are there to the stored ones, where there is room for all, and answers how many.
-pub fn store_values(stored: &mut Vec<StoredValue>, values: &[Option<Value>; SLOTS]) -> u8
-    requires { vec_len stored.old + slot_count ≤ vec_capacity stored.old }
-    ensures { AreStoredBehind stored.old.items stored.new.items result values.now }
+/// Whether one of these values is of that type.
+pub fn has_kind(stored: &[StoredValue], kind: ObsType) -> bool
+    ensures { result ≡ list_any (λ v. slot_of v.kind == slot_of kind) stored.now }
 {
-    let mut count = 0;
-    for slot in 0..SLOTS {
-        match values[slot] {
-            Some(value) => {
-                stored.push_reserved(stored_value(ObsType::ALL[slot], value));
-                count += 1;
-            }
-            None => {}
-        }
-    }
-    count
+    stored.iter().any(|one| one.kind.slot() == kind.slot())
+}
+
+/// How many values a satellite has.
+pub fn count_of_values(stored: &[StoredValue]) -> u8
+    requires { length stored.now ≤ slot_count }
+    ensures { result ≡ length stored.now }
+{
+    stored.len() as u8
 }
 
 // A stored value as it was.

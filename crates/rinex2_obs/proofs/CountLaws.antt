@@ -1,9 +1,10 @@
 -- A count of three columns is at most 999.
 use Rattle.std.proofs.Common.{◌≡◌, ◌≤◌, ◌==◌, ℕ, Bool, true, false, List, [], ◌∷◌, length, Ok, IfOk, refl, arith, unwrap_or}
 use Rattle.decimal_text.specs.Whole.{are_digits, number_from}
+use Rattle.decimal_text.specs.Fixed.{without_blanks}
 use Rattle.decimal_text.proofs.Numbers.{first_digit}
 use Rattle.rinex_head.specs.Columns.{columns}
-use Rattle.rinex_head.specs.Fields.{without_blanks, digits_of}
+use Rattle.rinex_head.specs.Fields.{digits_of}
 use Rattle.rinex_head.specs.Places.{and_then}
 use Rattle.rinex_head.proofs.ColumnLaws.{length-padded}
 use Rattle.obs_fields.specs.declared.layout.Layout.TheVariants.{Rinex2}

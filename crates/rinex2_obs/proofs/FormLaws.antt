@@ -3,6 +3,7 @@ use Rattle.std.proofs.Common.{◌≡◌, ◌+◌, ◌-◌, ℕ, suc, pos, Bool, 
 use Rattle.std.proofs.lemmas.List.{append-nil}
 use Rattle.gps_time.specs.declared.Tick.{Tick}
 use Rattle.obs_store.specs.declared.file.ObsFile.{ObsFile}
+use Rattle.obs_store.specs.Epochs.{epoch_of}
 use Rattle.obs_store.specs.declared.series.Epoch.{Epoch}
 use Rattle.obs_store.specs.declared.values.Value.{Value}
 use Rattle.obs_store.specs.declared.values.SatObs.{SatObs}
@@ -12,15 +13,17 @@ use Rattle.rinex_head.proofs.Walks.{walk-takes, walk-end}
 use Rattle.rinex2_obs.specs.Profile.{kept_of}
 use Rattle.rinex2_obs.specs.Rows.{rows_of}
 use Rattle.rinex2_obs.specs.declared.header.Header.{Header}
-use Rattle.rinex2_obs.specs.Obs2Rules.{First, Head, Body, Skip, so_far, bare_header, whole_header, file_of, epoch_of, more_sats, more_names, more_rows, more_lines, more_slips, with_satellite, admit, obs2_rules}
+use Rattle.rinex2_obs.specs.Obs2Rules.{First, Head, Body, Skip, so_far, bare_header, whole_header, file_of, more_sats, more_names, more_rows, more_lines, more_slips, with_satellite, admit, obs2_rules}
 use Rattle.obs_fields.specs.HeadParts.{head_lines, last_position, last_delta}
+use Rattle.obs_fields.specs.declared.layout.Layout.TheVariants.{Rinex2}
+use Rattle.obs_fields.specs.Events.{AreEventLines}
 use Rattle.obs_fields.proofs.HeaderLaws.{regroup, header_given}
-use Rattle.rinex2_obs.specs.Obs2Form.{IsHeader, SatPart, Part, Blank, Event, Slips, Epoch_, AreFurtherNames, AreRows, AreSats, numbers_of, sat_lines, if_of_gps, satellites_of, AreEventLines, AreMarked, AreShort, epoch_in_part, AreParts, epochs_of, body_lines, IsObs2File}
+use Rattle.rinex2_obs.specs.Obs2Form.{IsHeader, SatPart, Part, Blank, Event, Slips, Epoch_, AreFurtherNames, AreRows, AreSats, numbers_of, sat_lines, if_of_gps, satellites_of, AreMarked, AreShort, epoch_in_part, AreParts, epochs_of, body_lines, IsObs2File}
 use Rattle.rinex2_obs.proofs.Headers.{head_rules}
 use Rattle.rinex2_obs.proofs.Steps.{admit_names, rows_begin, rows_all, admit_rows, admit_slips, admit_skipped, one_satellite}
 
 -- the lines of an event are taken
-lines_taken : (lines more : List (List ℕ)) (h : Header) (epochs : List Epoch) (changes : Bool) (n : ℕ) → AreEventLines changes lines
+lines_taken : (lines more : List (List ℕ)) (h : Header) (epochs : List Epoch) (changes : Bool) (n : ℕ) → AreEventLines Rinex2 changes lines
     → walk obs2_rules (lines ++ more) n (more_lines h epochs changes (length lines)) ≡ walk obs2_rules more (n + length lines) (Body h epochs)
 lines_taken [] more h epochs changes n are = rw add-zero refl
 lines_taken (bytes ∷ lines) more h epochs changes n are =

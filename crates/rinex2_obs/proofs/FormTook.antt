@@ -4,6 +4,7 @@ use Rattle.std.proofs.lemmas.List.{append-nil}
 use Rattle.std.proofs.lemmas.Bool.Decides.{nat_tests}
 use Rattle.gps_time.specs.declared.Tick.{Tick}
 use Rattle.obs_store.specs.declared.file.ObsFile.{ObsFile}
+use Rattle.obs_store.specs.Epochs.{epoch_of}
 use Rattle.obs_store.specs.declared.series.Epoch.{Epoch}
 use Rattle.obs_store.specs.declared.values.Value.{Value}
 use Rattle.obs_store.specs.declared.values.SatObs.{SatObs}
@@ -15,6 +16,7 @@ use Rattle.rinex_head.specs.Places.{and_then, flawed, at_line}
 use Rattle.rinex_head.specs.Walk.{walk}
 use Rattle.rinex_head.proofs.Walks.{walk-end, TookLine, walk-took}
 use Rattle.obs_fields.specs.declared.layout.Layout.TheVariants.{Rinex2}
+use Rattle.obs_fields.specs.Events.{EventPart, AreEventLines}
 use Rattle.obs_fields.specs.Labels.{event_line_of}
 use Rattle.rinex2_obs.specs.FirstLine.{first_line_of}
 use Rattle.rinex2_obs.specs.Profile.{kept_of}
@@ -25,10 +27,10 @@ use Rattle.rinex2_obs.specs.declared.sat_names.NameList.{NameList}
 use Rattle.rinex2_obs.specs.declared.header.Header.{Header}
 use Rattle.rinex2_obs.specs.declared.epoch_lines.EpochLine.{EpochLine}
 use Rattle.rinex2_obs.specs.declared.epoch_lines.EpochLine.TheVariants as line
-use Rattle.rinex2_obs.specs.Obs2Rules.{Expected, First, Head, Body, Names, Row, Further, Skip, so_far, bare_header, whole_header, file_of, epoch_of, more_sats, more_names, more_rows, more_lines, more_slips, after_epoch, with_satellite, obs2_rules}
+use Rattle.rinex2_obs.specs.Obs2Rules.{Expected, First, Head, Body, Names, Row, Further, Skip, so_far, bare_header, whole_header, file_of, more_sats, more_names, more_rows, more_lines, more_slips, after_epoch, with_satellite, obs2_rules}
 use Rattle.obs_fields.specs.HeadParts.{head_lines, last_position, last_delta}
 use Rattle.obs_fields.proofs.HeaderLaws.{regroup, header_took}
-use Rattle.rinex2_obs.specs.Obs2Form.{SatPart, EpochPart, EventPart, SlipsPart, Part, Blank, Event, Slips, Epoch_, AreFurtherNames, AreRows, AreSats, numbers_of, sat_lines, satellites_of, AreEventLines, AreMarked, AreShort, AreParts, epochs_of, body_lines, IsObs2File}
+use Rattle.rinex2_obs.specs.Obs2Form.{SatPart, EpochPart, SlipsPart, Part, Blank, Event, Slips, Epoch_, AreFurtherNames, AreRows, AreSats, numbers_of, sat_lines, satellites_of, AreMarked, AreShort, AreParts, epochs_of, body_lines, IsObs2File}
 use Rattle.rinex2_obs.proofs.Steps.{rows_due, rows_all, one_satellite}
 use Rattle.rinex2_obs.proofs.Headers.{head_rules}
 
@@ -74,7 +76,7 @@ record TookLines (lines : List (List ℕ)) (h : Header) (epochs : List Epoch) (c
   parts : List Part
   lines_are : lines ≡ event_lines ++ body_lines parts
   count : k ≡ length event_lines
-  are : AreEventLines changes event_lines
+  are : AreEventLines Rinex2 changes event_lines
   each : AreParts h.types epochs parts
   whole_is : whole ≡ file_of h (epochs ++ epochs_of parts)
 
@@ -174,7 +176,7 @@ of_more_slips lines took h epochs zero rows n whole gives =
 of_more_slips lines took h epochs (suc k) rows n whole gives = took.slips h epochs k rows n whole gives
 
 -- lines of an event are short
-are_short : (changes : Bool) (lines : List (List ℕ)) → AreEventLines changes lines → AreShort lines
+are_short : (changes : Bool) (lines : List (List ℕ)) → AreEventLines Rinex2 changes lines → AreShort lines
 are_short changes [] are = tt
 are_short changes (bytes ∷ lines) are = (are.0, are_short changes lines are.2)
 

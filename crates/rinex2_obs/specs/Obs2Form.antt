@@ -7,9 +7,11 @@ use Rattle.obs_store.specs.declared.series.Epoch.{Epoch}
 use Rattle.obs_store.specs.declared.values.Value.{Value}
 use Rattle.obs_store.specs.declared.values.SatObs.{SatObs}
 use Rattle.obs_store.specs.Missing.{missing_values}
+use Rattle.obs_store.specs.Satellites.{satellite_of}
+use Rattle.obs_store.specs.Epochs.{epoch_of}
 use Rattle.obs_fields.specs.HeadParts.{HeadPart, AreHeadParts, head_lines, last_position, last_delta, IsTypeList}
 use Rattle.obs_fields.specs.declared.layout.Layout.TheVariants.{Rinex2}
-use Rattle.obs_fields.specs.Labels.{event_line_of}
+use Rattle.obs_fields.specs.Events.{EventPart, IsEventPart}
 use Rattle.obs_fields.specs.declared.types.KeptType.{KeptType}
 use Rattle.rinex2_obs.specs.FirstLine.{first_line_of}
 use Rattle.rinex2_obs.specs.HeaderLines.{header_line_of}
@@ -17,7 +19,7 @@ use Rattle.rinex2_obs.specs.Profile.{kept_of}
 use Rattle.rinex2_obs.specs.SatNames.{further_mark_of, further_names_of}
 use Rattle.rinex2_obs.specs.EpochLines.{epoch_line_of}
 use Rattle.rinex2_obs.specs.Rows.{rows_of, further_lines_of, row_of}
-use Rattle.rinex2_obs.specs.Obs2Rules.{file_of, epoch_of, satellite_of}
+use Rattle.rinex2_obs.specs.Obs2Rules.{file_of}
 use Rattle.rinex2_obs.specs.declared.sat_names.NameList.{NameList}
 use Rattle.rinex2_obs.specs.declared.header.Header.{Header}
 use Rattle.obs_fields.specs.declared.header_line.HeaderLine.TheVariants as header
@@ -60,12 +62,6 @@ pub record EpochPart : Type 0 where
   pub list : NameList
   pub further : List (List ℕ)
   pub sats : List SatPart
-
--- an event's line, and its lines
-pub record EventPart : Type 0 where
-  pub bytes : List ℕ
-  pub changes : Bool
-  pub event_lines : List (List ℕ)
 
 -- the line of the cycle slips with the number of its satellites, the further lines of their names, and their own lines
 pub record SlipsPart : Type 0 where
@@ -123,14 +119,9 @@ pub record IsEpochPart (types : List (List ℕ)) (epochs : List Epoch) (p : Epoc
   pub names : AreFurtherNames p.further p.list.names p.list.left (numbers_of p.sats)
   pub sats : AreSats types p.sats
 
-abbrev pub AreEventLines : Bool → List (List ℕ) → Type 0
-AreEventLines changes [] = Unit {0}
-AreEventLines changes (bytes ∷ lines) = (length bytes ≤ 4096) × (event_line_of Rinex2 changes bytes ≡ Ok tt) × AreEventLines changes lines
-
-pub record IsEventPart (epochs : List Epoch) (p : EventPart) : Type 0 where
-  pub short : length p.bytes ≤ 4096
-  pub says : epoch_line_of epochs p.bytes ≡ Ok (line.Event p.changes (length p.event_lines))
-  pub lines : AreEventLines p.changes p.event_lines
+-- what the line of an event says
+abbrev pub SaysEvent : List Epoch → List ℕ → Bool → ℕ → Type 0
+SaysEvent epochs bytes changes count = epoch_line_of epochs bytes ≡ Ok (line.Event changes count)
 
 -- lines of names that aren't read
 abbrev pub AreMarked : List (List ℕ) → Type 0
@@ -156,7 +147,7 @@ epoch_in_part p = epoch_of p.tag p.power (satellites_of p.sats)
 abbrev pub AreParts : List (List ℕ) → List Epoch → List Part → Type 0
 AreParts types epochs [] = Unit {0}
 AreParts types epochs (Blank bytes ∷ parts) = (length bytes ≤ 4096) × (epoch_line_of epochs bytes ≡ Ok line.Blank) × AreParts types epochs parts
-AreParts types epochs (Event p ∷ parts) = IsEventPart epochs p × AreParts types epochs parts
+AreParts types epochs (Event p ∷ parts) = IsEventPart Rinex2 (SaysEvent epochs) p × AreParts types epochs parts
 AreParts types epochs (Slips p ∷ parts) = IsSlipsPart types epochs p × AreParts types epochs parts
 AreParts types epochs (Epoch_ p ∷ parts) = IsEpochPart types epochs p × AreParts types (epochs ++ epoch_in_part p ∷ []) parts
 

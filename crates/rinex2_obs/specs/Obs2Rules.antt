@@ -7,6 +7,8 @@ use Rattle.obs_store.specs.declared.series.Epoch.{Epoch}
 use Rattle.obs_store.specs.declared.values.Value.{Value}
 use Rattle.obs_store.specs.declared.values.SatObs.{SatObs}
 use Rattle.obs_store.specs.Missing.{missing_values}
+use Rattle.obs_store.specs.Satellites.{satellite_of}
+use Rattle.obs_store.specs.Epochs.{epoch_of}
 use Rattle.rinex_head.specs.declared.place.At.{At}
 use Rattle.rinex_head.specs.declared.place.Flaw.{Flaw}
 use Rattle.rinex_head.specs.declared.place.What.TheVariants.{ObsVersion, NoEnd, Types, Truncated}
@@ -56,12 +58,6 @@ whole_header h types = record { hundredths = h.hundredths; position = h.position
 -- the file of a header and its epochs
 abbrev pub file_of : Header → List Epoch → ObsFile
 file_of h epochs = record { hundredths = h.hundredths; position = h.position; delta = h.delta; listed = listed_of (kept_of h.types); epochs = epochs }
-
-abbrev pub epoch_of : Tick → Bool → List SatObs → Epoch
-epoch_of tag power sats = record { tag = tag; power = power; sats = sats }
-
-abbrev pub satellite_of : ℕ → List (Option Value) → SatObs
-satellite_of number values = record { number = number; values = values }
 
 -- What may be expected: the first line; a line of the header; further types, in a further line of the list, by their number; an
 -- epoch or an event after these epochs; further names of an epoch's satellites, in a further line of names;

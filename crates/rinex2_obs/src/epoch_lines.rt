@@ -7,12 +7,11 @@ ghost use Rattle.rinex2_obs.specs.EpochTag.{IfEpoch, IsNoEpoch};
 ghost use Rattle.rinex2_obs.specs.EpochLines.{year_of, tag_in, event_in, slips_in, epoch_in, by_flag, epoch_line_of};
 
 use crate::sat_names::{NameList, first_names};
+use decimal_text::all_blank;
 use gps_time::Tick;
 use obs_fields::{Layout, comes_later, count, moment};
 use obs_store::Epochs;
-use rinex_head::{
-    Flaw, What, bad_field, byte_in, field, fixed_number, flaw, is_blank_line, two_digits,
-};
+use rinex_head::{Flaw, What, bad_field, byte_in, field, fixed_number, flaw, two_digits};
 
 /// What stands where an epoch's line is expected.
 #[derive(Drop)]
@@ -136,7 +135,7 @@ pub fn epoch_line(line: &[u8], epochs: &Epochs) -> Result<EpochLine, Flaw>
     ensures later { IfOk result (λ l. IfEpoch l (λ tag list. IfSome (last_tag_of epochs.now) (λ last. last.0 < tag.0))) }
     ensures names { IfOk result (λ l. IfEpoch l (λ tag list. length list.names + list.left ≤ 999)) }
 {
-    if is_blank_line(line) {
+    if all_blank(line) {
         return Ok(EpochLine::Blank);
     }
     if byte_in(line, 1) != b' ' {

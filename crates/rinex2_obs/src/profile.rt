@@ -1,9 +1,8 @@
 //! The types that are kept of a list of RINEX 2, and as which ones.
-ghost use Rattle.std.specs.Prelude.{◌≡◌, ◌++◌, IfOk, OnOk};
-ghost use Rattle.obs_fields.specs.Types.{kept_at};
+ghost use Rattle.std.specs.Prelude.{◌≡◌, IfOk};
 ghost use Rattle.rinex2_obs.specs.Profile.{kept_type_in, kept_of, is_among, listed_of};
 
-use obs_fields::{KeptType, TypeNames};
+use obs_fields::{KeptType, TypeNames, add_kept};
 use obs_store::{ObsType, SLOTS};
 use std::alloc::{AllocError, Global};
 
@@ -31,26 +30,13 @@ fn kept_type(name: &[u8]) -> Option<ObsType>
     None
 }
 
-// Adds the type of this number and name, if it is kept.
-fn add_kept(kept: &mut Vec<KeptType>, number: u8, name: &[u8]) -> Result<(), AllocError>
-    ensures { OnOk result (kept.new.items ≡ kept.old.items ++ kept_at number (kept_type_in name.now)) }
-{
-    match kept_type(name) {
-        Some(kind) => match kept.push(KeptType { number, kind }) {
-            Ok(()) => Ok(()),
-            Err(_) => Err(AllocError),
-        },
-        None => Ok(()),
-    }
-}
-
 /// The kept types of a list, each with its number in the list.
 pub fn kept_types(alloc: Global, names: &TypeNames) -> Result<Vec<KeptType>, AllocError>
     ensures { IfOk result (λ kept. kept.items ≡ kept_of names.now) }
 {
     let mut kept: Vec<KeptType> = Vec::new(alloc);
     for (number, name) in names.as_slice().iter().enumerate() {
-        add_kept(&mut kept, number as u8, name)?;
+        add_kept(&mut kept, number as u8, kept_type(name))?;
     }
     Ok(kept)
 }

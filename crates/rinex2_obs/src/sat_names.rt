@@ -4,8 +4,9 @@ ghost use Rattle.rinex2_obs.specs.SatNumbers.{FitsBehind};
 ghost use Rattle.rinex2_obs.specs.SatNames.{name_in, names_from, with_line, first_names_of, further_mark_of, further_names_of};
 
 use crate::sat_numbers::SatNames;
+use decimal_text::all_blank;
 use obs_fields::satellite;
-use rinex_head::{Flaw, System, What, bad_field, field, flaw, is_blank_line};
+use rinex_head::{Flaw, System, What, bad_field, field, flaw};
 
 // how many names a line has room for
 const NAMES_IN_LINE: u16 = 12;
@@ -83,7 +84,7 @@ pub fn first_names(line: &[u8], count: u16) -> Result<NameList, Flaw>
 pub fn further_mark(line: &[u8]) -> Result<(), Flaw>
     ensures { result ≡ further_mark_of line.now }
 {
-    if !is_blank_line(&field::<32>(line, 1)) {
+    if !all_blank(&field::<32>(line, 1)) {
         return Err(bad_field(1));
     }
     Ok(())

@@ -1,22 +1,23 @@
 //! An epoch: the further lines of its satellites' names, and their own lines (RINEX 2.11, observation record).
-ghost use Rattle.std.specs.Prelude.{◌≡◌, ◌≤◌, ◌+◌, List, ℕ, [], ◌∷◌, ◌++◌, Bool, None, Some, length, IfOk, OnOk};
+ghost use Rattle.std.specs.Prelude.{◌≡◌, ◌≤◌, ◌+◌, List, ℕ, [], ◌∷◌, ◌++◌, Bool, None, Some, length, OnOk};
 ghost use Rattle.std.specs.declared.option.Option.{Option};
 ghost use Rattle.gps_time.specs.declared.Tick.{Tick};
 ghost use Rattle.obs_store.specs.declared.series.Epoch.{Epoch};
 ghost use Rattle.obs_store.specs.declared.values.SatObs.{SatObs};
 ghost use Rattle.obs_store.specs.Missing.{missing_values};
+ghost use Rattle.obs_store.specs.Epochs.{epoch_of};
 ghost use Rattle.rinex_head.specs.Walk.{Reads, ReadsFree};
 ghost use Rattle.rinex2_obs.specs.Profile.{kept_of};
 ghost use Rattle.rinex2_obs.specs.SatNumbers.{AreNames, AreNew, IsWith};
 ghost use Rattle.rinex2_obs.specs.declared.header.Header.{Header};
-ghost use Rattle.rinex2_obs.specs.Obs2Rules.{Body, epoch_of, more_names, more_sats, obs2_rules};
+ghost use Rattle.rinex2_obs.specs.Obs2Rules.{Body, more_names, more_sats, obs2_rules};
 
 use crate::header::Header;
 use crate::sat_names::{NameList, further_names};
 use crate::sat_numbers::SatNames;
 use line_source::Lines;
 use obs_fields::{KeptType, Layout, set_values};
-use obs_store::{SLOTS, Satellites, Value};
+use obs_store::{SatValues, Satellites};
 use rinex_head::{At, TextFault, What, next_line};
 use std::alloc::Global;
 
@@ -42,7 +43,7 @@ fn read_rows(
     lines: &mut Lines<'_>,
     header: &Header,
     kept: &[KeptType],
-    values: &mut [Option<Value>; SLOTS],
+    values: &mut SatValues,
 ) -> Result<(), At>
     requires kept { kept.now ≡ kept_of header.now.types }
     requires missing { values.old ≡ missing_values }
@@ -86,7 +87,7 @@ fn read_satellite(
 {
     match name {
         Some(number) => {
-            let mut values = [None; SLOTS];
+            let mut values = SatValues::missing();
             match read_rows(lines, header, kept, &mut values) {
                 Ok(()) => {}
                 Err(at) => return Err(TextFault::Refused(at)),

@@ -1,8 +1,8 @@
 -- Numbers in the fields of a line.
-use Rattle.std.specs.Prelude.{ℕ, ℤ, ◌==◌, if◌then◌else◌, List, [], ◌∷◌, Result, Ok, Err, None, Some}
+use Rattle.std.specs.Prelude.{ℕ, ℤ, if◌then◌else◌, List, [], ◌∷◌, Result, Ok, Err, None, Some}
 use Rattle.std.specs.declared.option.Option.{Option}
 use Rattle.decimal_text.specs.Whole.{are_digits, number_from}
-use Rattle.decimal_text.specs.Fixed.{fixed_of}
+use Rattle.decimal_text.specs.Fixed.{without_blanks, fixed_of}
 use Rattle.decimal_text.specs.Exp.{dec_of}
 use Rattle.decimal_text.specs.declared.exponent.Dec.{Dec}
 use Rattle.decimal_text.specs.declared.fixed.NumberFault.{NumberFault}
@@ -10,10 +10,6 @@ use Rattle.rinex_head.specs.declared.place.Flaw.{Flaw}
 use Rattle.rinex_head.specs.declared.place.What.TheVariants.{BadField}
 use Rattle.rinex_head.specs.Columns.{columns}
 use Rattle.rinex_head.specs.Places.{and_then, flawed}
-
-abbrev pub without_blanks : List ℕ → List ℕ
-without_blanks [] = []
-without_blanks (b ∷ bs) = if b == 32 then without_blanks bs else b ∷ bs
 
 -- A whole number in a field that begins at a column: digits after blanks in place of zeros, or blanks alone.
 abbrev pub digits_of : ℕ → List ℕ → Result (Option ℕ) Flaw

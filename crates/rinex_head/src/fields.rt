@@ -1,28 +1,14 @@
 //! Numbers in the fields of a line.
 ghost use Rattle.std.specs.Prelude.{◌≡◌, ◌+◌, ◌<◌, ◌≤◌, length, IfOk, IfSome, true};
 ghost use Rattle.decimal_text.specs.Whole.{are_digits, number_from};
-ghost use Rattle.decimal_text.specs.Fixed.{fixed_of, are_blank};
+ghost use Rattle.decimal_text.specs.Fixed.{fixed_of};
 ghost use Rattle.decimal_text.specs.Exp.{dec_of};
 ghost use Rattle.rinex_head.specs.Columns.{column, columns};
-ghost use Rattle.rinex_head.specs.Fields.{without_blanks, whole_of, filled_of, readable};
+ghost use Rattle.rinex_head.specs.Fields.{whole_of, filled_of, readable};
 
 use crate::columns::field;
 use crate::place::{Flaw, What};
-use decimal_text::{Dec, all_digits, read_exp, read_fixed};
-
-fn skip_blanks(text: &[u8]) -> &[u8]
-    ensures value { result.now ≡ without_blanks text.now }
-    ensures shorter { length result.now ≤ length text.now }
-{
-    let mut rest = text;
-    while let [b, after @ ..] = rest {
-        if *b != b' ' {
-            return rest;
-        }
-        rest = after;
-    }
-    rest
-}
+use decimal_text::{Dec, all_digits, read_exp, read_fixed, without_blanks};
 
 fn number_of(digits: &[u8]) -> u32
     requires few { length digits.now ≤ 6 }
@@ -48,7 +34,7 @@ pub fn wide_number(field: &[u8], first: u32) -> Result<Option<u32>, Flaw>
     ensures of_four { length field.now ≤ 4 → IfOk result (λ found. IfSome found (λ n. n ≤ 9999)) }
     ensures of_two { length field.now ≤ 2 → IfOk result (λ found. IfSome found (λ n. n ≤ 99)) }
 {
-    let digits = skip_blanks(field);
+    let digits = without_blanks(field);
     if digits.is_empty() {
         return Ok(None);
     }
@@ -115,20 +101,6 @@ pub fn exponent_number(field: &[u8], first: u32) -> Result<Dec, Flaw>
         Ok(number) => Ok(number),
         Err(_) => Err(bad_field(first)),
     }
-}
-
-/// Whether each byte is blank.
-pub fn is_blank_line(line: &[u8]) -> bool
-    ensures { result ≡ are_blank line.now }
-{
-    let mut rest = line;
-    while let [b, after @ ..] = rest {
-        if *b != b' ' {
-            return false;
-        }
-        rest = after;
-    }
-    true
 }
 
 /// What is wrong, from that column on.

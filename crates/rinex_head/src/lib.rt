@@ -40,8 +40,8 @@ mod walk;
 pub use columns::{byte_in, field};
 pub use decimal_text::read_fixed as fixed;
 pub use fields::{
-    bad_field, exponent_number, filled_number, fixed_number, flaw, is_blank_line, two_digits,
-    whole_number, wide_number,
+    bad_field, exponent_number, filled_number, fixed_number, flaw, two_digits, whole_number,
+    wide_number,
 };
 pub use head::{FIRST_LABEL, HeadLine, Version, head_line, version_of};
 pub use laws::text_lines_law;

@@ -2,11 +2,11 @@
 ghost use Rattle.std.specs.Prelude.{◌≡◌, ◌≤◌, Ok};
 ghost use Rattle.rinex_nav.specs.RecordLines.{number_in, satellite_in, moment_of, toc_in, start_in, record_line_of, body_line_of, number_if, quad_in, continuation_of};
 
-use decimal_text::Dec;
+use decimal_text::{Dec, all_blank};
 use gps_time::{Tick, tick_of};
 use rinex_head::{
     Flaw, System, What, bad_field, byte_in, exponent_number, field, filled_number, flaw,
-    is_blank_line, two_digits, whole_number,
+    two_digits, whole_number,
 };
 
 /// How many records a file may have.
@@ -130,7 +130,7 @@ pub fn body_line(
 {
     let letter = byte_in(line, 1);
     if letter == b' ' {
-        if skipping || is_blank_line(line) {
+        if skipping || all_blank(line) {
             return Ok(BodyLine::Passed);
         }
         return Err(bad_field(1));

@@ -2,6 +2,7 @@
 use Rattle.std.proofs.Common.{◌≡◌, ◌<◌, ◌-◌, ℕ, zero, suc, Bool, List, [], ◌∷◌, ◌++◌, Option, Result, Ok, Err, OnOk, refl, arith}
 use Rattle.gps_time.specs.declared.Tick.{Tick}
 use Rattle.obs_store.specs.declared.series.Epoch.{Epoch}
+use Rattle.obs_store.specs.Epochs.{epoch_of}
 use Rattle.obs_store.specs.declared.values.SatObs.{SatObs}
 use Rattle.rinex_head.specs.declared.place.Flaw.{Flaw}
 use Rattle.rinex_head.specs.declared.place.TextFault.{TextFault}
@@ -10,7 +11,7 @@ use Rattle.rinex_head.specs.Places.{and_then, place}
 use Rattle.obs_fields.specs.Types.{kept_from}
 use Rattle.rinex_obs.specs.declared.header.Header.{Header}
 use Rattle.rinex_obs.specs.SatLines.{satellite_line_of}
-use Rattle.rinex_obs.specs.ObsRules.{HeaderSoFar, Expected, Head, More, Body, Sats, Skip, with_types, more_types, more_sats, more_lines, epoch_of, with_satellite, sats_with, admit}
+use Rattle.rinex_obs.specs.ObsRules.{HeaderSoFar, Expected, Head, More, Body, Sats, Skip, with_types, more_types, more_sats, more_lines, with_satellite, sats_with, admit}
 use Rattle.rinex_obs.specs.Feeding.{Takes}
 
 pub types_due : (h : HeaderSoFar) (names : List (List ℕ)) (n : ℕ) → 0 < n → more_types h names n ≡ More h names n

@@ -3,22 +3,25 @@ use Rattle.std.proofs.Common.{◌≡◌, ◌+◌, ◌-◌, ℕ, suc, pos, Bool, 
 use Rattle.std.proofs.lemmas.List.{append-nil}
 use Rattle.gps_time.specs.declared.Tick.{Tick}
 use Rattle.obs_store.specs.declared.file.ObsFile.{ObsFile}
+use Rattle.obs_store.specs.Epochs.{epoch_of}
 use Rattle.obs_store.specs.declared.series.Epoch.{Epoch}
 use Rattle.obs_store.specs.declared.values.SatObs.{SatObs}
 use Rattle.rinex_head.specs.declared.system.System.{System}
 use Rattle.rinex_head.specs.Walk.{walk}
 use Rattle.rinex_head.proofs.Walks.{walk-takes, walk-end}
 use Rattle.obs_fields.specs.Types.{kept_from}
+use Rattle.obs_fields.specs.declared.layout.Layout.TheVariants.{Rinex3}
+use Rattle.obs_fields.specs.Events.{AreEventLines}
 use Rattle.rinex_obs.specs.declared.header.Header.{Header}
-use Rattle.rinex_obs.specs.ObsRules.{First, Head, Body, Sats, Skip, so_far, bare_header, whole_header, file_of, epoch_of, more_sats, more_lines, admit, obs_rules}
+use Rattle.rinex_obs.specs.ObsRules.{First, Head, Body, Sats, Skip, so_far, bare_header, whole_header, file_of, more_sats, more_lines, admit, obs_rules}
 use Rattle.obs_fields.specs.HeadParts.{head_lines, last_position, last_delta}
 use Rattle.obs_fields.proofs.HeaderLaws.{regroup, header_given}
-use Rattle.rinex_obs.specs.ObsForm.{IsHeader, Part, Blank, Event, Epoch_, satellites_of, AreSatLines, AreEventLines, epoch_in_part, AreParts, epochs_of, body_lines, IsObsFile}
+use Rattle.rinex_obs.specs.ObsForm.{IsHeader, Part, Blank, Event, Epoch_, satellites_of, AreSatLines, epoch_in_part, AreParts, epochs_of, body_lines, IsObsFile}
 use Rattle.rinex_obs.proofs.Headers.{head_rules}
 
 module _ (system : System) where
   -- the lines of an event are taken
-  lines_taken : (lines more : List (List ℕ)) (h : Header) (epochs : List Epoch) (changes : Bool) (n : ℕ) → AreEventLines changes lines
+  lines_taken : (lines more : List (List ℕ)) (h : Header) (epochs : List Epoch) (changes : Bool) (n : ℕ) → AreEventLines Rinex3 changes lines
       → walk (obs_rules system) (lines ++ more) n (more_lines h epochs changes (length lines)) ≡ walk (obs_rules system) more (n + length lines) (Body h epochs)
   lines_taken [] more h epochs changes n are = rw add-zero refl
   lines_taken (bytes ∷ lines) more h epochs changes n are =

@@ -3,6 +3,7 @@ use Rattle.std.proofs.Common.{◌≡◌, ◌+◌, ◌-◌, ℕ, zero, suc, pos, 
 use Rattle.std.proofs.lemmas.List.{append-nil}
 use Rattle.gps_time.specs.declared.Tick.{Tick}
 use Rattle.obs_store.specs.declared.file.ObsFile.{ObsFile}
+use Rattle.obs_store.specs.Epochs.{epoch_of}
 use Rattle.obs_store.specs.declared.series.Epoch.{Epoch}
 use Rattle.obs_store.specs.declared.values.SatObs.{SatObs}
 use Rattle.rinex_head.specs.declared.place.What.{What}
@@ -15,6 +16,7 @@ use Rattle.rinex_head.specs.Walk.{walk}
 use Rattle.rinex_head.proofs.Walks.{walk-end, TookLine, walk-took}
 use Rattle.rinex_obs.specs.FirstLine.{first_line_of}
 use Rattle.obs_fields.specs.Types.{kept_from}
+use Rattle.obs_fields.specs.Events.{EventPart, AreEventLines}
 use Rattle.obs_fields.specs.declared.layout.Layout.TheVariants.{Rinex3}
 use Rattle.obs_fields.specs.Labels.{event_line_of}
 use Rattle.rinex_obs.specs.EpochLines.{epoch_line_of}
@@ -22,10 +24,10 @@ use Rattle.rinex_obs.specs.SatLines.{satellite_line_of}
 use Rattle.rinex_obs.specs.declared.header.Header.{Header}
 use Rattle.rinex_obs.specs.declared.epoch_lines.EpochLine.{EpochLine}
 use Rattle.rinex_obs.specs.declared.epoch_lines.EpochLine.TheVariants as line
-use Rattle.rinex_obs.specs.ObsRules.{Expected, First, Head, Body, Sats, Skip, so_far, bare_header, whole_header, file_of, epoch_of, more_sats, more_lines, after_epoch, with_satellite, obs_rules}
+use Rattle.rinex_obs.specs.ObsRules.{Expected, First, Head, Body, Sats, Skip, so_far, bare_header, whole_header, file_of, more_sats, more_lines, after_epoch, with_satellite, obs_rules}
 use Rattle.obs_fields.specs.HeadParts.{head_lines, last_position, last_delta}
 use Rattle.obs_fields.proofs.HeaderLaws.{regroup, header_took}
-use Rattle.rinex_obs.specs.ObsForm.{EpochPart, EventPart, Part, Blank, Event, Epoch_, satellites_of, AreSatLines, AreEventLines, AreParts, epochs_of, body_lines, IsObsFile}
+use Rattle.rinex_obs.specs.ObsForm.{EpochPart, Part, Blank, Event, Epoch_, satellites_of, AreSatLines, AreParts, epochs_of, body_lines, IsObsFile}
 use Rattle.rinex_obs.proofs.Headers.{head_rules}
 
 module _ (system : System) where
@@ -52,7 +54,7 @@ module _ (system : System) where
     parts : List Part
     lines_are : lines ≡ event_lines ++ body_lines parts
     count : k ≡ length event_lines
-    are : AreEventLines changes event_lines
+    are : AreEventLines Rinex3 changes event_lines
     each : AreParts h.system (kept_from h.system 0 h.types) epochs parts
     whole_is : whole ≡ file_of h (epochs ++ epochs_of parts)
 

@@ -5,16 +5,17 @@ use Rattle.gps_time.specs.declared.Tick.{Tick}
 use Rattle.obs_store.specs.declared.file.ObsFile.{ObsFile}
 use Rattle.obs_store.specs.declared.series.Epoch.{Epoch}
 use Rattle.obs_store.specs.declared.values.SatObs.{SatObs}
+use Rattle.obs_store.specs.Epochs.{epoch_of}
 use Rattle.rinex_obs.specs.FirstLine.{first_line_of}
 use Rattle.rinex_obs.specs.HeaderLines.{header_line_of}
 use Rattle.obs_fields.specs.HeadParts.{HeadPart, AreHeadParts, head_lines, last_position, last_delta, IsTypeList}
 use Rattle.obs_fields.specs.Types.{kept_from}
 use Rattle.rinex_head.specs.declared.system.System.{System}
 use Rattle.obs_fields.specs.declared.layout.Layout.TheVariants.{Rinex3}
-use Rattle.obs_fields.specs.Labels.{event_line_of}
+use Rattle.obs_fields.specs.Events.{EventPart, IsEventPart}
 use Rattle.rinex_obs.specs.EpochLines.{epoch_line_of}
 use Rattle.rinex_obs.specs.SatLines.{satellite_line_of}
-use Rattle.rinex_obs.specs.ObsRules.{file_of, epoch_of}
+use Rattle.rinex_obs.specs.ObsRules.{file_of}
 use Rattle.obs_fields.specs.declared.types.KeptType.{KeptType}
 use Rattle.rinex_obs.specs.declared.header.Header.{Header}
 use Rattle.obs_fields.specs.declared.header_line.HeaderLine.TheVariants as header
@@ -51,12 +52,6 @@ pub record EpochPart : Type 0 where
   pub sat_lines : List (List ℕ)
   pub found : List (Option SatObs)
 
--- an event's line, and its lines
-pub record EventPart : Type 0 where
-  pub bytes : List ℕ
-  pub changes : Bool
-  pub event_lines : List (List ℕ)
-
 pub data Part : Type 0 where
   Blank : List ℕ → Part
   Event : EventPart → Part
@@ -78,20 +73,15 @@ AreSatLines system kept before (bytes ∷ lines) (None ∷ found) =
 AreSatLines system kept before (bytes ∷ lines) (Some s ∷ found) =
     (length bytes ≤ 4096) × (satellite_line_of system kept before bytes ≡ Ok (Some s)) × AreSatLines system kept (before ++ s ∷ []) lines found
 
-abbrev pub AreEventLines : Bool → List (List ℕ) → Type 0
-AreEventLines changes [] = Unit {0}
-AreEventLines changes (bytes ∷ lines) = (length bytes ≤ 4096) × (event_line_of Rinex3 changes bytes ≡ Ok tt) × AreEventLines changes lines
-
 -- after these epochs
 pub record IsEpochPart (system : System) (kept : List KeptType) (epochs : List Epoch) (p : EpochPart) : Type 0 where
   pub short : length p.bytes ≤ 4096
   pub says : epoch_line_of epochs p.bytes ≡ Ok (line.Epoch p.tag p.power (length p.sat_lines))
   pub sats : AreSatLines system kept [] p.sat_lines p.found
 
-pub record IsEventPart (epochs : List Epoch) (p : EventPart) : Type 0 where
-  pub short : length p.bytes ≤ 4096
-  pub says : epoch_line_of epochs p.bytes ≡ Ok (line.Event p.changes (length p.event_lines))
-  pub lines : AreEventLines p.changes p.event_lines
+-- what the line of an event says
+abbrev pub SaysEvent : List Epoch → List ℕ → Bool → ℕ → Type 0
+SaysEvent epochs bytes changes count = epoch_line_of epochs bytes ≡ Ok (line.Event changes count)
 
 abbrev pub epoch_in_part : EpochPart → Epoch
 epoch_in_part p = epoch_of p.tag p.power (satellites_of p.found)
@@ -100,7 +90,7 @@ epoch_in_part p = epoch_of p.tag p.power (satellites_of p.found)
 abbrev pub AreParts : System → List KeptType → List Epoch → List Part → Type 0
 AreParts system kept epochs [] = Unit {0}
 AreParts system kept epochs (Blank bytes ∷ parts) = (length bytes ≤ 4096) × (epoch_line_of epochs bytes ≡ Ok line.Blank) × AreParts system kept epochs parts
-AreParts system kept epochs (Event p ∷ parts) = IsEventPart epochs p × AreParts system kept epochs parts
+AreParts system kept epochs (Event p ∷ parts) = IsEventPart Rinex3 (SaysEvent epochs) p × AreParts system kept epochs parts
 AreParts system kept epochs (Epoch_ p ∷ parts) = IsEpochPart system kept epochs p × AreParts system kept (epochs ++ epoch_in_part p ∷ []) parts
 
 abbrev pub epochs_of : List Part → List Epoch

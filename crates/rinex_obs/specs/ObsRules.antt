@@ -5,6 +5,7 @@ use Rattle.gps_time.specs.declared.Tick.{Tick}
 use Rattle.obs_store.specs.declared.file.ObsFile.{ObsFile}
 use Rattle.obs_store.specs.declared.series.Epoch.{Epoch}
 use Rattle.obs_store.specs.declared.values.SatObs.{SatObs}
+use Rattle.obs_store.specs.Epochs.{epoch_of}
 use Rattle.rinex_head.specs.declared.place.At.{At}
 use Rattle.rinex_head.specs.declared.place.Flaw.{Flaw}
 use Rattle.rinex_head.specs.declared.place.What.TheVariants.{NoEnd, Types, Truncated}
@@ -56,9 +57,6 @@ whole_header h types = record { system = h.system; hundredths = h.hundredths; po
 -- the file of a header and its epochs
 abbrev pub file_of : Header → List Epoch → ObsFile
 file_of h epochs = record { hundredths = h.hundredths; position = h.position; delta = h.delta; listed = listed_of h.system h.types; epochs = epochs }
-
-abbrev pub epoch_of : Tick → Bool → List SatObs → Epoch
-epoch_of tag power sats = record { tag = tag; power = power; sats = sats }
 
 -- What may be expected: the first line, with which the reading of a system's satellites begins; a line of the header; further types, in a further line of the list, by their number;
 -- an epoch or an event after these epochs; lines of an epoch's satellites, or of an event, by their number.

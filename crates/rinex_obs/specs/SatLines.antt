@@ -4,7 +4,7 @@ use Rattle.std.specs.declared.option.Option.{Option}
 use Rattle.obs_store.specs.declared.values.Value.{Value}
 use Rattle.obs_store.specs.declared.values.SatObs.{SatObs}
 use Rattle.obs_store.specs.Missing.{missing_values}
-use Rattle.obs_store.specs.Satellites.{has_satellite}
+use Rattle.obs_store.specs.Satellites.{satellite_of, has_satellite}
 use Rattle.rinex_head.specs.declared.place.Flaw.{Flaw}
 use Rattle.rinex_head.specs.declared.place.What.TheVariants.{Twice}
 use Rattle.rinex_head.specs.declared.system.System.{System}
@@ -12,9 +12,6 @@ use Rattle.rinex_head.specs.Places.{and_then, flawed}
 use Rattle.obs_fields.specs.declared.layout.Layout.TheVariants.{Rinex3}
 use Rattle.obs_fields.specs.declared.types.KeptType.{KeptType}
 use Rattle.obs_fields.specs.SatFields.{satellite_at, values_in}
-
-abbrev pub satellite_of : ℕ → List (Option Value) → SatObs
-satellite_of number values = record { number = number; values = values }
 
 -- the satellite that was found, if any, with these values
 abbrev pub found_with : Option ℕ → List (Option Value) → Option SatObs

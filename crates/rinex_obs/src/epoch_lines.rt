@@ -4,12 +4,12 @@ ghost use Rattle.obs_store.specs.Epochs.{last_tag_of};
 ghost use Rattle.rinex_obs.specs.EpochTag.{IfEpoch, IsNoEpoch};
 ghost use Rattle.rinex_obs.specs.EpochLines.{tag_in, event_in, epoch_in, by_flag, epoch_line_of};
 
+use decimal_text::all_blank;
 use gps_time::Tick;
 use obs_fields::{Layout, comes_later, count, moment};
 use obs_store::Epochs;
 use rinex_head::{
-    Flaw, What, bad_field, byte_in, field, filled_number, fixed_number, flaw, is_blank_line,
-    two_digits,
+    Flaw, What, bad_field, byte_in, field, filled_number, fixed_number, flaw, two_digits,
 };
 
 /// What stands where an epoch's line is expected.
@@ -82,7 +82,7 @@ pub fn epoch_line(line: &[u8], epochs: &Epochs) -> Result<EpochLine, Flaw>
     ensures room { IfOk result (λ l. IfEpoch l (λ tag. length epochs.now < 20_000)) }
     ensures later { IfOk result (λ l. IfEpoch l (λ tag. IfSome (last_tag_of epochs.now) (λ last. last.0 < tag.0))) }
 {
-    if is_blank_line(line) {
+    if all_blank(line) {
         return Ok(EpochLine::Blank);
     }
     if byte_in(line, 1) != b'>' {

@@ -12,7 +12,7 @@ use crate::sat_lines::satellite_line;
 use gps_time::Tick;
 use line_source::Line;
 use obs_fields::{KeptType, Layout, event_line, listed_types};
-use obs_store::{Epoch, Epochs, ObsFile, SLOTS, Satellites};
+use obs_store::{Epoch, Epochs, ObsFile, SatValues, Satellites};
 use rinex_head::{Flaw, System, TextFault, What, flaw};
 use std::alloc::{AllocError, Global};
 use std::mem;
@@ -27,7 +27,7 @@ pub struct OpenEpoch {
 }
 
 impl OpenEpoch {
-    // Reads the line of a satellite, which is added where it is of the system. Its values are stored from where they were read.
+    // Reads the line of a satellite, which is added where it is of the system.
     fn take_line(
         &mut self,
         system: System,
@@ -41,7 +41,7 @@ impl OpenEpoch {
         ensures power { self.new.power ≡ self.old.power }
     {
         self.left -= 1;
-        let mut values = [None; SLOTS];
+        let mut values = SatValues::missing();
         let found = match satellite_line(system, line.bytes, kept, &self.sats, &mut values) {
             Ok(found) => found,
             Err(flaw) => return Err(TextFault::Refused(flaw.at(line.number))),

@@ -5,7 +5,7 @@ ghost use Rattle.obs_store.specs.Satellites.{has_satellite};
 ghost use Rattle.rinex_obs.specs.SatLines.{satellite_line_of, found_with};
 
 use obs_fields::{KeptType, Layout, satellite, set_values};
-use obs_store::{SLOTS, Satellites, Value};
+use obs_store::{SatValues, Satellites};
 use rinex_head::{Flaw, System, What, flaw};
 
 /// The number of the satellite of the system in a line after these ones of its epoch, or nothing at one of another system.
@@ -16,7 +16,7 @@ pub fn satellite_line(
     line: &[u8],
     kept: &[KeptType],
     sats: &Satellites,
-    values: &mut [Option<Value>; SLOTS],
+    values: &mut SatValues,
 ) -> Result<Option<u8>, Flaw>
     requires { values.old ≡ missing_values }
     ensures ok { IfOk result (λ found. satellite_line_of system kept.now sats.now line.now ≡ Ok (found_with found values.new)) }

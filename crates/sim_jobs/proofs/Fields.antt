@@ -5,9 +5,10 @@ use Rattle.std.proofs.lemmas.Bool.Decides.{nat_tests}
 use Rattle.std.proofs.lemmas.List.{append-nil}
 use Rattle.decimal_text.specs.Whole.{is_digit, are_digits}
 use Rattle.decimal_text.specs.Write.{last_digits}
+use Rattle.decimal_text.specs.Fixed.{without_blanks}
 use Rattle.decimal_text.proofs.Numbers.{digits_are}
 use Rattle.rinex_head.specs.Columns.{padded}
-use Rattle.rinex_head.specs.Fields.{without_blanks, digits_of, whole_of}
+use Rattle.rinex_head.specs.Fields.{digits_of, whole_of}
 use Rattle.sim_jobs.proofs.Digits.{last_digits-digits, last_digits-value}
 
 not_blank : (d : ℕ) → is_digit d ≡ true → (d == 32) ≡ false

@@ -11,6 +11,7 @@ use Rattle.decimal_text.specs.Fixed.{are_blank, fixed_of}
 use Rattle.gps_time.specs.declared.Tick.{Tick}
 use Rattle.line_source.specs.Lines.{lines_of}
 use Rattle.obs_store.specs.declared.series.Epoch.{Epoch}
+use Rattle.obs_store.specs.Satellites.{satellite_of}
 use Rattle.obs_store.specs.declared.values.SatObs.{SatObs}
 use Rattle.obs_store.specs.Epochs.{last_tag_of}
 use Rattle.rinex_head.specs.declared.place.Flaw.{Flaw}
@@ -22,7 +23,6 @@ use Rattle.obs_fields.specs.EpochFields.{count_in, moment_of, is_later}
 use Rattle.rinex_obs.specs.EpochLines.{tag_in, epoch_in, epoch_line_of}
 use Rattle.rinex_obs.specs.ObsForm.{EpochPart, Part, Epoch_, IsEpochPart, AreSatLines, AreParts, epoch_in_part, lines_of_part, body_lines}
 use Rattle.rinex_obs.specs.ObsForm.{satellites_of as satellites_in, epochs_of as epochs_in}
-use Rattle.rinex_obs.specs.SatLines.{satellite_of}
 use Rattle.rinex_obs.specs.declared.epoch_lines.EpochLine.TheVariants as line
 use Rattle.sim_session.specs.declared.signals.Signals.{Signals}
 use Rattle.sim_session.specs.declared.signals.Tracking.{Tracking}

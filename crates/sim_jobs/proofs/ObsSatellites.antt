@@ -10,7 +10,7 @@ use Rattle.line_source.specs.Lines.{lines_of}
 use Rattle.obs_store.specs.declared.values.SatObs.{SatObs}
 use Rattle.obs_store.specs.declared.values.Value.{Value}
 use Rattle.obs_store.specs.Missing.{missing_values}
-use Rattle.obs_store.specs.Satellites.{has_satellite}
+use Rattle.obs_store.specs.Satellites.{has_satellite, satellite_of}
 use Rattle.rinex_head.specs.Columns.{column}
 use Rattle.rinex_head.specs.Systems.{letter_of}
 use Rattle.rinex_head.specs.declared.place.Flaw.{Flaw}
@@ -19,7 +19,7 @@ use Rattle.rinex_head.specs.declared.system.System.TheVariants.{Gps, Galileo}
 use Rattle.obs_fields.specs.declared.layout.Layout.TheVariants.{Rinex3}
 use Rattle.obs_fields.specs.declared.types.KeptType.{KeptType}
 use Rattle.obs_fields.specs.SatFields.{values_in, digit_of, number_at, satellite_at}
-use Rattle.rinex_obs.specs.SatLines.{satellite_line_of, satellite_of}
+use Rattle.rinex_obs.specs.SatLines.{satellite_line_of}
 use Rattle.sim_session.specs.declared.signals.Signals.{Signals}
 use Rattle.sim_session.specs.declared.signals.Tracking.{Tracking}
 use Rattle.sim_session.specs.declared.signals.Tracking.TheVariants.{GpsL1L2, GpsL1L2L5, GalileoE1E5a}

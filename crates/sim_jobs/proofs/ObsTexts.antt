@@ -6,9 +6,9 @@ use Rattle.std.proofs.lemmas.Fmt.{decimal_nonempty}
 use Rattle.std.specs.Prelude.{decimal, replicate}
 use Rattle.decimal_text.specs.Whole.{size_of, are_digits, number_from}
 use Rattle.decimal_text.specs.Write.{sign_text, part_text, fixed_text}
-use Rattle.decimal_text.specs.Fixed.{fixed_of}
+use Rattle.decimal_text.specs.Fixed.{without_blanks, fixed_of}
 use Rattle.decimal_text.proofs.Numbers.{digits_are}
-use Rattle.rinex_head.specs.Fields.{without_blanks, digits_of, whole_of}
+use Rattle.rinex_head.specs.Fields.{digits_of, whole_of}
 use Rattle.sim_session.specs.Columns.{right_in, fixed_in}
 use Rattle.sim_session.specs.ObservationText.{IsInColumns}
 use Rattle.sim_jobs.specs.Printed.{are_printed}

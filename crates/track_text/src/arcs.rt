@@ -10,7 +10,7 @@ ghost use Rattle.track_text.specs.Rules.{track_rules, frame, ArcCount, PairCount
 
 use crate::grammar::TrackText;
 use cert_lines::Version;
-use cert_words::TextLines;
+use line_source::Lines;
 use obs_rows::{ArcList, Signals};
 use rinex_head::TextFault;
 use std::alloc::Global;
@@ -18,7 +18,7 @@ use std::alloc::Global;
 /// Reads the number of arcs, and the arcs.
 pub(crate) fn read_arcs(
     alloc: Global,
-    lines: &mut TextLines<'_>,
+    lines: &mut Lines<'_>,
     signals: Signals,
 ) -> Result<ArcList, TextFault>
     ensures reads { (budget : ℕ) → Reads track_rules lines.old lines.new (ArcCount (frame budget (fine_signals signals))) (λ arcs. PairCount (frame budget (fine_signals signals)) arcs) result }

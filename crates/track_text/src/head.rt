@@ -8,8 +8,8 @@ ghost use Rattle.track_text.specs.Rules.{track_rules, frame, Form, ArcCount};
 
 use crate::grammar::TrackText;
 use cert_lines::{COORDINATES, Version};
-use cert_words::TextLines;
 use grammar_lines::{next_count, next_letters, next_system, next_triple, next_word};
+use line_source::Lines;
 use obs_rows::{MOST_BUDGET, MOST_RATIO, Signals};
 use rinex_head::At;
 
@@ -24,7 +24,7 @@ pub(crate) struct Head {
 }
 
 /// Reads the head.
-pub(crate) fn read_head(lines: &mut TextLines<'_>) -> Result<Head, At>
+pub(crate) fn read_head(lines: &mut Lines<'_>) -> Result<Head, At>
     ensures reads { ReadsFree track_rules lines.old lines.new Form (λ h. ArcCount (frame h.budget (fine_signals h.signals))) result }
     ensures took { IfOk result (λ h. lines.old.left ≡ track_head_lines h.ratio h.budget h.system h.base h.signals ++ lines.new.left) }
     ensures ratio { IfOk result (λ h. (1000 ≤ h.ratio) × (h.ratio ≤ MOST_RATIO)) }

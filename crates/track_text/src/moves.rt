@@ -8,9 +8,10 @@ ghost use Rattle.track_text.specs.TailForms.{move_in};
 ghost use Rattle.track_text.specs.Rules.{track_rules, numbers_of, before_moves, Values};
 
 use cert_lines::MOVES;
-use cert_words::{TextLines, each_within, next_line, number_at, numbers_behind};
+use cert_words::{each_within, number_at, numbers_behind};
+use line_source::Lines;
 use obs_rows::PairRows;
-use rinex_head::{At, Flaw, TextFault};
+use rinex_head::{At, Flaw, TextFault, What, next_line};
 use std::alloc::Global;
 use track_data::Items;
 
@@ -29,13 +30,13 @@ fn move_in(number: u32, line: &[u8]) -> Result<[i64; 3], Flaw>
 }
 
 // The next line, which is the move of the pair of this number.
-fn next_move(lines: &mut TextLines<'_>, number: u32) -> Result<[i64; 3], At>
+fn next_move(lines: &mut Lines<'_>, number: u32) -> Result<[i64; 3], At>
     ensures reads { (numbers : List ℕ) → ReadsFree track_rules lines.old lines.new (before_moves (number ∷ numbers)) (λ moved. before_moves numbers) result }
     ensures took { IfOk result (λ moved. lines.old.left ≡ move_line number moved ∷ lines.new.left) }
     ensures in_range { IfOk result IsMove }
     ensures whole { IfOk result (λ moved. length moved ≡ 3) }
 {
-    let line = next_line(lines)?;
+    let line = next_line(lines, What::BadLine)?;
     match move_in(number, line.bytes) {
         Ok(moved) => Ok(moved),
         Err(flaw) => Err(flaw.at(line.number)),
@@ -45,7 +46,7 @@ fn next_move(lines: &mut TextLines<'_>, number: u32) -> Result<[i64; 3], At>
 /// Reads the move of each pair.
 pub(crate) fn read_moves(
     alloc: Global,
-    lines: &mut TextLines<'_>,
+    lines: &mut Lines<'_>,
     pairs: &[PairRows],
 ) -> Result<Items<[i64; 3]>, TextFault>
     ensures reads { Reads track_rules lines.old lines.new (before_moves (numbers_of pairs.now)) (λ moves. Values) result }

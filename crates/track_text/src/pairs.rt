@@ -15,8 +15,8 @@ ghost use Rattle.track_text.specs.Rules.{track_rules, frame, numbers_of, before_
 
 use crate::grammar::TrackText;
 use cert_lines::{COORDINATES, PairHead, Version};
-use cert_words::TextLines;
 use grammar_lines::{next_count, next_pair_head, next_triple, read_rows};
+use line_source::Lines;
 use obs_rows::{Arc, MOST_PAIRS, PairList, PairRows, Signals};
 use rinex_head::{At, TextFault};
 use std::alloc::Global;
@@ -44,7 +44,7 @@ pub(crate) struct PlacedPairs {
 }
 
 // The lines before the rows of the next pair, whose number is at least `least`, where `left` pairs are to come with it.
-fn next_placed_head(lines: &mut TextLines<'_>, least: u32, left: u32) -> Result<PlacedHead, At>
+fn next_placed_head(lines: &mut Lines<'_>, least: u32, left: u32) -> Result<PlacedHead, At>
     requires { 1 ≤ left }
     ensures reads { (budget : ℕ) (ss : List ℕ) (arcs : List Arc) (numbers : List ℕ) → ReadsFree track_rules lines.old lines.new (before_pairs (frame budget ss) arcs left least numbers) (λ p. before_rows (frame budget ss) arcs (left - 1) p.head.number p.head.count 0 numbers) result }
     ensures took { IfOk result (λ p. lines.old.left ≡ pair_line p.head.number p.head.tag.0 p.head.group p.head.count ∷ vector_line (codes "at") p.point ∷ lines.new.left) }
@@ -63,7 +63,7 @@ fn next_placed_head(lines: &mut TextLines<'_>, least: u32, left: u32) -> Result<
 // The next pair, whose number is at least `least`, where `left` pairs are to come with it.
 fn next_pair(
     alloc: Global,
-    lines: &mut TextLines<'_>,
+    lines: &mut Lines<'_>,
     signals: Signals,
     arcs: &[Arc],
     least: u32,
@@ -90,7 +90,7 @@ fn next_pair(
 /// Reads the number of pairs, and the pairs with their points.
 pub(crate) fn read_pairs(
     alloc: Global,
-    lines: &mut TextLines<'_>,
+    lines: &mut Lines<'_>,
     signals: Signals,
     arcs: &[Arc],
 ) -> Result<PlacedPairs, TextFault>

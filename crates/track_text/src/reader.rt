@@ -13,14 +13,14 @@ use crate::grammar::TrackText;
 use crate::head::read_head;
 use crate::pairs::read_pairs;
 use crate::tail::read_tail;
-use cert_words::TextLines;
+use line_source::Lines;
 use obs_rows::{fine_signals, integer_count};
 use rinex_head::{At, TextFault};
 use std::alloc::Global;
 use track_data::{Track, TrackCert};
 
 // Nothing stands after a tail.
-fn read_end(lines: &mut TextLines<'_>) -> Result<(), At>
+fn read_end(lines: &mut Lines<'_>) -> Result<(), At>
     ensures { MatchResult result
         (λ u. (rest_gives track_rules lines.old End ≡ Ok tt) × (lines.old.left ≡ []))
         (λ at. rest_gives track_rules lines.old End ≡ Err at) }
@@ -28,7 +28,7 @@ fn read_end(lines: &mut TextLines<'_>) -> Result<(), At>
     grammar_lines::read_end::<TrackText>(lines)
 }
 
-fn read_lines(alloc: Global, mut lines: TextLines<'_>) -> Result<TrackCert, TextFault>
+fn read_lines(alloc: Global, mut lines: Lines<'_>) -> Result<TrackCert, TextFault>
     ensures reads { Gives (rest_gives track_rules lines.entry Form) (λ c. tt) result }
     ensures took { IfOk result (λ c. lines.entry.left ≡ lines_of_track c) }
     ensures whole { IfOk result IsWholeTrackCert }
@@ -72,5 +72,5 @@ pub fn read_track(alloc: Global, text: &[u8]) -> Result<TrackCert, TextFault>
     ensures first { IfRefused result (λ at. BeginsBefore IsTrackCertificate text.now at.line) }
     ensures exact { Gives (track_reading text.now) (λ c. tt) result }
 {
-    read_lines(alloc, TextLines::new(text))
+    read_lines(alloc, Lines::strict(text))
 }

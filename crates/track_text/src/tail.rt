@@ -16,18 +16,18 @@ use crate::moves::read_moves;
 use crate::tail_lines::declined_in;
 use cert_data::TwoBest;
 use cert_lines::begins;
-use cert_words::{TextLines, next_line};
 use form_tables::MOST_INTEGERS;
 use grammar_lines::{integers_in, next_integers, next_last, next_values};
+use line_source::Lines;
 use obs_rows::PairRows;
-use rinex_head::TextFault;
+use rinex_head::{TextFault, What, next_line};
 use std::alloc::Global;
 use track_data::TrackTail;
 
 // A tail with vectors, after its first line.
 fn read_vectors(
     alloc: Global,
-    lines: &mut TextLines<'_>,
+    lines: &mut Lines<'_>,
     count: usize,
     first: [i64; MOST_INTEGERS],
     pairs: &[PairRows],
@@ -57,7 +57,7 @@ fn read_vectors(
 /// Reads the tail of the certificate of a track of `count` integers and these pairs.
 pub(crate) fn read_tail(
     alloc: Global,
-    lines: &mut TextLines<'_>,
+    lines: &mut Lines<'_>,
     budget: u64,
     count: usize,
     pairs: &[PairRows],
@@ -68,7 +68,7 @@ pub(crate) fn read_tail(
     ensures fits { IfOk result (λ t. (ss : List ℕ) (arcs : List Arc) → count ≡ integer_count arcs ss → IsTrackTailOf ss arcs pairs.now budget t) }
     ensures whole { IfOk result IsWholeTrackTail }
 {
-    let line = next_line(lines)?;
+    let line = next_line(lines, What::BadLine)?;
     if begins(b"z1", line.bytes) {
         let first = integers_in(b"z1", count, line.bytes, line.number)?;
         return read_vectors(alloc, lines, count, first, pairs);

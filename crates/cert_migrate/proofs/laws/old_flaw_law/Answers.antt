@@ -3,7 +3,7 @@ use Rattle.rinex_head.specs.declared.place.Flaw.{Flaw}
 use Rattle.rinex_head.specs.Places.{and_then, at_line}
 use Rattle.rinex_head.specs.Walk.{walk, admitted}
 use Rattle.rinex_head.proofs.OwnFlawLaws.{own_flaw}
-use Rattle.cert_words.specs.TextLines.{ended_lines}
+use Rattle.line_source.specs.EndedLines.{ended_lines}
 use Rattle.cert_lines.specs.declared.version.Version.TheVariants.{One}
 use Rattle.cert_text.specs.Rules.{Expected, Form, cert_rules}
 use Rattle.cert_migrate.specs.OldRules.{old_rules}

@@ -1,5 +1,5 @@
 use Rattle.rinex_head.proofs.OwnFlawLaws.{own_flaw}
-use Rattle.cert_words.specs.TextLines.{ended_lines}
+use Rattle.line_source.specs.EndedLines.{ended_lines}
 use Rattle.cert_text.specs.Rules.{cert_rules}
 use Rattle.cert_text.proofs.laws.cert_flaw_law.Goals as goal
 

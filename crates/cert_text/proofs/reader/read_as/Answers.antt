@@ -1,7 +1,7 @@
 use Rattle.std.proofs.Common.{◌≡◌, List, Result, Ok, Err, IfOk, ℕ, sym, ap, ◌∙◌, subst}
 use Rattle.line_source.specs.Lines.{Reading}
 use Rattle.cert_words.specs.Spelling.{text_of_lines}
-use Rattle.cert_words.specs.TextLines.{ended_lines}
+use Rattle.line_source.specs.EndedLines.{ended_lines}
 use Rattle.cert_words.proofs.TextLaws.{AreLines, text_of_ended}
 use Rattle.rinex_head.specs.declared.place.TextFault.{TextFault}
 use Rattle.cert_data.specs.declared.certs.Cert.{Cert}
@@ -29,24 +29,24 @@ spelled version text lines (Err fault) are took of_version = tt
 
 pub returns-clause-ok : goal.returns-clause-ok
 returns-clause-ok c =
-    spelled c.args.version c.args.text.now c.new.result.left c.read_lines.result (ap (λ (r : Reading). r.left) c.new.ensures) c.read_lines.ensures.took c.read_lines.ensures.of_version
+    spelled c.args.version c.args.text.now c.strict.result.left c.read_lines.result (ap (λ (r : Reading). r.left) c.strict.ensures) c.read_lines.ensures.took c.read_lines.ensures.of_version
 
 pub returns-clause-refused : goal.returns-clause-refused
 returns-clause-refused c =
     let text = c.args.text.now in
-    let whole = sym (ap (λ (r : Reading). rest_gives cert_rules r (Form c.args.version)) c.new.ensures) in
+    let whole = sym (ap (λ (r : Reading). rest_gives cert_rules r (Form c.args.version)) c.strict.ensures) in
     refused_text c.args.version text (λ x. tt) c.read_lines.result (gives_same _ _ (λ x. tt) c.read_lines.result whole c.read_lines.ensures.reads)
 
 pub returns-clause-stuck : goal.returns-clause-stuck
 returns-clause-stuck c =
     let text = c.args.text.now in
-    let whole = sym (ap (λ (r : Reading). rest_gives cert_rules r (Form c.args.version)) c.new.ensures) in
+    let whole = sym (ap (λ (r : Reading). rest_gives cert_rules r (Form c.args.version)) c.strict.ensures) in
     stuck_text c.args.version text (λ x. tt) c.read_lines.result (gives_same _ _ (λ x. tt) c.read_lines.result whole c.read_lines.ensures.reads)
 
 pub returns-clause-first : goal.returns-clause-first
 returns-clause-first c =
     let text = c.args.text.now in
-    let whole = sym (ap (λ (r : Reading). rest_gives cert_rules r (Form c.args.version)) c.new.ensures) in
+    let whole = sym (ap (λ (r : Reading). rest_gives cert_rules r (Form c.args.version)) c.strict.ensures) in
     first_text c.args.version text (λ x. tt) c.read_lines.result (gives_same _ _ (λ x. tt) c.read_lines.result whole c.read_lines.ensures.reads)
 
 -- what is read is the only certificate with this spelling
@@ -57,5 +57,5 @@ alone version text (Err fault) ok whole of_version = tt
 
 pub returns-clause-only : goal.returns-clause-only
 returns-clause-only c =
-    alone c.args.version c.args.text.now c.read_lines.result (spelled c.args.version c.args.text.now c.new.result.left c.read_lines.result
-    (ap (λ (r : Reading). r.left) c.new.ensures) c.read_lines.ensures.took c.read_lines.ensures.of_version) c.read_lines.ensures.whole c.read_lines.ensures.of_version
+    alone c.args.version c.args.text.now c.read_lines.result (spelled c.args.version c.args.text.now c.strict.result.left c.read_lines.result
+    (ap (λ (r : Reading). r.left) c.strict.ensures) c.read_lines.ensures.took c.read_lines.ensures.of_version) c.read_lines.ensures.whole c.read_lines.ensures.of_version

@@ -16,7 +16,8 @@ loop-number-preserved c =
     let before = c.loop-number.invariant in
     let now = c.in_ok-add_kept.ensures in
     let same = c.as_slice-name-items.ensures.value in
-    cc (more, assoc, before, now, same)
+    let kind = c.kept_type.ensures in
+    cc (more, assoc, before, now, kind, same)
 
 pub returns : goal.returns
 returns c =

@@ -1,5 +1,5 @@
 use Rattle.rinex_head.proofs.OwnFlawLaws.{own_flaw}
-use Rattle.cert_words.specs.TextLines.{ended_lines}
+use Rattle.line_source.specs.EndedLines.{ended_lines}
 use Rattle.track_text.specs.Rules.{track_rules}
 use Rattle.track_text.proofs.laws.track_flaw_law.Goals as goal
 

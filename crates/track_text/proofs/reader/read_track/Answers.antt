@@ -4,7 +4,7 @@ use Rattle.rinex_head.specs.declared.place.TextFault.{TextFault}
 use Rattle.rinex_head.specs.Walk.{rest_gives}
 use Rattle.rinex_head.proofs.Walks.{gives_same}
 use Rattle.cert_words.specs.Spelling.{text_of_lines}
-use Rattle.cert_words.specs.TextLines.{ended_lines}
+use Rattle.line_source.specs.EndedLines.{ended_lines}
 use Rattle.cert_words.proofs.TextLaws.{AreLines, text_of_ended}
 use Rattle.track_data.specs.declared.certs.TrackCert.{TrackCert}
 use Rattle.track_spelling.specs.Spelling.{lines_of_track, track_spelling}
@@ -25,21 +25,21 @@ spelled text lines (Ok c) are took =
 spelled text lines (Err fault) are took = tt
 
 pub returns-clause-ok : goal.returns-clause-ok
-returns-clause-ok c = spelled c.args.text.now c.new.result.left c.read_lines.result (ap (λ (r : Reading). r.left) c.new.ensures) c.read_lines.ensures.took
+returns-clause-ok c = spelled c.args.text.now c.strict.result.left c.read_lines.result (ap (λ (r : Reading). r.left) c.strict.ensures) c.read_lines.ensures.took
 
 pub returns-clause-refused : goal.returns-clause-refused
 returns-clause-refused c =
-    let whole = sym (ap (λ (r : Reading). rest_gives track_rules r Form) c.new.ensures) in
+    let whole = sym (ap (λ (r : Reading). rest_gives track_rules r Form) c.strict.ensures) in
     refused_text c.args.text.now (λ x. tt) c.read_lines.result (gives_same _ _ (λ x. tt) c.read_lines.result whole c.read_lines.ensures.reads)
 
 pub returns-clause-stuck : goal.returns-clause-stuck
 returns-clause-stuck c =
-    let whole = sym (ap (λ (r : Reading). rest_gives track_rules r Form) c.new.ensures) in
+    let whole = sym (ap (λ (r : Reading). rest_gives track_rules r Form) c.strict.ensures) in
     stuck_text c.args.text.now (λ x. tt) c.read_lines.result (gives_same _ _ (λ x. tt) c.read_lines.result whole c.read_lines.ensures.reads)
 
 pub returns-clause-first : goal.returns-clause-first
 returns-clause-first c =
-    let whole = sym (ap (λ (r : Reading). rest_gives track_rules r Form) c.new.ensures) in
+    let whole = sym (ap (λ (r : Reading). rest_gives track_rules r Form) c.strict.ensures) in
     first_text c.args.text.now (λ x. tt) c.read_lines.result (gives_same _ _ (λ x. tt) c.read_lines.result whole c.read_lines.ensures.reads)
 
 -- what is read is the only certificate with this spelling
@@ -50,5 +50,5 @@ alone text (Err fault) ok whole = tt
 
 pub returns-clause-only : goal.returns-clause-only
 returns-clause-only c =
-    alone c.args.text.now c.read_lines.result (spelled c.args.text.now c.new.result.left c.read_lines.result
-    (ap (λ (r : Reading). r.left) c.new.ensures) c.read_lines.ensures.took) c.read_lines.ensures.whole
+    alone c.args.text.now c.read_lines.result (spelled c.args.text.now c.strict.result.left c.read_lines.result
+    (ap (λ (r : Reading). r.left) c.strict.ensures) c.read_lines.ensures.took) c.read_lines.ensures.whole

@@ -1,9 +1,9 @@
 use Rattle.std.proofs.Common.{◌≡◌, length}
 use Rattle.decimal_text.specs.Fixed.{are_blank}
-use Rattle.rinex_head.proofs.fields.is_blank_line.Given as goal
+use Rattle.decimal_text.proofs.blanks.all_blank.Given as goal
 
 abbrev pub invariant-loop-rest : goal.invariant-loop-rest
-invariant-loop-rest l = are_blank l.fn.line ≡ are_blank l.rest
+invariant-loop-rest l = are_blank l.rest ≡ are_blank l.text
 
 abbrev pub decreases-loop-rest : goal.decreases-loop-rest
 decreases-loop-rest l = length l.rest

@@ -1,8 +1,8 @@
 use Rattle.std.proofs.Common.{◌≡◌, ◌+◌, ◌-◌, ◌∷◌, ℕ, List, length, take, drop, length-drop, ap, sym, ◌∙◌, arith}
 use Rattle.std.proofs.lemmas.List.{take_all}
-use Rattle.cert_words.specs.TextLines.{ended_lines}
-use Rattle.cert_words.proofs.TextLaws.{ended_at, long_first, long_last}
-use Rattle.cert_words.proofs.lines.first_line.Goals as goal
+use Rattle.line_source.specs.EndedLines.{ended_lines}
+use Rattle.line_source.proofs.StrictLines.{ended_at, long_first, long_last}
+use Rattle.line_source.proofs.lines.first_strict.Goals as goal
 
 pub returns-then-at-gt-MAX_LINE-clause-lines : goal.returns-then-at-gt-MAX_LINE-clause-lines
 returns-then-at-gt-MAX_LINE-clause-lines c = long_first c.args.text.now c.in-Some.at c.in-Some.ensures (omega (arith, c.if-at-gt-MAX_LINE.true))
