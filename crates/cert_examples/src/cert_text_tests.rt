@@ -104,8 +104,16 @@ static ALL_BANDS: [&str; 19] = [
 
 #[test]
 fn gives_other_bands_back(rt: HostRuntime) -> Result<(), Fail> {
-    assert_eq!(rt; is_given_back(rt.alloc(), &OTHER_BANDS, &[])?, true, "L1 and L5");
-    assert_eq!(rt; is_given_back(rt.alloc(), &ALL_BANDS, &[])?, true, "all bands");
+    assert_eq!(rt;
+        is_given_back(rt.alloc(), &OTHER_BANDS, &[])?,
+        true,
+        "L1 and L5"
+    );
+    assert_eq!(rt;
+        is_given_back(rt.alloc(), &ALL_BANDS, &[])?,
+        true,
+        "all bands"
+    );
     Ok(())
 }
 

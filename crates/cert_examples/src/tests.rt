@@ -36,7 +36,10 @@ static TOLD: [Told; 2] = [
 // What isn't printed of a run that ends with the certificate of a row: the certificate itself, and what is told.
 fn outcome_fault(alloc: Global, row: &Told) -> Result<Option<&'static str>, Fail> {
     let (budget, front, back, fixed, told) = *row;
-    let text = text_of(alloc, &[&["baseline-cert 2", "ratio 2000", budget], front, back])?;
+    let text = text_of(
+        alloc,
+        &[&["baseline-cert 2", "ratio 2000", budget], front, back],
+    )?;
     if text.len() > MOST {
         return Ok(Some("the length"));
     }

@@ -97,7 +97,10 @@ fn reads_galileo_the_same_in_pieces(rt: HostRuntime) -> Result<(), Fail> {
     assert_eq!(rt; whole.epochs.len(), 6);
     let want = format!(in alloc; "{whole:?}")?;
     for most in [1, 7, 65_536] {
-        assert_eq!(rt; shown_of_galileo(alloc, &made.base, most)?.as_str(), want.as_str());
+        assert_eq!(rt;
+            shown_of_galileo(alloc, &made.base, most)?.as_str(),
+            want.as_str()
+        );
     }
     Ok(())
 }

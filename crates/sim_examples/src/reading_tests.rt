@@ -82,7 +82,10 @@ fn reads_observations(rt: HostRuntime) -> Result<(), Fail> {
     let file = observations(rt.alloc(), 12)?.ok_or("a file")?;
     assert_eq!(rt; file_fault(&file, &ON_L1_L2), None);
     let file = observations(rt.alloc(), 125)?.ok_or("a file")?;
-    assert_eq!(rt; (file_fault(&file, &ON_L1_L2), file_fault(&file, &ON_L5)), (None, None));
+    assert_eq!(rt;
+        (file_fault(&file, &ON_L1_L2), file_fault(&file, &ON_L5)),
+        (None, None)
+    );
     Ok(())
 }
 
@@ -106,7 +109,10 @@ fn reads_records(rt: HostRuntime) -> Result<(), Fail> {
     }
     let file = read_nav(rt.alloc(), &made.nav)?;
     assert_eq!(rt; (file.all().len(), file.fit().len()), (15, 15));
-    let last = file.fit().last().map(|eph| (eph.sat, eph.ecc, eph.node, eph.toe));
+    let last = file
+        .fit()
+        .last()
+        .map(|eph| (eph.sat, eph.ecc, eph.node, eph.toe));
     let want = (
         15,
         Dec {

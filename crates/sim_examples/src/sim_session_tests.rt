@@ -27,12 +27,7 @@ static HIDDEN: [(u16, u8, [[i64; 3]; 4]); 4] = [
 ];
 
 // Whether a session of seed 1, of one epoch and four satellites, hides its offset and these cycles.
-fn hides(
-    alloc: Global,
-    bands: u16,
-    system: u8,
-    truth: &[[i64; 3]],
-) -> Result<bool, AllocError> {
+fn hides(alloc: Global, bands: u16, system: u8, truth: &[[i64; 3]]) -> Result<bool, AllocError> {
     if !is_bands_number(bands) || !is_system(system) || (system == b'E' && bands != 15) {
         return Ok(false);
     }
