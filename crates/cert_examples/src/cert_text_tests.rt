@@ -22,7 +22,7 @@ static SMALL: [&str; 14] = [
     "row 1 0 0 0 0 0 0 0 0 0 0 0",
 ];
 
-static WEAK: [&str; 1] = ["declined weak fine 0 -6"];
+const WEAK: [&str; 1] = ["declined weak fine 0 -6"];
 
 static TAILS: [&[&str]; 7] = [
     &WEAK,

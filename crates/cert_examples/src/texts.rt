@@ -17,7 +17,7 @@ pub(crate) fn text_of(alloc: Global, parts: &[&[&str]]) -> Result<String, AllocE
 }
 
 // Six epochs of five satellites, between the line of the budget and that of the values.
-pub(crate) static SESSION: [&str; 50] = [
+pub(crate) const SESSION: [&str; 50] = [
     "system G",
     "base 63781370000 0 0",
     "point 63779713226 9436069 -6594995",
@@ -71,7 +71,7 @@ pub(crate) static SESSION: [&str; 50] = [
 ];
 
 // Two satellites in one pair, before the rows.
-pub(crate) static SMALL: [&str; 9] = [
+pub(crate) const SMALL: [&str; 9] = [
     "system G",
     "base 63781370000 0 0",
     "point 63781370000 0 0",
@@ -83,7 +83,7 @@ pub(crate) static SMALL: [&str; 9] = [
     "pair 0 13881024000000000 0 2",
 ];
 
-pub(crate) static NOTHING: [&str; 3] = [
+pub(crate) const NOTHING: [&str; 3] = [
     "row 0 0 0 0 0 0 0 0 0 0 0 0",
     "row 1 0 0 0 0 0 0 0 0 0 0 0",
     "declined weak fine 0 -6",

@@ -208,7 +208,7 @@ fn float_agrees(form: &Form, point: &[i64]) -> bool {
     true
 }
 
-static FINE_D: [i64; 7] = [
+const FINE_D: [i64; 7] = [
     605298613249643,
     724024172318711,
     351061624301,
@@ -218,7 +218,7 @@ static FINE_D: [i64; 7] = [
     72056557878,
 ];
 
-static FINE_L: [i64; 28] = [
+const FINE_L: [i64; 28] = [
     232664217,
     -462534273,
     439333416,
@@ -249,9 +249,9 @@ static FINE_L: [i64; 28] = [
     -956789223,
 ];
 
-static FINE_POINT: [i64; 7] = [-47286, -41076, -68629, 87104, 65910, 77482, 58398];
+const FINE_POINT: [i64; 7] = [-47286, -41076, -68629, 87104, 65910, 77482, 58398];
 
-static COARSE_L: [i64; 6] = [
+const COARSE_L: [i64; 6] = [
     232664217,
     -462534273,
     439333416,
@@ -260,9 +260,9 @@ static COARSE_L: [i64; 6] = [
     -1837124107,
 ];
 
-static COARSE_POINT: [i64; 3] = [62752, -48657, 112129];
+const COARSE_POINT: [i64; 3] = [62752, -48657, 112129];
 
-static THREE_D: [i64; 9] = [
+const THREE_D: [i64; 9] = [
     427871697766790,
     227591059190487,
     317831814183,
@@ -274,7 +274,7 @@ static THREE_D: [i64; 9] = [
     541946334779,
 ];
 
-static THREE_L: [i64; 45] = [
+const THREE_L: [i64; 45] = [
     320350613,
     -892538343,
     -1276456599,
@@ -322,9 +322,9 @@ static THREE_L: [i64; 45] = [
     -83311889,
 ];
 
-static THREE_POINT: [i64; 9] = [-78327, -154569, -141017, 9296, 7886, 7709, 6666, 3779, 5085];
+const THREE_POINT: [i64; 9] = [-78327, -154569, -141017, 9296, 7886, 7709, 6666, 3779, 5085];
 
-static COARSE_D: [i64; 3] = [495811042869822, 593061295834361, 287560927609];
+const COARSE_D: [i64; 3] = [495811042869822, 593061295834361, 287560927609];
 
 // A form of an independent model: its factors and its float point.
 struct Lowered {
