@@ -25,12 +25,15 @@ const ON_125: Signals = Signals {
     l5: b'Q',
 };
 
-const fn flaw(column: u32, what: What) -> Flaw {
-    Flaw { column, what }
+// The column and the flaw of a line that isn't read.
+type Place = (u32, What);
+
+fn place_of(flaw: Flaw) -> Place {
+    (flaw.column, flaw.what)
 }
 
 // A line, the free arcs before it, the arcs that are left, and what is found.
-type ArcRow = (&'static [u8], usize, usize, Result<Arc, Flaw>);
+type ArcRow = (&'static [u8], usize, usize, Result<Arc, Place>);
 
 static ARCS: [ArcRow; 9] = [
     (
@@ -45,29 +48,24 @@ static ARCS: [ArcRow; 9] = [
             shift: [-7, 1_099_511_627_775, 0],
         }),
     ),
-    (b"arc 5 0 0 free 0 0", 20, 1, Err(flaw(1, What::BadLine))),
-    (b"arc 5 0 0 datum 0 0", 0, 1, Err(flaw(1, What::BadLine))),
-    (b"arc 5 0 0 Datum 0 0", 1, 2, Err(flaw(1, What::BadLine))),
-    (b"arc 5 0 0 datum 0", 1, 2, Err(flaw(1, What::BadLine))),
-    (b"arc 37 9 0 datum 0 0", 1, 2, Err(flaw(5, What::BadRange))),
-    (b"arc 5 9 8 datum 0 0", 1, 2, Err(flaw(9, What::BadRange))),
-    (
-        b"arc 5 9 3600 datum 0 0",
-        1,
-        2,
-        Err(flaw(9, What::BadRange)),
-    ),
+    (b"arc 5 0 0 free 0 0", 20, 1, Err((1, What::BadLine))),
+    (b"arc 5 0 0 datum 0 0", 0, 1, Err((1, What::BadLine))),
+    (b"arc 5 0 0 Datum 0 0", 1, 2, Err((1, What::BadLine))),
+    (b"arc 5 0 0 datum 0", 1, 2, Err((1, What::BadLine))),
+    (b"arc 37 9 0 datum 0 0", 1, 2, Err((5, What::BadRange))),
+    (b"arc 5 9 8 datum 0 0", 1, 2, Err((9, What::BadRange))),
+    (b"arc 5 9 3600 datum 0 0", 1, 2, Err((9, What::BadRange))),
     (
         b"arc 5 9 9 datum 0 1099511627776",
         1,
         2,
-        Err(flaw(19, What::BadRange)),
+        Err((19, What::BadRange)),
     ),
 ];
 
-fn arc_of(free: usize, left: usize, line: &[u8]) -> Option<Result<Arc, Flaw>> {
+fn arc_of(free: usize, left: usize, line: &[u8]) -> Option<Result<Arc, Place>> {
     if line.len() <= 4096 {
-        Some(arc_in(Version::Two, ON_12, free, left, line))
+        Some(arc_in(Version::Two, ON_12, free, left, line).map_err(place_of))
     } else {
         None
     }
@@ -82,41 +80,21 @@ fn reads_arcs(rt: HostRuntime) {
 }
 
 // A line, its pair, the least arc, and why it is refused.
-static BAD_ROWS: [(&[u8], u32, u32, Flaw); 5] = [
-    (
-        b"row 0 0 0 0 0 0 0 0 0 0 0 0",
-        0,
-        0,
-        flaw(5, What::BadRange),
-    ),
-    (
-        b"row 0 0 0 0 0 0 0 0 0 0 0 0",
-        1,
-        1,
-        flaw(5, What::BadRange),
-    ),
-    (
-        b"row 2 0 0 0 0 0 0 0 0 0 0 0",
-        1,
-        0,
-        flaw(5, What::BadRange),
-    ),
+static BAD_ROWS: [(&[u8], u32, u32, Place); 5] = [
+    (b"row 0 0 0 0 0 0 0 0 0 0 0 0", 0, 0, (5, What::BadRange)),
+    (b"row 0 0 0 0 0 0 0 0 0 0 0 0", 1, 1, (5, What::BadRange)),
+    (b"row 2 0 0 0 0 0 0 0 0 0 0 0", 1, 0, (5, What::BadRange)),
     (
         b"row 1 17179869185 0 0 0 0 0 0 0 0 0 0",
         1,
         0,
-        flaw(7, What::BadRange),
+        (7, What::BadRange),
     ),
-    (
-        b"row 1 0 0 0 0 -1 0 0 0 0 0 0",
-        1,
-        0,
-        flaw(15, What::BadRange),
-    ),
+    (b"row 1 0 0 0 0 -1 0 0 0 0 0 0", 1, 0, (15, What::BadRange)),
 ];
 
 // Why a row of two arcs over the pairs 1 and 2 is refused, if it is.
-fn row_flaw(pair: u32, least: u32, line: &[u8]) -> Option<Flaw> {
+fn row_flaw(pair: u32, least: u32, line: &[u8]) -> Option<Place> {
     let arc = Arc {
         sat: 5,
         first: 1,
@@ -125,7 +103,9 @@ fn row_flaw(pair: u32, least: u32, line: &[u8]) -> Option<Flaw> {
         shift: [0, 0, 0],
     };
     if line.len() <= 4096 {
-        row_in(ON_12, &[arc, arc], pair, least, line).err()
+        row_in(ON_12, &[arc, arc], pair, least, line)
+            .err()
+            .map(place_of)
     } else {
         None
     }
@@ -154,7 +134,7 @@ fn writes_arcs(rt: HostRuntime) -> Result<(), Fail> {
     Ok(())
 }
 
-static SIGNALS: [(Version, &[u8], Result<Signals, Flaw>); 11] = [
+static SIGNALS: [(Version, &[u8], Result<Signals, Place>); 11] = [
     (Version::One, b"signals C W", Ok(ON_12)),
     (Version::Two, b"signals 12 C W", Ok(ON_12)),
     (Version::Two, b"signals 15 C Q", Ok(ON_15)),
@@ -168,16 +148,19 @@ static SIGNALS: [(Version, &[u8], Result<Signals, Flaw>); 11] = [
     (Version::Two, b"signals 125 C W Q ", NONE),
 ];
 
-const NONE: Result<Signals, Flaw> = Err(flaw(1, What::BadLine));
+const NONE: Result<Signals, Place> = Err((1, What::BadLine));
 
 #[test]
 fn reads_signals(rt: HostRuntime) {
     for row in SIGNALS.iter() {
         let (version, line, want) = *row;
-        assert_eq!(rt; signals_in(version, line), want);
+        assert_eq!(rt; signals_in(version, line).map_err(place_of), want);
     }
-    let found = (system_in(b"system E"), system_in(b"system R"));
-    assert_eq!(rt; found, (Ok(b'E'), Err(flaw(1, What::BadLine))));
+    let found = (
+        system_in(b"system E"),
+        system_in(b"system R").map_err(place_of),
+    );
+    assert_eq!(rt; found, (Ok(b'E'), Err((1, What::BadLine))));
 }
 
 // The arc of a datum from pair 0 to 9.
@@ -190,20 +173,18 @@ const ON_BANDS: Arc = Arc {
 };
 
 // What the line of that arc is on L1 and L5, and on other signals.
-static ON_OTHERS: [(Version, Signals, Result<Arc, Flaw>); 3] = [
+static ON_OTHERS: [(Version, Signals, Result<Arc, Place>); 3] = [
     (Version::Two, ON_15, Ok(ON_BANDS)),
-    (Version::One, ON_12, Err(flaw(5, What::BadRange))),
-    (Version::Two, ON_125, Err(flaw(1, What::BadLine))),
+    (Version::One, ON_12, Err((5, What::BadRange))),
+    (Version::Two, ON_125, Err((1, What::BadLine))),
 ];
 
 #[test]
 fn reads_arcs_on_other_bands(rt: HostRuntime) {
     for row in ON_OTHERS.iter() {
         let (version, signals, want) = *row;
-        assert_eq!(rt;
-            arc_in(version, signals, 1, 1, b"arc 36 0 9 datum 5 -6"),
-            want
-        );
+        let found = arc_in(version, signals, 1, 1, b"arc 36 0 9 datum 5 -6");
+        assert_eq!(rt; found.map_err(place_of), want);
     }
 }
 
