@@ -30,7 +30,7 @@ pub enum End {
 #[derive(Clone, Copy)]
 pub struct Made {
     pub epochs: u32,
-    pub sats: u8,
+    pub sats: u32,
     pub bands: u16,
     pub system: u8,
 }
