@@ -345,7 +345,7 @@ pub(crate) fn are_used(signals: Signals, arcs: &[Arc]) -> bool
 }
 
 // What of the fine rows isn't as wanted.
-fn fine_fault(alloc: Global, files: &Files, want: &Expected) -> Result<Fault, AllocError>
+fn fine_fault(alloc: Global, files: &Files, want: &Expected) -> Result<Fault, Fail>
     requires cut { IsCutOf files.now.rounds.screened.used files.now.rounds.kept }
     requires halves { AreBaseHalves files.now.rounds.screened.boxes files.now.rounds.position files.now.rounds.halves.items }
 {
@@ -389,7 +389,7 @@ fn fine_fault(alloc: Global, files: &Files, want: &Expected) -> Result<Fault, Al
 }
 
 // What of the coarse rows isn't as wanted.
-fn coarse_fault(alloc: Global, files: &Files, want: &Expected) -> Result<Fault, AllocError>
+fn coarse_fault(alloc: Global, files: &Files, want: &Expected) -> Result<Fault, Fail>
     requires cut { IsCutOf files.now.rounds.screened.used files.now.rounds.kept }
 {
     let point = want.point;
@@ -429,7 +429,7 @@ fn coarse_fault(alloc: Global, files: &Files, want: &Expected) -> Result<Fault, 
 }
 
 // What isn't as wanted: of the arcs, of the fine rows, of the coarse ones.
-fn faults(alloc: Global, files: &Files, want: &Expected) -> Result<[Fault; 3], AllocError>
+fn faults(alloc: Global, files: &Files, want: &Expected) -> Result<[Fault; 3], Fail>
     requires cut { IsCutOf files.now.rounds.screened.used files.now.rounds.kept }
     requires halves { AreBaseHalves files.now.rounds.screened.boxes files.now.rounds.position files.now.rounds.halves.items }
 {
