@@ -134,7 +134,7 @@ fn writes_arcs(rt: HostRuntime) -> Result<(), Fail> {
     Ok(())
 }
 
-static SIGNALS: [(Version, &[u8], Result<Signals, Place>); 11] = [
+const SIGNALS: [(Version, &[u8], Result<Signals, Place>); 11] = [
     (Version::One, b"signals C W", Ok(ON_12)),
     (Version::Two, b"signals 12 C W", Ok(ON_12)),
     (Version::Two, b"signals 15 C Q", Ok(ON_15)),
@@ -173,7 +173,7 @@ const ON_BANDS: Arc = Arc {
 };
 
 // What the line of that arc is on L1 and L5, and on other signals.
-static ON_OTHERS: [(Version, Signals, Result<Arc, Place>); 3] = [
+const ON_OTHERS: [(Version, Signals, Result<Arc, Place>); 3] = [
     (Version::Two, ON_15, Ok(ON_BANDS)),
     (Version::One, ON_12, Err((5, What::BadRange))),
     (Version::Two, ON_125, Err((1, What::BadLine))),

@@ -295,7 +295,7 @@ fn is_alone(
     files: &Files,
     session: &Session,
     number: usize,
-) -> Result<bool, AllocError>
+) -> Result<bool, Fail>
     requires cut { IsCutOf files.now.rounds.screened.used session.now.arcs }
     requires base { IsReceiverPoint session.now.base }
     requires point { IsReceiverPoint session.now.point }
