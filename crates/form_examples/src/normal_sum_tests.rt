@@ -300,7 +300,7 @@ struct Summed {
     r: [i128; 4],
 }
 
-static SUMMED: [Summed; 4] = [
+const SUMMED: [Summed; 4] = [
     // Of the bands L1 and L2.
     Summed {
         scale: 0,
