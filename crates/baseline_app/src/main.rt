@@ -52,8 +52,6 @@
 #![tactic(auto)]
 
 #[cfg(test)]
-mod command_tests;
-#[cfg(test)]
 mod failing_tests;
 #[cfg(test)]
 mod fault_order_tests;

@@ -11,3 +11,5 @@ mod cert_words_tests;
 mod tests;
 #[cfg(test)]
 mod texts;
+#[cfg(test)]
+mod track_text_tests;

@@ -4,6 +4,10 @@
 #[cfg(test)]
 mod eph_store_tests;
 #[cfg(test)]
+mod gal_nav_tests;
+#[cfg(test)]
+mod gal_obs_tests;
+#[cfg(test)]
 mod line_source_piece_tests;
 #[cfg(test)]
 mod line_source_tests;

@@ -1,4 +1,5 @@
-//! Simulated sessions: their draws, their texts, and that the readers of files read them. There is nothing here but tests.
+//! Simulated sessions: their draws, an epoch of their texts, and that the readers of files read them. There is nothing here but
+//! tests; whole texts are tried by `cases/`.
 #![tactic(auto)]
 
 #[cfg(test)]
@@ -7,10 +8,6 @@ mod piece_tests;
 mod reading_tests;
 #[cfg(test)]
 mod sim_draws_tests;
-#[cfg(test)]
-mod sim_job_tests;
-#[cfg(test)]
-mod sim_records_tests;
 #[cfg(test)]
 mod sim_session_tests;
 #[cfg(test)]

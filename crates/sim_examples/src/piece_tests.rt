@@ -5,6 +5,7 @@ use gal_obs::read_gal_obs;
 use line_source::{Failed, FileId, Files, Opening, OpeningLog, load_into};
 use rinex_obs::{GalFeed, ObsFeed, read_obs};
 use sim_session::make;
+use std::alloc::{AllocError, Global};
 use std::test::Fail;
 
 // A file that gives at most `most` bytes a call.
@@ -44,6 +45,35 @@ impl Files for Pieces {
     }
 }
 
+impl Pieces {
+    fn of(alloc: Global, text: &[u8], most: usize) -> Result<Pieces, AllocError> {
+        Ok(Pieces {
+            text: text.to_vec(alloc)?,
+            at: 0,
+            most,
+            openings: OpeningLog::new(),
+        })
+    }
+}
+
+// What a text gives in pieces of this length.
+fn shown(alloc: Global, text: &[u8], most: usize) -> Result<String, Fail> {
+    let mut files = Pieces::of(alloc, text, most)?;
+    let mut feed = ObsFeed::new(alloc);
+    load_into(&mut files, "", &mut feed)?;
+    let file = feed.finish()?;
+    Ok(format!(in alloc; "{file:?}")?)
+}
+
+// The same of Galileo.
+fn shown_of_galileo(alloc: Global, text: &[u8], most: usize) -> Result<String, Fail> {
+    let mut files = Pieces::of(alloc, text, most)?;
+    let mut feed = GalFeed::new(alloc);
+    load_into(&mut files, "", &mut feed)?;
+    let file = feed.finish()?;
+    Ok(format!(in alloc; "{file:?}")?)
+}
+
 #[test]
 fn reads_the_same_in_pieces(rt: HostRuntime) -> Result<(), Fail> {
     let alloc = rt.alloc();
@@ -53,17 +83,7 @@ fn reads_the_same_in_pieces(rt: HostRuntime) -> Result<(), Fail> {
     assert_eq!(rt; whole.epochs.len(), 60);
     let want = format!(in alloc; "{whole:?}")?;
     for most in [1, 7, 65_536] {
-        let mut files = Pieces {
-            text: made.base.as_slice().to_vec(alloc)?,
-            at: 0,
-            most,
-            openings: OpeningLog::new(),
-        };
-        let mut feed = ObsFeed::new(alloc);
-        load_into(&mut files, "", &mut feed)?;
-        let file = feed.finish()?;
-        let found = format!(in alloc; "{file:?}")?;
-        assert_eq!(rt; found.as_str(), want.as_str());
+        assert_eq!(rt; shown(alloc, &made.base, most)?.as_str(), want.as_str());
     }
     Ok(())
 }
@@ -77,17 +97,10 @@ fn reads_galileo_the_same_in_pieces(rt: HostRuntime) -> Result<(), Fail> {
     assert_eq!(rt; whole.epochs.len(), 6);
     let want = format!(in alloc; "{whole:?}")?;
     for most in [1, 7, 65_536] {
-        let mut files = Pieces {
-            text: made.base.as_slice().to_vec(alloc)?,
-            at: 0,
-            most,
-            openings: OpeningLog::new(),
-        };
-        let mut feed = GalFeed::new(alloc);
-        load_into(&mut files, "", &mut feed)?;
-        let file = feed.finish()?;
-        let found = format!(in alloc; "{file:?}")?;
-        assert_eq!(rt; found.as_str(), want.as_str());
+        assert_eq!(rt;
+            shown_of_galileo(alloc, &made.base, most)?.as_str(),
+            want.as_str()
+        );
     }
     Ok(())
 }
