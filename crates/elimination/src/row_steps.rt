@@ -211,7 +211,7 @@ fn copy_pivots(row: &[i64; MOST_COLUMNS], rows: &mut PivotTable, j: usize, colum
 }
 
 impl PivotRows {
-    /// Room for the rows.
+    /// Room for the rows. Nothing is promised of it: `keep` writes each row before it is read.
     pub fn empty() -> PivotRows {
         PivotRows {
             rows: PivotTable::zeros(),
