@@ -5,9 +5,7 @@ ghost use Rattle.elimination.specs.Shares.{IsNearShare};
 ghost use Rattle.elimination.specs.StepEntries.{is_small};
 ghost use Rattle.elimination.specs.RowSteps.{left_own, left_other};
 
-use crate::entries::{
-    SHORT_LIMIT, guess_of, is_around, is_small, own_after, rest_of, small_other,
-};
+use crate::entries::{SHORT_LIMIT, guess_of, is_around, is_small, own_after, rest_of, small_other};
 use crate::shares::Share;
 use form_tables::MOST_COLUMNS;
 
@@ -124,6 +122,18 @@ fn short_loss(n: i64, a: i64) -> i64
     short_ceil(count_times(n, a), 42)
 }
 
+/// A number that is below 2^52 in size.
+fn small_only(number: i64) -> Option<i64>
+    ensures value { IfSome result (λ x. x ≡ number) }
+    ensures small { IfSome result (λ x. is_small x ≡ true) }
+{
+    if -SHORT_LIMIT < number && number < SHORT_LIMIT {
+        Some(number)
+    } else {
+        None
+    }
+}
+
 /// entry - square - count - loss, where that is below 2^52 in size.
 fn short_less_three(entry: i64, square: i64, count: i64, loss: i64) -> Option<i64>
     requires entry_size { unsigned_abs entry ≤ 2 ^ 52 }
@@ -133,12 +143,10 @@ fn short_less_three(entry: i64, square: i64, count: i64, loss: i64) -> Option<i6
     ensures value { IfSome result (λ x. x ≡ ((entry -ℤ square) -ℤ count) -ℤ loss) }
     ensures small { IfSome result (λ x. is_small x ≡ true) }
 {
-    let rest = entry - square - count - loss;
-    if -SHORT_LIMIT < rest && rest < SHORT_LIMIT {
-        Some(rest)
-    } else {
-        None
-    }
+    let less_square = entry - square;
+    let less_count = less_square - count;
+    let rest = less_count - loss;
+    small_only(rest)
 }
 
 /// What a step leaves of an own entry, in 128 bits.

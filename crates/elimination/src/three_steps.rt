@@ -39,13 +39,7 @@ fn step_other(
 
 /// What the first two steps leave of a number in row r and column c, off the diagonal.
 #[inline(always)]
-fn two_left(
-    number: i64,
-    rows: &PivotTable,
-    r: usize,
-    c: usize,
-    shares: &RowShares,
-) -> Option<i64>
+fn two_left(number: i64, rows: &PivotTable, r: usize, c: usize, shares: &RowShares) -> Option<i64>
     requires row { BASELINE_COLUMNS ≤ r }
     requires after { r < c }
     requires column_in { c < MOST_COLUMNS }
@@ -65,13 +59,7 @@ fn two_left(
 
 /// What the three steps leave of a number in row r and column c, off the diagonal.
 #[inline(always)]
-fn three_left(
-    number: i64,
-    rows: &PivotTable,
-    r: usize,
-    c: usize,
-    shares: &RowShares,
-) -> Option<i64>
+fn three_left(number: i64, rows: &PivotTable, r: usize, c: usize, shares: &RowShares) -> Option<i64>
     requires row { BASELINE_COLUMNS ≤ r }
     requires after { r < c }
     requires column_in { c < MOST_COLUMNS }

@@ -10,8 +10,8 @@ use Rattle.elimination.proofs.RowStepLaws.{left_none}
 use Rattle.elimination.proofs.RowWords.{word}
 use Rattle.elimination.proofs.three_steps.two_left.Goals as goal
 
-pub step_other-in-Some-requires-clause-size : goal.step_other-in-Some-requires-clause-size
-step_other-in-Some-requires-clause-size c =
+pub step_other-requires-in-Some-clause-size : goal.step_other-requires-in-Some-clause-size
+step_other-requires-in-Some-clause-size c =
     subst (λ (z : ℤ). unsigned_abs z ≤ 2 ^ 52) (sym (as_w64 c.in-Some.first (small_size c.in-Some.first c.in-Some.ensures.small))) (small_entry c.in-Some.first c.in-Some.ensures.small)
 
 pub returns-in-Some-clause-value : goal.returns-in-Some-clause-value
