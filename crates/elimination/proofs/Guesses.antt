@@ -1,12 +1,12 @@
 -- What a guess of a quotient leaves, and where it is the quotient.
-use Rattle.std.proofs.Common.{◌≡◌, refl, [], ◌∷◌, ◌+◌, ◌*◌, ◌^◌, ◌≤◌, ◌%◌, ◌-◌, ℤ, pos, ◌+ℤ◌, ◌-ℤ◌, ◌*ℤ◌, neg_ℤ, ◌<ℤ◌, ◌≤ℤ◌, unsigned_abs, FitsSigned, arith, to_z, of_z, sym, ap, ap₂, ◌∙◌, subst}
+use Rattle.std.proofs.Common.{◌≡◌, ◌⊎◌, ⊎_elim, refl, [], ◌∷◌, ◌+◌, ◌*◌, ◌^◌, ◌≤◌, ◌%◌, ◌-◌, ℤ, pos, ◌+ℤ◌, ◌-ℤ◌, ◌*ℤ◌, neg_ℤ, ◌<ℤ◌, ◌≤ℤ◌, unsigned_abs, FitsSigned, arith, to_z, of_z, sym, ap, ap₂, ◌∙◌, subst}
 use Rattle.std.proofs.lemmas.Int.{ints, wrapping_sub-bits, wrapping_mul_is, int_wrap-add_left, int_wrap-sub_right, int_wrap_fits}
 use Rattle.std.specs.Int.{w64, int_wrap}
-use Rattle.whole_math.specs.Rounding.{floor_div, nearest_div}
+use Rattle.whole_math.specs.Rounding.{floor_div, nearest_div, ceil_div}
 use Rattle.whole_math.proofs.Order.{lins, polys, abs_mul_le}
 use Rattle.whole_math.proofs.Inequalities.{same_by, nat}
-use Rattle.whole_math.proofs.Ring.{◌⊖◌, ◌⊗◌}
-use Rattle.whole_math.proofs.Rounding.{nearest_unique, floor_close, floor_near}
+use Rattle.whole_math.proofs.Ring.{◌⊕◌, ◌⊖◌, ◌⊗◌}
+use Rattle.whole_math.proofs.Rounding.{nearest_unique, ceil_unique, floor_close, floor_near}
 use Rattle.whole_math.proofs.Absolute.{abs_pos}
 use Rattle.elimination.proofs.NewEntries.{positive_is}
 
@@ -18,6 +18,49 @@ half_left n x a t h l u = (omega (arith, polys), omega (arith, polys))
 pub guessed_nearest : (n a q t : ℤ) → pos 0 <ℤ a → t ≡ pos 2 *ℤ (n -ℤ (q *ℤ a)) → neg_ℤ a ≤ℤ t → t <ℤ a → q ≡ nearest_div n (unsigned_abs a)
 guessed_nearest n a q t p h l u = nearest_unique n q (unsigned_abs a) (abs_pos a p) (subst (λ (m : ℤ). ((pos 2 *ℤ (q *ℤ m)) ≤ℤ ((pos 2 *ℤ n) +ℤ m)) ×
     (((pos 2 *ℤ n) +ℤ m) <ℤ ((pos 2 *ℤ (q *ℤ m)) +ℤ (pos 2 *ℤ m)))) (positive_is a p) (half_left n (q *ℤ a) a t h l u))
+
+-- ---- the quotient upward
+-- x / a is the quotient upward where what is left is above -a and at most 0
+left_below : (n x a t : ℤ) → t ≡ pos 2 *ℤ (n -ℤ x) → (pos 2 *ℤ neg_ℤ a) <ℤ t → t ≤ℤ pos 0 → (n ≤ℤ x) × (x <ℤ (n +ℤ a))
+left_below n x a t h l u = (omega (arith, polys), omega (arith, polys))
+
+-- and the next one where it is above 0 and at most a
+left_above : (n x a t : ℤ) → t ≡ pos 2 *ℤ (n -ℤ x) → pos 0 <ℤ t → t ≤ℤ (pos 2 *ℤ a) → (n ≤ℤ (x +ℤ a)) × ((x +ℤ a) <ℤ (n +ℤ a))
+left_above n x a t h l u = (omega (arith, polys), omega (arith, polys))
+
+next_product : (q a : ℤ) → (q +ℤ pos 1) *ℤ a ≡ (q *ℤ a) +ℤ a
+next_product q a = same_by (q ∷ a ∷ []) (λ q a. ((q ⊕ nat 1) ⊗ a, (q ⊗ a) ⊕ a)) refl
+
+is_ceil : (n a q : ℤ) → pos 0 <ℤ a → (n ≤ℤ (q *ℤ a)) × ((q *ℤ a) <ℤ (n +ℤ a)) → q ≡ ceil_div n (unsigned_abs a)
+is_ceil n a q p h = ceil_unique n q (unsigned_abs a) (abs_pos a p) (subst (λ (m : ℤ). (n ≤ℤ (q *ℤ m)) × ((q *ℤ m) <ℤ (n +ℤ m))) (positive_is a p) h)
+
+pub guessed_ceil : (n a q t : ℤ) → pos 0 <ℤ a → t ≡ pos 2 *ℤ (n -ℤ (q *ℤ a)) → (pos 2 *ℤ neg_ℤ a) <ℤ t → t ≤ℤ pos 0 → q ≡ ceil_div n (unsigned_abs a)
+guessed_ceil n a q t p h l u = is_ceil n a q p (left_below n (q *ℤ a) a t h l u)
+
+pub guessed_ceil_next : (n a q t : ℤ) → pos 0 <ℤ a → t ≡ pos 2 *ℤ (n -ℤ (q *ℤ a)) → pos 0 <ℤ t → t ≤ℤ (pos 2 *ℤ a) → q +ℤ pos 1 ≡ ceil_div n (unsigned_abs a)
+guessed_ceil_next n a q t p h l u = is_ceil n a (q +ℤ pos 1) p (subst (λ (x : ℤ). (n ≤ℤ x) × (x <ℤ (n +ℤ a))) (sym (next_product q a)) (left_above n (q *ℤ a) a t h l u))
+
+-- the guess or the number after it, by the rest r that the guess leaves
+pub ceil_by_rest : (n a q r g : ℤ) → pos 0 <ℤ a → r ≡ n -ℤ (q *ℤ a) → neg_ℤ a ≤ℤ (r -ℤ pos 1) → (r -ℤ pos 1) <ℤ a → (r ≤ℤ pos 0 → g ≡ q) → (pos 0 <ℤ r → g ≡ q +ℤ pos 1) → g ≡ ceil_div n (unsigned_abs a)
+ceil_by_rest n a q r g p e low high same next = ⊎_elim
+    (λ (h : r ≤ℤ pos 0). same h ∙ guessed_ceil n a q (pos 2 *ℤ r) p (ap (λ z. pos 2 *ℤ z) e) (above_twice r a low) (none_left r h))
+    (λ (h : pos 0 <ℤ r). next h ∙ guessed_ceil_next n a q (pos 2 *ℤ r) p (ap (λ z. pos 2 *ℤ z) e) (some_left r h) (within_twice r a high))
+    (sign r)
+  where
+    sign : (r : ℤ) → (r ≤ℤ pos 0) ⊎ (pos 0 <ℤ r)
+    sign r = grind (arith, ints)
+
+    above_twice : (r a : ℤ) → neg_ℤ a ≤ℤ (r -ℤ pos 1) → (pos 2 *ℤ neg_ℤ a) <ℤ (pos 2 *ℤ r)
+    above_twice r a h = omega (arith, ints)
+
+    within_twice : (r a : ℤ) → (r -ℤ pos 1) <ℤ a → (pos 2 *ℤ r) ≤ℤ (pos 2 *ℤ a)
+    within_twice r a h = omega (arith, ints)
+
+    none_left : (r : ℤ) → r ≤ℤ pos 0 → (pos 2 *ℤ r) ≤ℤ pos 0
+    none_left r h = omega (arith, ints)
+
+    some_left : (r : ℤ) → pos 0 <ℤ r → pos 0 <ℤ (pos 2 *ℤ r)
+    some_left r h = omega (arith, ints)
 
 -- ---- a guess by a share in units of 2^-52
 pub unit_near : (x g : ℤ) → g ≡ floor_div (x +ℤ pos (2 ^ 51)) (2 ^ 52) → unsigned_abs (x -ℤ (pos (2 ^ 52) *ℤ g)) ≤ 2 ^ 52

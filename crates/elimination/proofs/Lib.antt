@@ -10,3 +10,4 @@ pub mod NewRows
 pub mod Guesses
 pub mod RowStepLaws
 pub mod RowWords
+mod ThreeSteps

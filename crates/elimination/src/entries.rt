@@ -1,5 +1,5 @@
 //! The new entries of one step of the elimination.
-ghost use Rattle.std.specs.Prelude.{◌≡◌, ◌+◌, ◌^◌, ◌<◌, ◌≤◌, IsTrue, true, false, IfSome, IsNone, pos, ◌-ℤ◌, ◌*ℤ◌, ◌<ℤ◌, ◌≤ℤ◌, unsigned_abs, nat_lt};
+ghost use Rattle.std.specs.Prelude.{◌≡◌, ◌+◌, ◌^◌, ◌<◌, ◌≤◌, IsTrue, true, false, IfSome, IsNone, pos, ◌-ℤ◌, ◌*ℤ◌, neg_ℤ, ◌<ℤ◌, ◌≤ℤ◌, unsigned_abs, nat_lt};
 ghost use Rattle.whole_math.specs.Rounding.{nearest_div, ceil_div};
 ghost use Rattle.form_tables.specs.declared.sizes.TheConstants.{MOST_COLUMNS};
 ghost use Rattle.elimination.specs.Shares.{IsNearShare};
@@ -12,7 +12,7 @@ use whole_math::{ceil, ceil_shift, floor_shift, nearest};
 const LIMIT: i128 = 1 << 52;
 
 /// The same, for a number of 64 bits.
-const SHORT_LIMIT: i64 = 1 << 52;
+pub(crate) const SHORT_LIMIT: i64 = 1 << 52;
 
 /// The unit of the factors is 2^-30.
 const FACTOR_EXPONENT: u32 = 30;
@@ -155,7 +155,7 @@ fn nearest_unit(product: i128) -> i64
 }
 
 /// About p · q / a to the nearest, by the share of p in a.
-fn guess_of(share: &Share, q: i64) -> i64
+pub(crate) fn guess_of(share: &Share, q: i64) -> i64
     requires { unsigned_abs q ≤ 2 ^ 52 }
     ensures size { unsigned_abs result ≤ 2 ^ 62 + 1 }
     ensures near { unsigned_abs ((share.now.ratio *ℤ q) -ℤ (pos (2 ^ 52) *ℤ result)) ≤ 2 ^ 52 }
@@ -172,11 +172,22 @@ fn short_guess(share: &Share, q: i128) -> i128
 }
 
 /// p · q - guess · a, where that is known to be small: the lowest 64 bits say it.
-fn rest_of(p: i64, q: i64, guess: i64, a: i64) -> i64
+pub(crate) fn rest_of(p: i64, q: i64, guess: i64, a: i64) -> i64
     requires { unsigned_abs ((p *ℤ q) -ℤ (guess *ℤ a)) ≤ 2 ^ 61 }
     ensures { result ≡ (p *ℤ q) -ℤ (guess *ℤ a) }
 {
     p.wrapping_mul(q).wrapping_sub(guess.wrapping_mul(a))
+}
+
+/// Whether -a <= x < a, by one comparison of numbers that have no sign.
+pub(crate) fn is_around(x: i64, a: i64) -> bool
+    requires x_size { unsigned_abs x ≤ 2 ^ 62 }
+    requires a_size { unsigned_abs a ≤ 2 ^ 52 }
+    requires positive { pos 0 <ℤ a }
+    ensures from { IsTrue result → neg_ℤ a ≤ℤ x }
+    ensures to { IsTrue result → x <ℤ a }
+{
+    (x + a).cast_unsigned() < (2 * a).cast_unsigned()
 }
 
 /// Whether the guess is p · q / a to the nearest.
@@ -187,7 +198,7 @@ fn is_nearest(p: i64, q: i64, a: i64, guess: i64) -> bool
     ensures { IsTrue result → guess ≡ nearest_div (p *ℤ q) (unsigned_abs a) }
 {
     let twice = 2 * rest_of(p, q, guess, a);
-    -a <= twice && twice < a
+    is_around(twice, a)
 }
 
 /// About p · 2^30 / a to the nearest, by the share of 2^30 in a.

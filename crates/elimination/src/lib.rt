@@ -20,10 +20,12 @@ mod shares;
 mod step;
 mod steps;
 mod tables;
+mod three_steps;
 
 pub use entries::is_small;
 pub use finished::finish;
-pub use row_steps::{PivotRows, PivotTable, step_through};
+pub use row_steps::{PivotRows, PivotTable};
 pub use step::StepFault;
 pub use steps::{Stopped, take_steps};
 pub use tables::{fill_form_table, first_kept, form_table, front_factors, put_row};
+pub use three_steps::step_through;

@@ -128,6 +128,46 @@ fn step_own(
     }
 }
 
+/// Takes the own entry of row r through the step of column j, and writes the row's factor. Gives the share of its entry in the
+/// pivot, and None where the own entry or the factor is too large.
+pub(crate) fn step_start(
+    row: &mut [i64; MOST_COLUMNS],
+    pivots: &PivotRows,
+    factors: &mut FrontTable,
+    j: usize,
+    r: usize,
+    columns: usize,
+) -> Option<Share>
+    requires column { j < BASELINE_COLUMNS }
+    requires row { j < r }
+    requires row_in { r < columns }
+    requires columns_in { columns ≤ MOST_COLUMNS }
+    requires positive { pos 0 <ℤ entry pivots.now.rows j j }
+    requires pivots { (c : ℕ) → j ≤ c → c < columns → unsigned_abs (entry pivots.now.rows j c) ≤ 2 ^ 52 }
+    requires own { unsigned_abs (item row.old r) ≤ 2 ^ 52 }
+    requires below { EntriesBelow (2 ^ 52) factors.old }
+    requires outside { IsBelowDiagonal columns factors.old }
+    ensures share { IfSome result (IsNearShare (entry pivots.now.rows j r) (entry pivots.now.rows j j)) }
+    ensures value { IfSome result (λ s. item row.new r ≡ left_entry pivots.now.rows columns r r j (item row.old r)) }
+    ensures small { IfSome result (λ s. is_small (item row.new r) ≡ true) }
+    ensures factor { IfSome result (λ s. HasFactors pivots.now.rows factors.new j r) }
+    ensures rest { (c : ℕ) → c ≢ r → item row.new c ≡ item row.old c }
+    ensures others { (i m : ℕ) → (i ≢ r) ⊎ (m ≢ j) → entry factors.new i m ≡ entry factors.old i m }
+    ensures below { EntriesBelow (2 ^ 52) factors.new }
+    ensures outside { IsBelowDiagonal columns factors.new }
+{
+    let p = pivots.rows.at(j, r);
+    let a = pivots.rows.at(j, j);
+    let share = share_by(p as i128, a as i128, &pivots.shares[j]);
+    if !write_factor(factors, j, r, columns, p, a, &share) {
+        return None;
+    }
+    if !step_own(row, r, p, a, columns - j - 1, &share) {
+        return None;
+    }
+    Some(share)
+}
+
 /// Takes row r through the step of column j, and writes its factor; false where an entry or the factor is too large.
 fn step_row(
     row: &mut [i64; MOST_COLUMNS],
@@ -153,20 +193,15 @@ fn step_row(
     ensures below { EntriesBelow (2 ^ 52) factors.new }
     ensures outside { IsBelowDiagonal columns factors.new }
 {
-    let p = pivots.rows.at(j, r);
-    let a = pivots.rows.at(j, j);
-    let share = share_by(p as i128, a as i128, &pivots.shares[j]);
-    if !write_factor(factors, j, r, columns, p, a, &share) {
-        return false;
+    match step_start(row, pivots, factors, j, r, columns) {
+        Some(share) => step_others(row, &pivots.rows, j, r, columns, &share),
+        None => false,
     }
-    if !step_own(row, r, p, a, columns - j - 1, &share) {
-        return false;
-    }
-    step_others(row, &pivots.rows, j, r, columns, &share)
 }
 
-/// Takes row r through the steps of the first columns, and writes its factors; false where an entry or a factor is too large.
-pub fn step_through(
+/// Takes row r through the steps of the first columns one after another, and writes its factors; false where an entry or a factor is
+/// too large.
+pub(crate) fn step_by_step(
     row: &mut [i64; MOST_COLUMNS],
     pivots: &PivotRows,
     factors: &mut FrontTable,
@@ -211,7 +246,7 @@ fn copy_pivots(row: &[i64; MOST_COLUMNS], rows: &mut PivotTable, j: usize, colum
 }
 
 impl PivotRows {
-    /// Room for the rows.
+    /// Room for the rows. Nothing is promised of it: `keep` writes each row before it is read.
     pub fn empty() -> PivotRows {
         PivotRows {
             rows: PivotTable::zeros(),

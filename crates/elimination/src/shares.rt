@@ -17,3 +17,11 @@ pub(crate) struct Share {
     pub(crate) is_near: bool,
     pub ghost ratio_in: { unsigned_abs ratio ≤ 2 ^ 62 },
 }
+
+/// The shares of a row's entries in the pivots of the baseline's columns.
+#[derive(Clone, Copy, Debug)]
+pub(crate) struct RowShares {
+    pub(crate) first: Share,
+    pub(crate) second: Share,
+    pub(crate) third: Share,
+}

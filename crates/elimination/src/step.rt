@@ -57,6 +57,8 @@ fn write_factors(
 }
 
 /// Writes the entries of row r after its own, with the share of the entry of row j in the pivot; false where one is too large.
+// Never inlined: the compiler would take the share's ratio for a number of 128 bits, whose product takes three multiplications.
+#[inline(never)]
 fn update_others(
     table: &mut NormalTable,
     j: usize,

@@ -4,7 +4,7 @@ use Rattle.form_tables.specs.Matrices.{EntriesBelow}
 use Rattle.integer_form.specs.Kept.{IsBelowDiagonal}
 use Rattle.elimination.specs.StepEntries.{is_small}
 use Rattle.elimination.specs.RowSteps.{left_after, HasFactors}
-use Rattle.elimination.proofs.row_steps.step_through.Given as goal
+use Rattle.elimination.proofs.row_steps.step_by_step.Given as goal
 
 abbrev pub invariant-loop-j : goal.invariant-loop-j
 invariant-loop-j l = record {

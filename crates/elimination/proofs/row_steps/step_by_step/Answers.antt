@@ -4,7 +4,7 @@ use Rattle.elimination.specs.StepEntries.{is_small}
 use Rattle.elimination.specs.RowSteps.{left_entry, left_after, HasFactors}
 use Rattle.elimination.proofs.SmallEntries.{small_entry}
 use Rattle.elimination.proofs.RowStepLaws.{left_none, left_next, has_same}
-use Rattle.elimination.proofs.row_steps.step_through.Goals as goal
+use Rattle.elimination.proofs.row_steps.step_by_step.Goals as goal
 
 pub loop-j-init : goal.loop-j-init
 loop-j-init c = record {
