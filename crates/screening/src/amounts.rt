@@ -108,12 +108,7 @@ fn amounts_in(types: &SignalTypes, sat: &SatView<'_>) -> [i64; SIGNALS]
 }
 
 // Whether the signal has an amount that may be used. One that isn't 0 has, so the value is seldom asked for again.
-fn is_used(
-    amounts: &[i64; SIGNALS],
-    types: &SignalTypes,
-    sat: &SatView<'_>,
-    signal: usize,
-) -> bool
+fn is_used(amounts: &[i64; SIGNALS], types: &SignalTypes, sat: &SatView<'_>, signal: usize) -> bool
     requires signal { signal < SIGNALS }
     requires amounts { amounts.now ≡ amounts_in types.now sat.now }
     ensures { result ≡ is_some (usable_amount types.now sat.now signal) }
