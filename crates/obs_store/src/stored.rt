@@ -1,5 +1,6 @@
 //! How the satellites of an epoch are stored: the values that are there, and no others.
 ghost use Rattle.std.specs.Prelude.{◌≡◌, ◌≢◌, ◌<◌, ◌≤◌, ◌==◌, length, find, slice_get, slice_index_or, Some, None};
+ghost use Rattle.std.specs.Option.{option_map, option_copied};
 ghost use Rattle.std.specs.List.{list_any};
 ghost use Rattle.obs_store.specs.Kinds.{slot_of, slot_count};
 ghost use Rattle.obs_store.specs.Missing.{missing_values};
@@ -52,8 +53,8 @@ pub fn count_of_values(stored: &[StoredValue]) -> u8
 }
 
 // A stored value as it was.
-fn value_of(stored: StoredValue) -> Value
-    ensures { result ≡ value_in stored }
+fn value_of(stored: &StoredValue) -> Value
+    ensures { result ≡ value_in stored.now }
 {
     Value {
         amount: i64::from_le_bytes(stored.amount),
@@ -61,28 +62,35 @@ fn value_of(stored: StoredValue) -> Value
     }
 }
 
-// What stands in a slot where one more value is stored: that one, if it belongs there.
-fn replaced(found: Option<Value>, one: StoredValue, slot: usize) -> Option<Value>
-    ensures put { slot_of one.kind ≡ slot → result ≡ Some (value_in one) }
-    ensures kept { slot_of one.kind ≢ slot → result ≡ found }
+// Which one stands in a slot where one more value is stored: that one, if it belongs there.
+fn later<'a>(
+    found: Option<&'a StoredValue>,
+    one: &'a StoredValue,
+    slot: usize,
+) -> Option<&'a StoredValue>
+    ensures put { slot_of one.now.kind ≡ slot → option_map value_in (option_copied result) ≡ Some (value_in one.now) }
+    ensures kept { slot_of one.now.kind ≢ slot → option_map value_in (option_copied result) ≡ option_map value_in (option_copied found.entry) }
 {
     if one.kind.slot() == slot {
-        Some(value_of(one))
+        Some(one)
     } else {
         found
     }
 }
 
-/// The value in a slot of a satellite of which these are there: the last of them that belongs there.
+/// The value in a slot of a satellite of which these are there: the last of them that belongs there. It alone is read.
 pub fn value_at(stored: &[StoredValue], slot: usize) -> Option<Value>
     requires { slot < slot_count }
     ensures { result ≡ slice_index_or (values_with missing_values stored.now) slot None }
 {
     let mut found = None;
     for one in stored {
-        found = replaced(found, *one, slot);
+        found = later(found, one, slot);
     }
-    found
+    match found {
+        Some(one) => Some(value_of(one)),
+        None => None,
+    }
 }
 
 /// The values of a satellite of which these are there.
@@ -91,7 +99,7 @@ pub fn all_values(stored: &[StoredValue]) -> [Option<Value>; SLOTS]
 {
     let mut values = [None; SLOTS];
     for one in stored {
-        values[one.kind.slot()] = Some(value_of(*one));
+        values[one.kind.slot()] = Some(value_of(one));
     }
     values
 }

@@ -1,5 +1,5 @@
 //! What a receiver observed of a satellite, and whether it may be used.
-ghost use Rattle.std.specs.Prelude.{◌≡◌, ◌^◌, ◌<◌, ◌≤ℤ◌, pos, Some, IfSome, All};
+ghost use Rattle.std.specs.Prelude.{◌≡◌, ◌^◌, ◌<◌, ◌≤ℤ◌, pos, Some, is_some, IfSome, All};
 ghost use Rattle.obs_rows.specs.declared.units.TheConstants.{SIGNALS};
 ghost use Rattle.obs_rows.specs.Signals.{fine_signals};
 ghost use Rattle.screening.specs.Sightings.{code_of};
@@ -96,13 +96,6 @@ fn amount_in(types: &SignalTypes, sat: &SatView<'_>, signal: usize) -> i64
     }
 }
 
-fn are_usable(ss: &[usize], types: &SignalTypes, sat: &SatView<'_>) -> bool
-    requires { All (λ s. s < SIGNALS) ss.now }
-    ensures { result ≡ are_usable ss.now types.now sat.now }
-{
-    ss.iter().all(|s| usable(types, sat, *s).is_some())
-}
-
 // Of all signals.
 fn amounts_in(types: &SignalTypes, sat: &SatView<'_>) -> [i64; SIGNALS]
     ensures { result ≡ amounts_in types.now sat.now }
@@ -114,16 +107,43 @@ fn amounts_in(types: &SignalTypes, sat: &SatView<'_>) -> [i64; SIGNALS]
     amounts
 }
 
+// Whether the signal has an amount that may be used. One that isn't 0 has, so the value is seldom asked for again.
+fn is_used(amounts: &[i64; SIGNALS], types: &SignalTypes, sat: &SatView<'_>, signal: usize) -> bool
+    requires signal { signal < SIGNALS }
+    requires amounts { amounts.now ≡ amounts_in types.now sat.now }
+    ensures { result ≡ is_some (usable_amount types.now sat.now signal) }
+{
+    let amount = amounts[signal];
+    if amount != 0 {
+        return true;
+    }
+    usable(types, sat, signal).is_some()
+}
+
+fn are_usable(
+    ss: &[usize],
+    amounts: &[i64; SIGNALS],
+    types: &SignalTypes,
+    sat: &SatView<'_>,
+) -> bool
+    requires small { All (λ s. s < SIGNALS) ss.now }
+    requires amounts { amounts.now ≡ amounts_in types.now sat.now }
+    ensures { result ≡ are_usable ss.now types.now sat.now }
+{
+    ss.iter().all(|s| is_used(amounts, types, sat, *s))
+}
+
 fn amounts_of(types: &SignalTypes, sat: &SatView<'_>) -> Option<[i64; SIGNALS]>
     ensures value { result ≡ amounts_of types.now (Some sat.now) }
     ensures usable { IfSome result (AreUsable (fine_signals types.now.signals)) }
     ensures code_from { IfSome result (λ a. pos (10 ^ 10) ≤ℤ code_of a) }
     ensures code_to { IfSome result (λ a. code_of a ≤ℤ pos (10 ^ 11)) }
 {
-    if !are_usable(fine_signals(types.signals), types, sat) {
+    let amounts = amounts_in(types, sat);
+    if !are_usable(fine_signals(types.signals), &amounts, types, sat) {
         return None;
     }
-    Some(amounts_in(types, sat))
+    Some(amounts)
 }
 
 /// What an epoch says of a satellite, where all of it may be used on the bands that are used.

@@ -1,6 +1,6 @@
-use Rattle.std.proofs.Common.{◌≡◌, ℕ, List, ℤ, refl, sym, ap, ◌∙◌, subst, inl, inr}
+use Rattle.std.proofs.Common.{ℕ, List, ℤ, refl, sym, ap, ◌∙◌, subst, inl, inr}
 use Rattle.std.proofs.lemmas.Bool.{false≢true}
-use Rattle.integer_form.specs.FloatPoint.{item, HasWide, baseline_at}
+use Rattle.integer_form.specs.FloatPoint.{item, HasWide}
 use Rattle.lower_form.specs.Rooms.{IsClean}
 use Rattle.round_steps.proofs.StepLaws.{refused_elimination}
 use Rattle.round_steps.proofs.FrontNumbers.{HasNumbers, numbers_of_front, told_of_front}

@@ -4,7 +4,7 @@ use Rattle.obs_rows.specs.declared.units.TheConstants.{COARSE_SCALE}
 use Rattle.round_steps.specs.Steps.{IsCoarseStep, IsSettledForm, IsMoved}
 use Rattle.round_steps.specs.Runs.{Rules, IsSessionOf, coarse, most_rounds}
 use Rattle.round_steps.proofs.RunLaws.{session_at, one_more, coarse_settles, coarse_declines, coarse_moves}
-use Rattle.round_steps.proofs.SameRules.{stays, stays_on, same_session}
+use Rattle.round_steps.proofs.SameRules.{stays_on, same_session}
 use Rattle.round_steps.proofs.runs.coarse_rounds.Goals as goal
 
 pub returns-in-Ok-None-clause-end : goal.returns-in-Ok-None-clause-end
