@@ -6,7 +6,7 @@ use Rattle.integer_form.specs.declared.faults.LowerFault.{LowerFault}
 use Rattle.integer_form.specs.declared.faults.LowerFault.TheVariants as fault
 use Rattle.integer_form.specs.declared.faults.Place.{Place}
 use Rattle.integer_form.specs.declared.faults.Place.TheVariants.{Factor, Entry, Float, Search, Sum}
-use Rattle.integer_form.specs.Told.{told}
+use Rattle.integer_form.specs.ReportedRefusals.{told}
 use Rattle.cert_data.specs.declared.tails.Tail.{Tail}
 use Rattle.cert_data.specs.declared.verdicts.Verdict.{Verdict}
 use Rattle.cert_data.specs.declared.verdicts.Verdict.TheVariants.{Certified, Not}

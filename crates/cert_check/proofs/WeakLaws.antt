@@ -7,7 +7,7 @@ use Rattle.quadratic_form.specs.Forms.{Column}
 use Rattle.quadratic_form.specs.Elimination.{Factor, Refusal, weak, wide_factor, wide_entry, kept, factors, next, all_small, form_small, with_factor, steps, StepsAnswer, StepAnswer}
 use Rattle.normal_sum.specs.declared.normal.Normal.{Normal}
 use Rattle.integer_form.specs.declared.faults.LowerFault.TheVariants.{Weak}
-use Rattle.integer_form.specs.Told.{told, IsToldAs}
+use Rattle.integer_form.specs.ReportedRefusals.{told, IsToldAs}
 use Rattle.lower_form.specs.FirstRounding.{first_form}
 use Rattle.lower_form.specs.Forms.{elimination_of}
 use Rattle.obs_rows.specs.declared.sessions.Session.{Session}

@@ -1,6 +1,6 @@
 -- What each line of a certificate of the first version must be in its place: the rules of the present form, from its own first line on.
 use Rattle.cert_lines.specs.declared.version.Version.TheVariants.{One}
-use Rattle.rinex_head.specs.Walk.{Rules}
+use Rattle.rinex_head.specs.LineRules.{Rules}
 use Rattle.cert_text.specs.Rules.{Expected, Form, cert_rules}
 
 abbrev pub old_rules : Rules Expected (Unit {0})

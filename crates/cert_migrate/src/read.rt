@@ -1,6 +1,6 @@
 //! A certificate of the first version, read.
 ghost use Rattle.std.specs.Prelude.{◌≡◌, ◌≤◌, length, IfOk};
-ghost use Rattle.rinex_head.specs.Walk.{Gives, OnRefusal, IfRefused};
+ghost use Rattle.rinex_head.specs.LineRules.{Gives, OnRefusal, IfRefused};
 ghost use Rattle.cert_lines.specs.declared.version.Version.TheVariants.{One};
 ghost use Rattle.grammar_lines.specs.Beginnings.{NoneBegins};
 ghost use Rattle.cert_text.specs.BeforePairs.{BeginsBefore};

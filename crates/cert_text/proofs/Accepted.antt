@@ -18,7 +18,7 @@ use Rattle.cert_data.specs.declared.certs.Cert.{Cert}
 use Rattle.cert_spelling.specs.Spelling.{system_lines, head_lines, all_pair_lines, counted_pairs, tail_lines, lines_of_cert, spelling_as}
 use Rattle.rinex_head.specs.Places.{and_then}
 use Rattle.rinex_head.specs.declared.place.Flaw.{Flaw}
-use Rattle.rinex_head.specs.Walk.{walk, Gives, OnRefusal, IfRefused}
+use Rattle.rinex_head.specs.LineRules.{walk, Gives, OnRefusal, IfRefused}
 use Rattle.cert_lines.proofs.LineSpells.{line_length, count_spells, pair_spells, point_spells, point_length}
 use Rattle.rinex_head.specs.declared.place.TextFault.{TextFault}
 use Rattle.rinex_head.specs.declared.place.TextFault.TheVariants.{Refused, NoMemory}

@@ -9,4 +9,4 @@ pub mod SameSpelling
 pub mod Versions
 pub mod ReadBack
 pub mod Completed
-pub mod Begun
+pub mod BegunCertificates

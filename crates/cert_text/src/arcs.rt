@@ -4,7 +4,7 @@ ghost use Rattle.obs_rows.specs.Arcs.{AreArcs};
 ghost use Rattle.obs_rows.specs.Signals.{fine_signals};
 ghost use Rattle.obs_rows.specs.Unused.{HasUsedShifts};
 ghost use Rattle.cert_lines.specs.Versions.{most_sat};
-ghost use Rattle.rinex_head.specs.Walk.{Reads};
+ghost use Rattle.rinex_head.specs.LineRules.{Reads};
 ghost use Rattle.cert_lines.specs.Lines.{counted_arcs};
 ghost use Rattle.cert_lines.specs.Lengths.{IsWholeArc};
 ghost use Rattle.cert_text.specs.Rules.{cert_rules, frame, ArcCount, PairCount};

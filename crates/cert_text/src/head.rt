@@ -1,7 +1,7 @@
 //! The head of a certificate: what stands before its arcs.
 ghost use Rattle.std.specs.Prelude.{◌≡◌, ◌≤◌, ◌++◌, ℕ, length, IfOk};
 ghost use Rattle.obs_rows.specs.Ranges.{IsPoint, IsSystem};
-ghost use Rattle.rinex_head.specs.Walk.{ReadsFree};
+ghost use Rattle.rinex_head.specs.LineRules.{ReadsFree};
 ghost use Rattle.cert_spelling.specs.Spelling.{system_lines, head_lines};
 ghost use Rattle.cert_text.specs.Rules.{cert_rules, frame, behind_budget, Form, Base, ArcCount};
 ghost use Rattle.obs_rows.specs.Signals.{fine_signals};

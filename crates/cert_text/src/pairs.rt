@@ -4,7 +4,7 @@ ghost use Rattle.obs_rows.specs.Pairs.{HasItsArcs};
 ghost use Rattle.obs_rows.specs.Signals.{fine_signals};
 ghost use Rattle.obs_rows.specs.Unused.{HasUsedRows};
 ghost use Rattle.cert_lines.specs.Versions.{group_limit};
-ghost use Rattle.rinex_head.specs.Walk.{Reads};
+ghost use Rattle.rinex_head.specs.LineRules.{Reads};
 ghost use Rattle.cert_lines.specs.Lines.{pair_lines};
 ghost use Rattle.cert_spelling.specs.Spelling.{all_pair_lines, counted_pairs};
 ghost use Rattle.cert_lines.specs.Lengths.{IsWholePair};

@@ -1,6 +1,6 @@
 //! A certificate, read.
 ghost use Rattle.std.specs.Prelude.{◌≡◌, ◌≤◌, [], length, Ok, Err, IfOk, MatchResult};
-ghost use Rattle.rinex_head.specs.Walk.{rest_gives, Gives, OnRefusal, IfRefused};
+ghost use Rattle.rinex_head.specs.LineRules.{rest_gives, Gives, OnRefusal, IfRefused};
 ghost use Rattle.cert_data.specs.declared.certs.Cert.{Cert};
 ghost use Rattle.cert_spelling.specs.Spelling.{lines_of_cert, spelling_as, spelling};
 ghost use Rattle.cert_spelling.specs.Lengths.{IsWhole, IsCertificate};

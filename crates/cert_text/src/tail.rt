@@ -4,7 +4,7 @@ ghost use Rattle.obs_rows.specs.declared.arcs.Arc.{Arc};
 ghost use Rattle.obs_rows.specs.Integers.{integer_count};
 ghost use Rattle.integer_form.specs.Kept.{IsZeroFrom};
 ghost use Rattle.int_search.specs.Vectors.{IsSmall};
-ghost use Rattle.rinex_head.specs.Walk.{ReadsFree};
+ghost use Rattle.rinex_head.specs.LineRules.{ReadsFree};
 ghost use Rattle.cert_lines.specs.Lines.{vector_line};
 ghost use Rattle.cert_data.specs.Tails.{IsTailOf};
 ghost use Rattle.cert_spelling.specs.Spelling.{tail_lines};

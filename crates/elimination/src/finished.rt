@@ -1,6 +1,6 @@
 //! The second half of an elimination: the steps of the integer columns.
 ghost use Rattle.std.specs.Prelude.{◌-◌, IfOk, IfErr};
-ghost use Rattle.integer_form.specs.Told.{IsToldAs};
+ghost use Rattle.integer_form.specs.ReportedRefusals.{IsToldAs};
 ghost use Rattle.elimination.specs.Finish.{IsFinishOf, finish_of};
 
 use crate::steps::take_steps;

@@ -5,7 +5,7 @@ ghost use Rattle.quadratic_form.specs.Places.{form_from};
 ghost use Rattle.form_tables.specs.Tables.{entry};
 ghost use Rattle.elimination.specs.Stops.{refusal_of};
 ghost use Rattle.integer_form.specs.Factors.{stored};
-ghost use Rattle.integer_form.specs.Told.{told};
+ghost use Rattle.integer_form.specs.ReportedRefusals.{told};
 
 use crate::step::{StepFault, step};
 use form_tables::{FactorTable, MOST_COLUMNS, MOST_FACTORS, NormalTable};

@@ -23,8 +23,8 @@ use Rattle.obs_rows.specs.Unused.{HasUsedShifts}
 use Rattle.rinex_head.specs.declared.place.Flaw.{Flaw}
 use Rattle.cert_lines.specs.Lengths.{IsWholeArc, IsWholeRow}
 use Rattle.cert_lines.proofs.Sizes.{row_small, shifts_small}
-use Rattle.rinex_head.proofs.Walks.{walk-takes, walk-end}
-use Rattle.rinex_head.specs.Walk.{walk, Rules}
+use Rattle.rinex_head.proofs.LineRuleLaws.{walk-takes, walk-end}
+use Rattle.rinex_head.specs.LineRules.{walk, Rules}
 use Rattle.cert_lines.proofs.LineSpells.{line_length, count_spells, numbers_length, row_count, row_spells, arc_spells}
 use Rattle.grammar_lines.specs.Parts.{free_by, ArcsAreTaken, RowsAreTaken}
 use Rattle.grammar_lines.proofs.ArcSteps.{free_push}

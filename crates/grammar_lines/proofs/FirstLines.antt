@@ -3,8 +3,8 @@ use Rattle.std.proofs.Common.{◌≡◌, ◌+◌, ◌<◌, ℕ, zero, suc, List,
 use Rattle.rinex_head.specs.declared.place.Flaw.{Flaw}
 use Rattle.rinex_head.specs.declared.place.At.{At}
 use Rattle.rinex_head.specs.Places.{and_then, place, at_line}
-use Rattle.rinex_head.specs.Walk.{Rules, admitted, walk}
-use Rattle.rinex_head.proofs.Walks.{walk-takes, walk-took}
+use Rattle.rinex_head.specs.LineRules.{Rules, admitted, walk}
+use Rattle.rinex_head.proofs.LineRuleLaws.{walk-takes, walk-took}
 use Rattle.rinex_head.proofs.Stops.{at_line-number}
 
 -- the place is after the lines that were read before

@@ -5,8 +5,8 @@ use Rattle.rinex_head.specs.declared.place.Flaw.{Flaw}
 use Rattle.rinex_head.specs.declared.place.At.{At}
 use Rattle.rinex_head.specs.declared.place.What.TheVariants.{BadLine}
 use Rattle.rinex_head.specs.Places.{place, and_then, at_line}
-use Rattle.rinex_head.specs.Walk.{Rules, rest_gives, HasNoLine, ReadsFree, Reads}
-use Rattle.rinex_head.proofs.Walks.{goes_on, stops, has_none, handed_on}
+use Rattle.rinex_head.specs.LineRules.{Rules, rest_gives, HasNoLine, ReadsFree, Reads}
+use Rattle.rinex_head.proofs.LineRuleLaws.{goes_on, stops, has_none, handed_on}
 use Rattle.grammar_lines.specs.LineParts.{TakesLine}
 use Rattle.rinex_head.specs.declared.place.TextFault.{TextFault}
 

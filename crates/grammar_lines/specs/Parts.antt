@@ -2,7 +2,7 @@
 use Rattle.std.specs.Prelude.{◌≡◌, ◌≤◌, ◌+◌, ◌-◌, ℕ, List, [], ◌∷◌, ◌++◌, Bool, if◌then◌else◌}
 use Rattle.obs_rows.specs.declared.arcs.Arc.{Arc}
 use Rattle.obs_rows.specs.Arcs.{free_count}
-use Rattle.rinex_head.specs.Walk.{Rules}
+use Rattle.rinex_head.specs.LineRules.{Rules}
 use Rattle.cert_lines.specs.declared.version.Version.{Version}
 use Rattle.cert_lines.specs.Forms.{arc_in, row_in}
 use Rattle.grammar_lines.specs.LineParts.{TakesLine}

@@ -6,7 +6,7 @@ ghost use Rattle.obs_rows.specs.declared.units.TheConstants.{MOST_FREE_ARCS};
 ghost use Rattle.obs_rows.specs.Signals.{fine_signals};
 ghost use Rattle.obs_rows.specs.Unused.{HasUsedShifts};
 ghost use Rattle.cert_lines.specs.Versions.{most_sat};
-ghost use Rattle.rinex_head.specs.Walk.{Reads, ReadsFree};
+ghost use Rattle.rinex_head.specs.LineRules.{Reads, ReadsFree};
 ghost use Rattle.cert_lines.specs.Lines.{arc_line, arc_lines, counted_arcs};
 ghost use Rattle.cert_lines.specs.Forms.{count_in, arc_in, may_stand};
 ghost use Rattle.grammar_lines.specs.LineParts.{TakesLine};

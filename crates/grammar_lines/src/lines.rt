@@ -3,7 +3,7 @@
 ghost use Rattle.std.specs.Prelude.{◌≡◌, ◌≤◌, ◌<◌, ◌^◌, unsigned_abs, ◌∷◌, ℕ, ℤ, List, Bool, All, IfOk, OnOk};
 ghost use Rattle.obs_rows.specs.Ranges.{IsBelow, IsSystem};
 ghost use Rattle.obs_rows.specs.declared.limits.TheConstants.{MOST_PAIRS, MOST_SATELLITES};
-ghost use Rattle.rinex_head.specs.Walk.{ReadsFree};
+ghost use Rattle.rinex_head.specs.LineRules.{ReadsFree};
 ghost use Rattle.cert_words.specs.Numbers.{IsIn};
 ghost use Rattle.cert_lines.specs.Lines.{count_line, vector_line, system_line, signals_line, pair_line, values_line, last_line};
 ghost use Rattle.cert_lines.specs.Versions.{group_limit};

@@ -5,7 +5,7 @@ ghost use Rattle.obs_rows.specs.Pairs.{HasItsArcs};
 ghost use Rattle.obs_rows.specs.Signals.{fine_signals};
 ghost use Rattle.obs_rows.specs.Unused.{IsZeroOff, HasUsedRows};
 ghost use Rattle.obs_rows.specs.declared.limits.TheConstants.{MOST_PAIRS, MOST_SATELLITES};
-ghost use Rattle.rinex_head.specs.Walk.{Reads, ReadsFree};
+ghost use Rattle.rinex_head.specs.LineRules.{Reads, ReadsFree};
 ghost use Rattle.cert_lines.specs.Lines.{row_line, row_lines};
 ghost use Rattle.cert_lines.specs.Forms.{row_in};
 ghost use Rattle.grammar_lines.specs.LineParts.{TakesLine};

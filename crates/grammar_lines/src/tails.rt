@@ -3,7 +3,7 @@ ghost use Rattle.std.specs.Prelude.{◌≡◌, ◌≤◌, ◌∷◌, [], ℤ, Li
 ghost use Rattle.integer_form.specs.Kept.{IsZeroFrom};
 ghost use Rattle.int_search.specs.Vectors.{IsSmall};
 ghost use Rattle.rinex_head.specs.Places.{at_line};
-ghost use Rattle.rinex_head.specs.Walk.{rest_gives, ReadsFree};
+ghost use Rattle.rinex_head.specs.LineRules.{rest_gives, ReadsFree};
 ghost use Rattle.cert_lines.specs.Lines.{vector_line, named_line};
 ghost use Rattle.cert_lines.specs.Forms.{vector_in};
 ghost use Rattle.cert_lines.specs.declared.ranges.TheConstants.{ENTRIES};

@@ -7,7 +7,7 @@ pub mod PointLaws
 pub mod ImageLaws
 pub mod OfferLaws
 pub mod LevelMoves
-pub mod WalkLaws
+pub mod SearchStateLaws
 pub mod StartLaws
 pub mod PlainLaws
 pub mod ReducedLaws

@@ -12,7 +12,7 @@ use Rattle.int_search.specs.Order.{IsLess}
 use Rattle.int_search.specs.PlainCount.{HasLarge}
 use Rattle.int_search.specs.Images.{image_of}
 use Rattle.int_search.specs.SearchedForm.{search_form}
-use Rattle.int_search.specs.Walk.{search_image, IsTooWide}
+use Rattle.int_search.specs.SearchStates.{search_image, IsTooWide}
 use Rattle.int_search.specs.Answers.{IsAnswer, IsFault, IsTwoBest, IsVisitedIn, IsSearchTooWide}
 use Rattle.int_search.specs.declared.answer.TwoBest.{TwoBest}
 use Rattle.int_search.specs.declared.answer.SearchFault.{SearchFault}

@@ -28,7 +28,7 @@ use Rattle.int_search.specs.VisitOrder.{IsReached}
 use Rattle.int_search.specs.Order.{IsLess}
 use Rattle.int_search.specs.Images.{image_of, IsMap}
 use Rattle.int_search.specs.SearchedForm.{search_form}
-use Rattle.int_search.specs.Walk.{CanSearch, search_image, IsTooWide}
+use Rattle.int_search.specs.SearchStates.{CanSearch, search_image, IsTooWide}
 use Rattle.int_search.specs.Answers.{IsAnswer, IsFault, IsTwoBest}
 use Rattle.int_search.specs.ReducedCounts.{decorrelated, HasCountIn, IsVisitedInMap}
 use Rattle.int_search.specs.declared.answer.TwoBest.{TwoBest}

@@ -8,7 +8,7 @@ use Rattle.int_search.specs.Order.{IsOneToOne}
 use Rattle.int_search.proofs.VisitLaws.{wide_more, wide_image_more}
 use Rattle.int_search.specs.Vectors.{Holds, suffix}
 use Rattle.int_search.specs.Orders.{IsRankLess}
-use Rattle.int_search.specs.Walk.{IsFresh, BeginsWith, IsTooWide}
+use Rattle.int_search.specs.SearchStates.{IsFresh, BeginsWith, IsTooWide}
 use Rattle.int_search.specs.declared.walk.SearchState.{SearchState}
 use Rattle.int_search.proofs.OfferLaws.{less_of}
 use Rattle.int_search.proofs.PointLaws.{counts_end, neighbour_differs, rounded_length, neighbour_length}

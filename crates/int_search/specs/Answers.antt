@@ -10,7 +10,7 @@ use Rattle.int_search.specs.VisitOrder.{IsWide}
 use Rattle.int_search.specs.Order.{AreTwoLeast}
 use Rattle.int_search.specs.Vectors.{IsSmall, Holds}
 use Rattle.int_search.specs.SearchedForm.{search_form}
-use Rattle.int_search.specs.Walk.{IsTooWide}
+use Rattle.int_search.specs.SearchStates.{IsTooWide}
 use Rattle.int_search.specs.declared.answer.TwoBest.{TwoBest}
 use Rattle.int_search.specs.declared.answer.SearchFault.{SearchFault}
 use Rattle.int_search.specs.declared.answer.SearchFault.TheVariants.{Spent, Overwidth}

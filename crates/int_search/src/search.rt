@@ -1,7 +1,7 @@
 //! The searches.
 ghost use Rattle.std.specs.Prelude.{◌≡◌, ◌<◌, IfOk, MatchResult, Err};
 ghost use Rattle.int_search.specs.SearchedForm.{search_form};
-ghost use Rattle.int_search.specs.Walk.{CanSearch, search_image};
+ghost use Rattle.int_search.specs.SearchStates.{CanSearch, search_image};
 ghost use Rattle.int_search.specs.Answers.{IsAnswer, IsFault, IsTwoBest, IsVisitedIn, IsPlainCountOver, IsSearchTooWide};
 ghost use Rattle.int_search.specs.declared.answer.SearchFault.TheVariants as SearchFault;
 

@@ -5,7 +5,7 @@ ghost use Rattle.int_search.specs.PlainCount.{HasLarge};
 ghost use Rattle.int_search.specs.VisitOrder.{IsWideIn};
 ghost use Rattle.int_search.specs.Vectors.{IsSmall, suffix};
 ghost use Rattle.int_search.specs.SearchedForm.{search_form};
-ghost use Rattle.int_search.specs.Walk.{CanSearch, search_image, IsWalk, IsFresh, BeginsWith, IsReach, IsPassed, IsPlainWalk, IsTooWide, Offers, Visits, Gives};
+ghost use Rattle.int_search.specs.SearchStates.{CanSearch, search_image, IsWalk, IsFresh, BeginsWith, IsReach, IsPassed, IsPlainWalk, IsTooWide, Offers, Visits, Gives};
 
 use crate::best::Best;
 use crate::images::image;

@@ -1,5 +1,5 @@
 pub mod Factors
 pub mod Kept
 pub mod Forms
-pub mod Told
+pub mod ReportedRefusals
 pub mod FloatPoint

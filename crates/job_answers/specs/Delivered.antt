@@ -4,7 +4,7 @@ use Rattle.std.specs.declared.option.Option.{Option}
 use Rattle.std.specs.Io.KnownBytes.{Appends}
 use Rattle.line_source.specs.declared.Sink.{Ghosts}
 use Rattle.line_source.specs.Causes.{StopsAtFault}
-use Rattle.line_source.specs.Told.{AppendsPrefix}
+use Rattle.line_source.specs.Reports.{AppendsPrefix}
 use Rattle.job_answers.specs.declared.status.Status.{Status}
 use Rattle.job_answers.specs.declared.status.Status.TheVariants.{WriteFault}
 use Rattle.job_answers.specs.Statuses.{IsVerdictStatus}

@@ -1,6 +1,6 @@
 //! The commands on one file.
 ghost use Rattle.std.specs.Prelude.{◌≤◌, [], ◌∷◌, length, IfOk};
-ghost use Rattle.rinex_head.specs.Walk.{IfRefused};
+ghost use Rattle.rinex_head.specs.LineRules.{IfRefused};
 ghost use Rattle.job_answers.specs.Answers.{ending_of, IfEnded};
 ghost use Rattle.job_answers.specs.Works.{file_work, NoLine, IsDoneOver};
 ghost use Rattle.job_answers.specs.TextJobs.{TextJob, IsAnswered, IsRefusedAt, EndsOnText, TextEnds};

@@ -2,7 +2,7 @@
 ghost use Rattle.std.specs.Prelude.{◌≡◌, ◌≢◌, ◌+◌, ◌≤◌, ◌<◌, ◌++◌, ℕ, List, [], ◌∷◌, length, IfSome, OnOk, OnErr, IsErrOf, ⊤};
 ghost use Rattle.line_source.specs.Causes.{Rose};
 ghost use Rattle.line_source.specs.Openings.{OpensIt, OpensFirst, IsReadToEnd, unread};
-ghost use Rattle.line_source.specs.Told.{Same, Stays};
+ghost use Rattle.line_source.specs.Reports.{Same, Stays};
 ghost use Rattle.line_source.specs.Pieces.{IsTakenWhole};
 
 use crate::{Failed, Files, LoadFault, MAX_FILE};

@@ -11,7 +11,7 @@ use Rattle.integer_form.specs.declared.form.Form.{Form}
 use Rattle.integer_form.specs.declared.faults.LowerFault.{LowerFault}
 use Rattle.integer_form.specs.Factors.{stored}
 use Rattle.integer_form.specs.Kept.{form_of_table, constant_form}
-use Rattle.integer_form.specs.Told.{IsToldAs}
+use Rattle.integer_form.specs.ReportedRefusals.{IsToldAs}
 use Rattle.elimination.specs.Taken.{before}
 use Rattle.lower_form.specs.FirstRounding.{first_form}
 use Rattle.lower_form.specs.Fronts.{front_of}

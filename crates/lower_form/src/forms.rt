@@ -7,7 +7,7 @@ ghost use Rattle.normal_sum.specs.Normals.{IsNormalOf};
 ghost use Rattle.normal_sum.specs.Values.{form_of};
 ghost use Rattle.integer_form.specs.declared.front_form.FrontForm.{FrontForm};
 ghost use Rattle.integer_form.specs.Forms.{columns_of};
-ghost use Rattle.integer_form.specs.Told.{IsToldAs};
+ghost use Rattle.integer_form.specs.ReportedRefusals.{IsToldAs};
 ghost use Rattle.elimination.specs.Finish.{IsFinishOf};
 ghost use Rattle.lower_form.specs.Fronts.{BoundsAllData};
 ghost use Rattle.lower_form.specs.Forms.{IsFrontOf, IsLowerOf, elimination_of};

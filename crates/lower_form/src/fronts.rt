@@ -9,7 +9,7 @@ ghost use Rattle.normal_sum.specs.Normals.{IsNormalOf};
 ghost use Rattle.normal_sum.specs.Values.{form_of};
 ghost use Rattle.elimination.specs.Stops.{refusal_of};
 ghost use Rattle.integer_form.specs.Factors.{stored};
-ghost use Rattle.integer_form.specs.Told.{IsToldAs};
+ghost use Rattle.integer_form.specs.ReportedRefusals.{IsToldAs};
 ghost use Rattle.integer_form.specs.Kept.{form_of_table};
 ghost use Rattle.lower_form.specs.Fronts.{front_of, BoundsAllData};
 ghost use Rattle.lower_form.specs.Forms.{IsFrontOf};

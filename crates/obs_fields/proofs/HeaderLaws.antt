@@ -3,8 +3,8 @@ use Rattle.std.proofs.Common.{◌≡◌, ◌≤◌, ◌<◌, ◌+◌, ℕ, ℤ, 
 use Rattle.rinex_head.specs.declared.place.What.TheVariants.{NoEnd}
 use Rattle.rinex_head.specs.declared.place.Flaw.{Flaw}
 use Rattle.rinex_head.specs.Places.{and_then, flawed, at_line}
-use Rattle.rinex_head.specs.Walk.{Rules, walk}
-use Rattle.rinex_head.proofs.Walks.{walk-takes, walk-end, TookLine, walk-took}
+use Rattle.rinex_head.specs.LineRules.{Rules, walk}
+use Rattle.rinex_head.proofs.LineRuleLaws.{walk-takes, walk-end, TookLine, walk-took}
 use Rattle.obs_fields.specs.Types.{first_types_of, further_types_of}
 use Rattle.obs_fields.specs.declared.header_line.HeaderLine.{HeaderLine}
 use Rattle.obs_fields.specs.declared.header_line.HeaderLine.TheVariants as header

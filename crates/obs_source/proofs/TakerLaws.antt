@@ -12,8 +12,8 @@ use Rattle.rinex_head.specs.declared.place.At.{At}
 use Rattle.rinex_head.specs.declared.place.What.TheVariants.{LongLine}
 use Rattle.rinex_head.specs.Head.{trimmed}
 use Rattle.rinex_head.specs.Places.{place}
-use Rattle.rinex_head.specs.Walk.{Gives}
-use Rattle.rinex_head.proofs.Walks.{gives_same}
+use Rattle.rinex_head.specs.LineRules.{Gives}
+use Rattle.rinex_head.proofs.LineRuleLaws.{gives_same}
 use Rattle.rinex_obs.specs.Feeding.{IsAnswerTo}
 use Rattle.rinex_obs.specs.ObsRules.{First, obs_rules, obs_of}
 use Rattle.rinex_obs.specs.Started.{EndsLine, GoesOn}

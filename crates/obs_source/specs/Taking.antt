@@ -8,7 +8,7 @@ use Rattle.rinex_head.specs.declared.place.TextFault.{TextFault}
 use Rattle.rinex_head.specs.declared.system.System.{System}
 use Rattle.rinex_head.specs.declared.system.System.TheVariants.{Gps}
 use Rattle.rinex_head.specs.FirstFailing.{IsFirstFailing}
-use Rattle.rinex_head.specs.Walk.{Gives, OnRefusal, IfRefused}
+use Rattle.rinex_head.specs.LineRules.{Gives, OnRefusal, IfRefused}
 use Rattle.rinex_obs.specs.Fed.{StandsFor}
 use Rattle.rinex_obs.specs.ObsRules.{obs_of}
 use Rattle.rinex_obs.specs.Started.{GoesOn}

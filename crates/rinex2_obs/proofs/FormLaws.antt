@@ -8,8 +8,8 @@ use Rattle.obs_store.specs.declared.series.Epoch.{Epoch}
 use Rattle.obs_store.specs.declared.values.Value.{Value}
 use Rattle.obs_store.specs.declared.values.SatObs.{SatObs}
 use Rattle.obs_store.specs.Missing.{missing_values}
-use Rattle.rinex_head.specs.Walk.{walk}
-use Rattle.rinex_head.proofs.Walks.{walk-takes, walk-end}
+use Rattle.rinex_head.specs.LineRules.{walk}
+use Rattle.rinex_head.proofs.LineRuleLaws.{walk-takes, walk-end}
 use Rattle.rinex2_obs.specs.Profile.{kept_of}
 use Rattle.rinex2_obs.specs.Rows.{rows_of}
 use Rattle.rinex2_obs.specs.declared.header.Header.{Header}

@@ -13,7 +13,7 @@ use Rattle.rinex_head.specs.declared.place.Flaw.{Flaw}
 use Rattle.rinex_head.specs.declared.system.System.TheVariants.{Gps}
 use Rattle.rinex_head.specs.Columns.{padded, columns}
 use Rattle.rinex_head.specs.Head.{trimmed}
-use Rattle.rinex_head.specs.Walk.{text_gives, Gives}
+use Rattle.rinex_head.specs.LineRules.{text_gives, Gives}
 use Rattle.rinex_head.specs.FirstFailing.{IsFileOf}
 use Rattle.rinex_head.proofs.Stops.{Completes, CanEnd, is_line, with_line, with_end}
 use Rattle.obs_fields.specs.declared.labels.Label.TheVariants as label

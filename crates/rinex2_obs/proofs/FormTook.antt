@@ -13,8 +13,8 @@ use Rattle.rinex_head.specs.declared.place.What.{What}
 use Rattle.rinex_head.specs.declared.place.What.TheVariants.{ObsVersion, Truncated}
 use Rattle.rinex_head.specs.declared.place.Flaw.{Flaw}
 use Rattle.rinex_head.specs.Places.{and_then, flawed, at_line}
-use Rattle.rinex_head.specs.Walk.{walk}
-use Rattle.rinex_head.proofs.Walks.{walk-end, TookLine, walk-took}
+use Rattle.rinex_head.specs.LineRules.{walk}
+use Rattle.rinex_head.proofs.LineRuleLaws.{walk-end, TookLine, walk-took}
 use Rattle.obs_fields.specs.declared.layout.Layout.TheVariants.{Rinex2}
 use Rattle.obs_fields.specs.Events.{EventPart, AreEventLines}
 use Rattle.obs_fields.specs.Labels.{event_line_of}

@@ -10,8 +10,8 @@ use Rattle.rinex_head.specs.declared.place.What.TheVariants.{NoEnd, Types, Trunc
 use Rattle.line_source.specs.Lines.{Reading}
 use Rattle.rinex_head.specs.declared.place.TextFault.{TextFault}
 use Rattle.rinex_head.specs.Places.{and_then, flawed}
-use Rattle.rinex_head.specs.Walk.{rest_gives, Reads}
-use Rattle.rinex_head.proofs.Walks.{handed_on}
+use Rattle.rinex_head.specs.LineRules.{rest_gives, Reads}
+use Rattle.rinex_head.proofs.LineRuleLaws.{handed_on}
 use Rattle.obs_fields.specs.declared.layout.Layout.TheVariants.{Rinex2}
 use Rattle.obs_fields.specs.declared.types.KeptType.{KeptType}
 use Rattle.obs_fields.specs.SatFields.{values_in}

@@ -13,7 +13,7 @@ use Rattle.rinex_head.specs.declared.place.At.{At}
 use Rattle.rinex_head.specs.declared.place.Flaw.{Flaw}
 use Rattle.rinex_head.specs.declared.place.What.TheVariants.{ObsVersion, NoEnd, Types, Truncated}
 use Rattle.rinex_head.specs.Places.{and_then, flawed}
-use Rattle.rinex_head.specs.Walk.{Rules, text_gives}
+use Rattle.rinex_head.specs.LineRules.{Rules, text_gives}
 use Rattle.obs_fields.specs.Types.{first_types_of, further_types_of}
 use Rattle.obs_fields.specs.declared.layout.Layout.TheVariants.{Rinex2}
 use Rattle.obs_fields.specs.Labels.{event_line_of}

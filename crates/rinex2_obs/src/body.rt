@@ -1,6 +1,6 @@
 //! The body: blank lines, epochs and events.
 ghost use Rattle.std.specs.Prelude.{◌≡◌, []};
-ghost use Rattle.rinex_head.specs.Walk.{rest_gives, Gives};
+ghost use Rattle.rinex_head.specs.LineRules.{rest_gives, Gives};
 ghost use Rattle.rinex2_obs.specs.Profile.{kept_of};
 ghost use Rattle.rinex2_obs.specs.Obs2Rules.{Body, file_of, obs2_rules};
 

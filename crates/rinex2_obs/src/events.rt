@@ -1,7 +1,7 @@
 //! The lines of events, and those of cycle slips (flag 6), which are skipped.
 ghost use Rattle.std.specs.Prelude.{◌≡◌, ◌≤◌, ◌*◌, List, ℕ, length};
 ghost use Rattle.obs_store.specs.declared.series.Epoch.{Epoch};
-ghost use Rattle.rinex_head.specs.Walk.{ReadsFree};
+ghost use Rattle.rinex_head.specs.LineRules.{ReadsFree};
 ghost use Rattle.rinex2_obs.specs.Rows.{rows_of, further_lines_of};
 ghost use Rattle.rinex2_obs.specs.declared.header.Header.{Header};
 ghost use Rattle.rinex2_obs.specs.Obs2Rules.{Body, more_lines, more_slips, obs2_rules};

@@ -2,7 +2,7 @@
 ghost use Rattle.std.specs.Prelude.{◌≡◌, ◌+◌, ◌≤◌, [], length};
 ghost use Rattle.decimal_text.specs.Fixed.{fixed_of};
 ghost use Rattle.rinex_head.specs.Columns.{columns};
-ghost use Rattle.rinex_head.specs.Walk.{ReadsFree};
+ghost use Rattle.rinex_head.specs.LineRules.{ReadsFree};
 ghost use Rattle.rinex2_obs.specs.FirstLine.{version_number, of_kind, first_line_of};
 ghost use Rattle.rinex2_obs.specs.Rows.{rows_of};
 ghost use Rattle.rinex2_obs.specs.Obs2Rules.{HeaderSoFar, First, Head, Body, bare_header, with_types, more_types, obs2_rules};

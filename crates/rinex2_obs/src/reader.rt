@@ -3,7 +3,7 @@ ghost use Rattle.std.specs.Prelude.{◌≡◌, ◌≤◌, length, IfOk};
 ghost use Rattle.obs_store.specs.declared.file.ObsFile.{ObsFile};
 ghost use Rattle.line_source.specs.Lines.{lines_of};
 ghost use Rattle.rinex_head.specs.FirstFailing.{IsFirstFailing};
-ghost use Rattle.rinex_head.specs.Walk.{rest_gives, Gives, OnRefusal, IfRefused};
+ghost use Rattle.rinex_head.specs.LineRules.{rest_gives, Gives, OnRefusal, IfRefused};
 ghost use Rattle.rinex2_obs.specs.Obs2Form.{IsObs2File, HasObs2File};
 ghost use Rattle.rinex2_obs.specs.Obs2Rules.{First, obs2_rules, obs2_of};
 

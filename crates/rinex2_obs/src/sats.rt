@@ -6,7 +6,7 @@ ghost use Rattle.obs_store.specs.declared.series.Epoch.{Epoch};
 ghost use Rattle.obs_store.specs.declared.values.SatObs.{SatObs};
 ghost use Rattle.obs_store.specs.Missing.{missing_values};
 ghost use Rattle.obs_store.specs.Epochs.{epoch_of};
-ghost use Rattle.rinex_head.specs.Walk.{Reads, ReadsFree};
+ghost use Rattle.rinex_head.specs.LineRules.{Reads, ReadsFree};
 ghost use Rattle.rinex2_obs.specs.Profile.{kept_of};
 ghost use Rattle.rinex2_obs.specs.SatNumbers.{AreNames, AreNew, IsWith};
 ghost use Rattle.rinex2_obs.specs.declared.header.Header.{Header};

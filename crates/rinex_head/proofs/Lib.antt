@@ -1,4 +1,4 @@
-pub mod Walks
+pub mod LineRuleLaws
 pub mod Stops
 pub mod ColumnLaws
 pub mod HeadLaws

@@ -3,7 +3,7 @@ use Rattle.std.proofs.Common.{◌≡◌, ℕ, ◌+◌, List, [], ◌∷◌, ◌+
 use Rattle.rinex_head.specs.declared.place.Flaw.{Flaw}
 use Rattle.rinex_head.specs.declared.place.At.{At}
 use Rattle.rinex_head.specs.Places.{and_then, at_line}
-use Rattle.rinex_head.specs.Walk.{Rules, admitted, walk, text_gives}
+use Rattle.rinex_head.specs.LineRules.{Rules, admitted, walk, text_gives}
 use Rattle.rinex_head.specs.OwnFlaws.{AreAdmitted, HasFlaw, IsOwnFlaw}
 
 abbrev flaw_of : At → Flaw

@@ -9,9 +9,9 @@ use Rattle.rinex_head.specs.declared.place.What.TheVariants.{LongLine}
 use Rattle.rinex_head.specs.Places.{and_then, flawed, place, at_line}
 use Rattle.rinex_head.specs.declared.place.TextFault.{TextFault}
 use Rattle.rinex_head.specs.declared.place.TextFault.TheVariants.{Refused, NoMemory}
-use Rattle.rinex_head.specs.Walk.{Rules, admitted, walk, text_gives, Gives, OnRefusal, IfRefused}
+use Rattle.rinex_head.specs.LineRules.{Rules, admitted, walk, text_gives, Gives, OnRefusal, IfRefused}
 use Rattle.rinex_head.specs.FirstFailing.{IsLine, IsStuck, IsFirstFailing, IsFileOf}
-use Rattle.rinex_head.proofs.Walks.{walk-takes}
+use Rattle.rinex_head.proofs.LineRuleLaws.{walk-takes}
 
 -- the rest of the text fails at once
 abbrev pub FailsHere : {S F : Type 0} → Rules S F → S → ℕ → List (List ℕ) → At → Type 0

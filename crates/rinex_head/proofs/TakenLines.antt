@@ -3,8 +3,8 @@ use Rattle.std.proofs.Common.{◌≡◌, ◌≤◌, ◌+◌, ℕ, List, [], ◌�
 use Rattle.std.proofs.lemmas.List.Elements.{All-nil, All-cons, All-tail}
 use Rattle.rinex_head.specs.declared.place.Flaw.{Flaw}
 use Rattle.rinex_head.specs.Places.{and_then}
-use Rattle.rinex_head.specs.Walk.{Rules, walk}
-use Rattle.rinex_head.proofs.Walks.{walk-took}
+use Rattle.rinex_head.specs.LineRules.{Rules, walk}
+use Rattle.rinex_head.proofs.LineRuleLaws.{walk-took}
 
 -- what holds of each element holds of those after some
 pub All-behind : {X : Type 0} (P : X → Type 0) (xs ys : List X) → All P (xs ++ ys) → All P ys

@@ -1,6 +1,6 @@
 -- The first failing line of a text, by the form of a file alone.
 use Rattle.std.specs.Prelude.{◌≡◌, ◌≢◌, ◌<◌, ℕ, ◌+◌, List, [], ◌∷◌, ◌++◌, length, All, Ok}
-use Rattle.rinex_head.specs.Walk.{Rules, text_gives}
+use Rattle.rinex_head.specs.LineRules.{Rules, text_gives}
 
 -- a line as a text has it: bytes, none of them a line feed
 abbrev pub IsLine : List ℕ → Type 0

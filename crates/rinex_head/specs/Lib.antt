@@ -1,7 +1,7 @@
 pub mod Reasons
 pub mod Systems
 pub mod Places
-pub mod Walk
+pub mod LineRules
 pub mod FirstFailing
 pub mod OwnFlaws
 pub mod Columns

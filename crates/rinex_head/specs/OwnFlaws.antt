@@ -2,7 +2,7 @@
 use Rattle.std.specs.Prelude.{◌≡◌, ℕ, ◌+◌, List, [], ◌∷◌, ◌++◌, length, Ok, Err}
 use Rattle.rinex_head.specs.declared.place.At.{At}
 use Rattle.rinex_head.specs.declared.place.Flaw.{Flaw}
-use Rattle.rinex_head.specs.Walk.{Rules, admitted}
+use Rattle.rinex_head.specs.LineRules.{Rules, admitted}
 
 -- the lines are admitted in turn, and then the last is expected
 abbrev pub AreAdmitted : {S F : Type 0} → Rules S F → S → List (List ℕ) → S → Type 0

@@ -3,7 +3,7 @@
 //!
 //! # How a reader uses the walk
 //!
-//! A reader states its form as `Rules` (specs/Walk.antt), two tables over a type of its own for what is expected
+//! A reader states its form as `Rules` (specs/LineRules.antt), two tables over a type of its own for what is expected
 //! next: `admit` says what a line must be in its place and what is expected after it, `finish` whether the text
 //! may end there. `walk` then says of the whole list of lines what they give, or their first failing place. Lines
 //! that are too long and the numbers of lines are its own and stand in no table.
@@ -13,7 +13,7 @@
 //! the function has read a part of the text, and `after` is expected now; or the text is refused there. The part
 //! that reaches the end has `Gives (rest_gives rules lines.old before) view result`. Each loop has the invariant
 //! `rest_gives rules l.fn.lines before ≡ rest_gives rules l.lines now`, and each answer is the invariant and one
-//! step of proofs/Walks.antt: `goes_on`, `stops_after`, `stops`, `has_none`, `has_long`, `ends_well`, `handed_on`.
+//! step of proofs/LineRuleLaws.antt: `goes_on`, `stops_after`, `stops`, `has_none`, `has_long`, `ends_well`, `handed_on`.
 //!
 //! That the place of a refusal is the first failing line by the form alone, which mentions no rules
 //! (specs/FirstFailing.antt), is `first_failing` of proofs/Stops.antt: it asks for a rest of a text, in bytes,

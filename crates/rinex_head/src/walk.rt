@@ -1,7 +1,7 @@
 //! The next line of a text that is read.
 ghost use Rattle.std.specs.Prelude.{◌≡◌, MatchOption, MatchResult};
 ghost use Rattle.line_source.specs.Lines.{GivesLine, IsAtEnd};
-ghost use Rattle.rinex_head.specs.Walk.{HasNoLine, IsLongLine};
+ghost use Rattle.rinex_head.specs.LineRules.{HasNoLine, IsLongLine};
 
 use crate::fields::flaw;
 use crate::place::{At, What};

@@ -6,8 +6,8 @@ use Rattle.std.proofs.lemmas.List.Elements.{All-head, All-tail}
 use Rattle.decimal_text.specs.Fixed.{are_blank}
 use Rattle.eph_store.specs.declared.record.Raw.{Raw}
 use Rattle.rinex_head.specs.Columns.{column}
-use Rattle.rinex_head.specs.Walk.{walk}
-use Rattle.rinex_head.proofs.Walks.{walk-takes, walk-end}
+use Rattle.rinex_head.specs.LineRules.{walk}
+use Rattle.rinex_head.proofs.LineRuleLaws.{walk-takes, walk-end}
 use Rattle.rinex_head.proofs.TakenLines.{All-behind}
 use Rattle.rinex_head.specs.declared.system.System.{System}
 use Rattle.rinex_head.specs.declared.system.System.TheVariants.{Gps, Galileo}

@@ -7,7 +7,7 @@ use Rattle.rinex_head.specs.declared.place.TextFault.{TextFault}
 use Rattle.rinex_head.specs.Columns.{padded}
 use Rattle.rinex_head.specs.Fields.{exponent_in}
 use Rattle.rinex_head.specs.Head.{trimmed}
-use Rattle.rinex_head.specs.Walk.{text_gives, Gives}
+use Rattle.rinex_head.specs.LineRules.{text_gives, Gives}
 use Rattle.rinex_head.specs.FirstFailing.{IsFileOf}
 use Rattle.rinex_head.proofs.Stops.{Completes, CanEnd, can_end, with_line, with_end}
 use Rattle.rinex_head.specs.declared.system.System.{System}

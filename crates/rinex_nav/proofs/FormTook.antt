@@ -11,8 +11,8 @@ use Rattle.rinex_head.specs.declared.place.What.TheVariants.{Version, NoEnd, Bad
 use Rattle.rinex_head.specs.declared.place.Flaw.{Flaw}
 use Rattle.rinex_head.specs.Places.{and_then, flawed, at_line}
 use Rattle.rinex_head.specs.Columns.{column}
-use Rattle.rinex_head.specs.Walk.{walk}
-use Rattle.rinex_head.proofs.Walks.{walk-end, TookLine, walk-took}
+use Rattle.rinex_head.specs.LineRules.{walk}
+use Rattle.rinex_head.proofs.LineRuleLaws.{walk-end, TookLine, walk-took}
 use Rattle.rinex_head.proofs.TakenLines.{and_then_took, then_took, walk-short}
 use Rattle.rinex_head.specs.declared.system.System.{System}
 use Rattle.rinex_head.specs.Systems.{letter_of}

@@ -5,7 +5,7 @@ use Rattle.line_source.specs.Lines.{Reading}
 use Rattle.eph_store.specs.declared.record.Raw.{Raw}
 use Rattle.rinex_head.specs.declared.place.At.{At}
 use Rattle.rinex_head.specs.declared.system.System.{System}
-use Rattle.rinex_head.specs.Walk.{rest_gives, ReadsFree}
+use Rattle.rinex_head.specs.LineRules.{rest_gives, ReadsFree}
 use Rattle.rinex_nav.specs.NavRules.{Expected, nav_rules}
 
 pub hands_on : {X : Type 0} (system : System) (s : Expected) (next : X → Expected) (old new : Reading) (r : Result X At) (at : At) → IsErrAnd r (λ e. e ≡ at)

@@ -6,7 +6,7 @@ use Rattle.rinex_head.specs.declared.place.Flaw.{Flaw}
 use Rattle.rinex_head.specs.declared.place.What.TheVariants.{Version, NoEnd, Truncated}
 use Rattle.rinex_head.specs.declared.system.System.{System}
 use Rattle.rinex_head.specs.Places.{and_then, flawed}
-use Rattle.rinex_head.specs.Walk.{Rules, text_gives}
+use Rattle.rinex_head.specs.LineRules.{Rules, text_gives}
 use Rattle.rinex_nav.specs.FirstLine.{first_line_of, ends_header}
 use Rattle.rinex_nav.specs.RecordLines.{body_line_of, continuation_of}
 use Rattle.rinex_nav.specs.declared.record_lines.Start.{Start}

@@ -2,7 +2,7 @@
 ghost use Rattle.std.specs.Prelude.{◌≡◌, ◌<◌, ◌≤◌, List, [], ◌∷◌, ◌++◌, length, false};
 ghost use Rattle.eph_store.specs.declared.record.Raw.{Raw};
 ghost use Rattle.rinex_head.specs.declared.system.System.{System};
-ghost use Rattle.rinex_head.specs.Walk.{rest_gives, ReadsFree, Gives};
+ghost use Rattle.rinex_head.specs.LineRules.{rest_gives, ReadsFree, Gives};
 ghost use Rattle.rinex_nav.specs.declared.record_lines.Start.{Start};
 ghost use Rattle.rinex_nav.specs.declared.record_lines.Quad.{Quad};
 ghost use Rattle.rinex_nav.specs.NavRules.{Body, Further, behind, nav_rules};

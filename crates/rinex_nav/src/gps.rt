@@ -3,7 +3,7 @@ ghost use Rattle.std.specs.Prelude.{◌≡◌, ◌≤◌, List, length, IfOk};
 ghost use Rattle.eph_store.specs.declared.record.Raw.{Raw};
 ghost use Rattle.line_source.specs.Lines.{lines_of};
 ghost use Rattle.rinex_head.specs.FirstFailing.{IsFirstFailing};
-ghost use Rattle.rinex_head.specs.Walk.{Gives, OnRefusal, IfRefused};
+ghost use Rattle.rinex_head.specs.LineRules.{Gives, OnRefusal, IfRefused};
 ghost use Rattle.rinex_nav.specs.GpsForm.{IsNavFile, HasNavFile, nav_of};
 
 use crate::reader::read_records_of;

@@ -2,7 +2,7 @@
 ghost use Rattle.std.specs.Prelude.{◌≡◌, [], false};
 ghost use Rattle.rinex_head.specs.Places.{at_line};
 ghost use Rattle.rinex_head.specs.declared.system.System.{System};
-ghost use Rattle.rinex_head.specs.Walk.{ReadsFree};
+ghost use Rattle.rinex_head.specs.LineRules.{ReadsFree};
 ghost use Rattle.rinex_nav.specs.FirstLine.{of_kind, first_line_of, ends_header};
 ghost use Rattle.rinex_nav.specs.NavRules.{First, Head, Body, nav_rules};
 

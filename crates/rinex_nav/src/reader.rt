@@ -3,7 +3,7 @@ ghost use Rattle.std.specs.Prelude.{◌≡◌, ◌≤◌, List, length, IfOk};
 ghost use Rattle.eph_store.specs.declared.record.Raw.{Raw};
 ghost use Rattle.line_source.specs.Lines.{lines_of};
 ghost use Rattle.rinex_head.specs.FirstFailing.{IsFirstFailing};
-ghost use Rattle.rinex_head.specs.Walk.{rest_gives, Gives, OnRefusal, IfRefused};
+ghost use Rattle.rinex_head.specs.LineRules.{rest_gives, Gives, OnRefusal, IfRefused};
 ghost use Rattle.rinex_nav.specs.NavForm.{IsNavFile, HasNavFile};
 ghost use Rattle.rinex_nav.specs.NavRules.{First, nav_rules, nav_of};
 

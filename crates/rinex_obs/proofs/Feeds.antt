@@ -11,8 +11,8 @@ use Rattle.rinex_head.specs.Places.{place, at_line}
 use Rattle.rinex_head.specs.declared.place.TextFault.{TextFault}
 use Rattle.rinex_head.specs.declared.place.TextFault.TheVariants.{Refused, NoMemory}
 use Rattle.rinex_head.specs.declared.system.System.{System}
-use Rattle.rinex_head.specs.Walk.{Rules, admitted, walk, Gives, FailsBy}
-use Rattle.rinex_head.proofs.Walks.{gives_same}
+use Rattle.rinex_head.specs.LineRules.{Rules, admitted, walk, Gives, FailsBy}
+use Rattle.rinex_head.proofs.LineRuleLaws.{gives_same}
 use Rattle.rinex_head.proofs.Stops.{refused_exit, first_exit}
 use Rattle.obs_store.specs.declared.file.ObsFile.{ObsFile}
 use Rattle.obs_fields.proofs.AmountLaws.{tail_is}

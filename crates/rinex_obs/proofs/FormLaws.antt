@@ -7,8 +7,8 @@ use Rattle.obs_store.specs.Epochs.{epoch_of}
 use Rattle.obs_store.specs.declared.series.Epoch.{Epoch}
 use Rattle.obs_store.specs.declared.values.SatObs.{SatObs}
 use Rattle.rinex_head.specs.declared.system.System.{System}
-use Rattle.rinex_head.specs.Walk.{walk}
-use Rattle.rinex_head.proofs.Walks.{walk-takes, walk-end}
+use Rattle.rinex_head.specs.LineRules.{walk}
+use Rattle.rinex_head.proofs.LineRuleLaws.{walk-takes, walk-end}
 use Rattle.obs_fields.specs.Types.{kept_from}
 use Rattle.obs_fields.specs.declared.layout.Layout.TheVariants.{Rinex3}
 use Rattle.obs_fields.specs.Events.{AreEventLines}

@@ -12,7 +12,7 @@ use Rattle.rinex_head.specs.Head.{trimmed}
 use Rattle.rinex_head.specs.declared.system.System.{System}
 use Rattle.rinex_head.specs.declared.system.System.TheVariants.{Gps, Galileo}
 use Rattle.rinex_head.specs.Systems.{letter_of}
-use Rattle.rinex_head.specs.Walk.{text_gives, Gives}
+use Rattle.rinex_head.specs.LineRules.{text_gives, Gives}
 use Rattle.rinex_head.specs.FirstFailing.{IsFileOf}
 use Rattle.rinex_head.proofs.Stops.{Completes, CanEnd, is_line, with_line, with_end}
 use Rattle.rinex_obs.specs.FirstLine.{first_line_of}

@@ -12,8 +12,8 @@ use Rattle.rinex_head.specs.declared.place.Flaw.{Flaw}
 use Rattle.rinex_head.specs.Places.{and_then, flawed, at_line}
 use Rattle.rinex_head.specs.declared.system.System.{System}
 use Rattle.rinex_head.specs.Systems.{bad_version}
-use Rattle.rinex_head.specs.Walk.{walk}
-use Rattle.rinex_head.proofs.Walks.{walk-end, TookLine, walk-took}
+use Rattle.rinex_head.specs.LineRules.{walk}
+use Rattle.rinex_head.proofs.LineRuleLaws.{walk-end, TookLine, walk-took}
 use Rattle.rinex_obs.specs.FirstLine.{first_line_of}
 use Rattle.obs_fields.specs.Types.{kept_from}
 use Rattle.obs_fields.specs.Events.{EventPart, AreEventLines}

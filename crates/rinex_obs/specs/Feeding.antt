@@ -9,7 +9,7 @@ use Rattle.rinex_head.specs.declared.place.TextFault.TheVariants.{Refused, NoMem
 use Rattle.rinex_head.specs.declared.place.What.TheVariants.{LongLine}
 use Rattle.rinex_head.specs.declared.system.System.{System}
 use Rattle.rinex_head.specs.Places.{at_line, flawed}
-use Rattle.rinex_head.specs.Walk.{walk, Gives, OnRefusal, IfRefused}
+use Rattle.rinex_head.specs.LineRules.{walk, Gives, OnRefusal, IfRefused}
 use Rattle.rinex_head.specs.FirstFailing.{IsFirstFailing}
 use Rattle.rinex_obs.specs.ObsRules.{Expected, admit, obs_rules, obs_of}
 use Rattle.rinex_obs.specs.ObsForm.{IsObsFile, HasObsFile}

@@ -12,7 +12,7 @@ use Rattle.rinex_head.specs.declared.place.What.TheVariants.{NoEnd, Types, Trunc
 use Rattle.rinex_head.specs.declared.system.System.{System}
 use Rattle.rinex_head.specs.Systems.{none_listed, bad_version}
 use Rattle.rinex_head.specs.Places.{and_then, flawed}
-use Rattle.rinex_head.specs.Walk.{Rules, text_gives}
+use Rattle.rinex_head.specs.LineRules.{Rules, text_gives}
 use Rattle.rinex_obs.specs.FirstLine.{first_line_of}
 use Rattle.rinex_obs.specs.HeaderLines.{header_line_of}
 use Rattle.obs_fields.specs.Types.{first_types_of, further_types_of, kept_from, listed_of}

@@ -3,7 +3,7 @@ ghost use Rattle.std.specs.Prelude.{◌≡◌, ◌+◌, ◌≤◌, ◌<◌, ◌+
 ghost use Rattle.std.specs.Str.Lines.{strip_carriage_return};
 ghost use Rattle.rinex_head.specs.Places.{place, at_line};
 ghost use Rattle.rinex_head.specs.declared.system.System.{System};
-ghost use Rattle.rinex_head.specs.Walk.{Gives, FailsBy};
+ghost use Rattle.rinex_head.specs.LineRules.{Gives, FailsBy};
 ghost use Rattle.rinex_obs.specs.ObsRules.{finish};
 ghost use Rattle.rinex_obs.specs.Opened.{expected_in};
 ghost use Rattle.rinex_obs.specs.Feeding.{line_gives, gives_with, Takes, TakesAll, IsAnswerTo};

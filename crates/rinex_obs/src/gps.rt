@@ -4,7 +4,7 @@ ghost use Rattle.line_source.specs.Lines.{lines_of};
 ghost use Rattle.obs_store.specs.declared.file.ObsFile.{ObsFile};
 ghost use Rattle.rinex_obs.specs.GpsForm.{IsObsFile, HasObsFile, obs_of};
 ghost use Rattle.rinex_head.specs.FirstFailing.{IsFirstFailing};
-ghost use Rattle.rinex_head.specs.Walk.{Gives, OnRefusal, IfRefused};
+ghost use Rattle.rinex_head.specs.LineRules.{Gives, OnRefusal, IfRefused};
 
 use crate::reader::read_obs_of;
 use obs_store::ObsFile;

@@ -3,7 +3,7 @@ ghost use Rattle.std.specs.Prelude.{◌≡◌, ◌≤◌, length, IfOk};
 ghost use Rattle.obs_store.specs.declared.file.ObsFile.{ObsFile};
 ghost use Rattle.rinex_head.specs.FirstFailing.{IsFirstFailing};
 ghost use Rattle.line_source.specs.Lines.{lines_of};
-ghost use Rattle.rinex_head.specs.Walk.{Gives, OnRefusal, IfRefused};
+ghost use Rattle.rinex_head.specs.LineRules.{Gives, OnRefusal, IfRefused};
 ghost use Rattle.rinex_obs.specs.ObsForm.{IsObsFile, HasObsFile};
 ghost use Rattle.rinex_obs.specs.ObsRules.{obs_of};
 

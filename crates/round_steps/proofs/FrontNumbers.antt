@@ -11,7 +11,7 @@ use Rattle.integer_form.specs.Factors.{stored}
 use Rattle.integer_form.specs.Kept.{AreKept, IsZeroFrom, IsEliminated, form_of_table, constant_form}
 use Rattle.integer_form.specs.FloatPoint.{solved, float_point, baseline_at}
 use Rattle.integer_form.specs.declared.faults.LowerFault.{LowerFault}
-use Rattle.integer_form.specs.Told.{IsToldAs}
+use Rattle.integer_form.specs.ReportedRefusals.{IsToldAs}
 use Rattle.normal_sum.specs.Values.{form_of}
 use Rattle.lower_form.specs.FirstRounding.{first_form}
 use Rattle.lower_form.specs.Fronts.{front_of}

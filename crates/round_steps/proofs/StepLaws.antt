@@ -7,7 +7,7 @@ use Rattle.obs_rows.specs.Signals.{counted}
 use Rattle.normal_sum.specs.declared.normal.Normal.{Normal}
 use Rattle.normal_sum.specs.Normals.{IsNormalOf}
 use Rattle.normal_sum.specs.Values.{form_of}
-use Rattle.integer_form.specs.Told.{IsToldAs}
+use Rattle.integer_form.specs.ReportedRefusals.{IsToldAs}
 use Rattle.lower_form.specs.Forms.{elimination_of}
 use Rattle.lower_form.proofs.Exponents.{has_exponent}
 use Rattle.integer_form.specs.declared.form.Form.{Form}

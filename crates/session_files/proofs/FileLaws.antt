@@ -10,7 +10,7 @@ use Rattle.obs_source.specs.Taking.{IsAnswer}
 use Rattle.rinex_nav.specs.NavForm.{HasNavFile}
 use Rattle.rinex_nav.specs.NavRules.{nav_of}
 use Rattle.line_source.specs.Lines.{lines_of}
-use Rattle.line_source.specs.Told.{Same}
+use Rattle.line_source.specs.Reports.{Same}
 use Rattle.line_source.specs.Pieces.{IsTakenWhole}
 use Rattle.job_answers.specs.declared.status.Status.TheVariants.{ReadFault}
 use Rattle.job_answers.specs.declared.stop.JobStop.{JobStop}

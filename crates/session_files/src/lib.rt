@@ -13,7 +13,7 @@
 ghost use Rattle.std.specs.Prelude.{◌≡◌, ◌≢◌, ◌≤◌, ℕ, List, [], ◌∷◌, length, IfOk, OnOk, All};
 ghost use Rattle.line_source.specs.Causes.{Rose};
 ghost use Rattle.line_source.specs.Openings.{OpensIt, OpensFirst, IsReadToEnd, unread};
-ghost use Rattle.line_source.specs.Told.{Same, Stays};
+ghost use Rattle.line_source.specs.Reports.{Same, Stays};
 ghost use Rattle.line_source.specs.Pieces.{IsTakenWhole};
 ghost use Rattle.line_source.specs.Lines.{lines_of};
 ghost use Rattle.rinex_head.specs.declared.system.System.{System};

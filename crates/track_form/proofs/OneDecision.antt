@@ -13,7 +13,7 @@ use Rattle.integer_form.specs.declared.faults.Place.{Place}
 use Rattle.integer_form.specs.declared.faults.Place.TheVariants.{Y, Factor as FactorPlace, Entry, Float, Point, Search, Sum}
 use Rattle.integer_form.specs.Factors.{stored}
 use Rattle.integer_form.specs.FloatPoint.{HasWide}
-use Rattle.integer_form.specs.Told.{told}
+use Rattle.integer_form.specs.ReportedRefusals.{told}
 use Rattle.int_search.specs.declared.answer.TwoBest.{TwoBest}
 use Rattle.int_search.specs.Answers.{IsTwoBest}
 use Rattle.fix_decide.specs.Widths.{IsWide}

@@ -8,7 +8,7 @@ use Rattle.normal_sum.specs.declared.normal.Normal.{Normal}
 use Rattle.integer_form.specs.declared.front_form.FrontForm.{FrontForm}
 use Rattle.integer_form.specs.declared.faults.LowerFault.{LowerFault}
 use Rattle.integer_form.specs.declared.faults.LowerFault.TheVariants as fault
-use Rattle.integer_form.specs.Told.{told, IsToldAs}
+use Rattle.integer_form.specs.ReportedRefusals.{told, IsToldAs}
 use Rattle.integer_form.specs.Kept.{form_of_table}
 use Rattle.elimination.specs.StepEntries.{is_small}
 use Rattle.elimination.proofs.SmallEntries.{form_all_small}

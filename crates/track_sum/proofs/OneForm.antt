@@ -16,7 +16,7 @@ use Rattle.integer_form.specs.declared.form.Form.{Form}
 use Rattle.integer_form.specs.FloatPoint.{solved}
 use Rattle.integer_form.specs.Forms.{columns_of}
 use Rattle.integer_form.specs.Kept.{form_of_table}
-use Rattle.integer_form.specs.Told.{IsToldAs, told}
+use Rattle.integer_form.specs.ReportedRefusals.{IsToldAs, told}
 use Rattle.elimination.specs.Finish.{finish_of}
 use Rattle.lower_form.specs.Fronts.{front_of}
 use Rattle.lower_form.proofs.Exponents.{exponent_unique}

@@ -16,7 +16,7 @@ use Rattle.integer_form.specs.declared.front_form.FrontForm.{FrontForm}
 use Rattle.integer_form.specs.declared.form.Form.{Form}
 use Rattle.integer_form.specs.FloatPoint.{HasWide}
 use Rattle.integer_form.specs.Kept.{form_of_table}
-use Rattle.integer_form.specs.Told.{IsToldAs}
+use Rattle.integer_form.specs.ReportedRefusals.{IsToldAs}
 use Rattle.elimination.specs.Finish.{IsFinishOf, finish_of}
 use Rattle.int_search.specs.declared.answer.TwoBest.{TwoBest}
 use Rattle.int_search.specs.Answers.{IsTwoBest}

@@ -10,7 +10,7 @@ use Rattle.normal_sum.specs.Normals.{IsNormalOf}
 use Rattle.normal_sum.specs.Values.{form_of}
 use Rattle.integer_form.specs.declared.front_form.FrontForm.{FrontForm}
 use Rattle.integer_form.specs.declared.faults.LowerFault.{LowerFault}
-use Rattle.integer_form.specs.Told.{IsToldAs}
+use Rattle.integer_form.specs.ReportedRefusals.{IsToldAs}
 use Rattle.integer_form.specs.FloatPoint.{baseline_at}
 use Rattle.lower_form.specs.Forms.{IsFrontOf}
 use Rattle.lower_form.specs.Fronts.{front_of}

@@ -10,7 +10,7 @@ ghost use Rattle.obs_rows.specs.declared.limits.TheConstants.{MOST_PAIRS};
 ghost use Rattle.form_tables.specs.Tables.{entry, zero_rows};
 ghost use Rattle.form_tables.specs.declared.sizes.TheConstants.{MOST_COLUMNS};
 ghost use Rattle.integer_form.specs.declared.front_form.FrontForm.{FrontForm};
-ghost use Rattle.integer_form.specs.Told.{IsToldAs};
+ghost use Rattle.integer_form.specs.ReportedRefusals.{IsToldAs};
 ghost use Rattle.elimination.specs.Finish.{IsFinishOf, finish_of};
 ghost use Rattle.track_sum.specs.Parts.{part_at};
 ghost use Rattle.track_sum.specs.PairFronts.{IsFirstRefused};

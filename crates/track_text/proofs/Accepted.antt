@@ -16,7 +16,7 @@ use Rattle.rinex_head.specs.declared.place.Flaw.{Flaw}
 use Rattle.rinex_head.specs.declared.place.TextFault.{TextFault}
 use Rattle.rinex_head.specs.declared.place.TextFault.TheVariants.{Refused, NoMemory}
 use Rattle.rinex_head.specs.Places.{and_then}
-use Rattle.rinex_head.specs.Walk.{walk, Gives, OnRefusal, IfRefused}
+use Rattle.rinex_head.specs.LineRules.{walk, Gives, OnRefusal, IfRefused}
 use Rattle.line_source.specs.EndedLines.{ended_lines}
 use Rattle.cert_words.proofs.NumberLaws.{AreSmall}
 use Rattle.cert_words.proofs.TextLaws.{lines_of_text}

@@ -7,4 +7,4 @@ pub mod TailSpells
 pub mod Accepted
 pub mod SameStructs
 pub mod SameTrack
-pub mod Begun
+pub mod BegunTracks

@@ -3,7 +3,7 @@ ghost use Rattle.std.specs.Prelude.{◌≡◌, ◌++◌, ℕ, All, IfOk};
 ghost use Rattle.obs_rows.specs.Arcs.{AreArcs};
 ghost use Rattle.obs_rows.specs.Signals.{fine_signals};
 ghost use Rattle.obs_rows.specs.Unused.{HasUsedShifts};
-ghost use Rattle.rinex_head.specs.Walk.{Reads};
+ghost use Rattle.rinex_head.specs.LineRules.{Reads};
 ghost use Rattle.cert_lines.specs.Lines.{counted_arcs};
 ghost use Rattle.cert_lines.specs.Lengths.{IsWholeArc};
 ghost use Rattle.track_text.specs.Rules.{track_rules, frame, ArcCount, PairCount};

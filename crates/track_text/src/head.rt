@@ -2,7 +2,7 @@
 ghost use Rattle.std.specs.Prelude.{◌≡◌, ◌≤◌, ◌++◌, length, IfOk};
 ghost use Rattle.obs_rows.specs.Ranges.{IsPoint, IsSystem};
 ghost use Rattle.obs_rows.specs.Signals.{fine_signals};
-ghost use Rattle.rinex_head.specs.Walk.{ReadsFree};
+ghost use Rattle.rinex_head.specs.LineRules.{ReadsFree};
 ghost use Rattle.track_spelling.specs.Spelling.{track_head_lines};
 ghost use Rattle.track_text.specs.Rules.{track_rules, frame, Form, ArcCount};
 

@@ -1,6 +1,6 @@
 //! The moves of a track's pairs.
 ghost use Rattle.std.specs.Prelude.{◌≡◌, ◌≤◌, ◌++◌, ◌∷◌, ℕ, List, All, length, IfOk};
-ghost use Rattle.rinex_head.specs.Walk.{Reads, ReadsFree};
+ghost use Rattle.rinex_head.specs.LineRules.{Reads, ReadsFree};
 ghost use Rattle.cert_data.specs.Tails.{IsMove};
 ghost use Rattle.track_spelling.specs.Lengths.{AreTriples};
 ghost use Rattle.track_spelling.specs.Spelling.{move_line, move_lines};

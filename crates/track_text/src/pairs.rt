@@ -6,7 +6,7 @@ ghost use Rattle.obs_rows.specs.Ranges.{IsPoint};
 ghost use Rattle.obs_rows.specs.Signals.{fine_signals};
 ghost use Rattle.obs_rows.specs.Unused.{HasUsedRows};
 ghost use Rattle.obs_rows.specs.declared.limits.TheConstants.{MOST_SATELLITES};
-ghost use Rattle.rinex_head.specs.Walk.{Reads, ReadsFree};
+ghost use Rattle.rinex_head.specs.LineRules.{Reads, ReadsFree};
 ghost use Rattle.cert_lines.specs.Lengths.{IsWholePair};
 ghost use Rattle.cert_lines.specs.Lines.{pair_line, vector_line};
 ghost use Rattle.track_spelling.specs.Lengths.{AreTriples};

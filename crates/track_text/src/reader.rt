@@ -1,6 +1,6 @@
 //! The certificate of a track, read.
 ghost use Rattle.std.specs.Prelude.{◌≡◌, ◌≤◌, [], length, Ok, Err, IfOk, MatchResult};
-ghost use Rattle.rinex_head.specs.Walk.{rest_gives, Gives, OnRefusal, IfRefused};
+ghost use Rattle.rinex_head.specs.LineRules.{rest_gives, Gives, OnRefusal, IfRefused};
 ghost use Rattle.track_data.specs.declared.certs.TrackCert.{TrackCert};
 ghost use Rattle.track_spelling.specs.Spelling.{lines_of_track, track_spelling};
 ghost use Rattle.track_spelling.specs.Lengths.{IsWholeTrackCert, IsTrackCertificate};

@@ -4,7 +4,7 @@ ghost use Rattle.obs_rows.specs.declared.arcs.Arc.{Arc};
 ghost use Rattle.obs_rows.specs.Integers.{integer_count};
 ghost use Rattle.integer_form.specs.Kept.{IsZeroFrom};
 ghost use Rattle.int_search.specs.Vectors.{IsSmall};
-ghost use Rattle.rinex_head.specs.Walk.{Reads};
+ghost use Rattle.rinex_head.specs.LineRules.{Reads};
 ghost use Rattle.cert_lines.specs.Lines.{vector_line};
 ghost use Rattle.track_data.specs.TrackTails.{IsTrackTailOf};
 ghost use Rattle.track_spelling.specs.Spelling.{track_tail_lines};

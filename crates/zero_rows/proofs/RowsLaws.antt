@@ -10,9 +10,9 @@ use Rattle.rinex_head.specs.declared.place.Flaw.{Flaw}
 use Rattle.rinex_head.specs.declared.place.What.TheVariants.{BadLine, BadRange}
 use Rattle.rinex_head.specs.Places.{and_then, flawed, at_line}
 use Rattle.rinex_head.specs.declared.place.TextFault.{TextFault}
-use Rattle.rinex_head.specs.Walk.{walk, Gives}
+use Rattle.rinex_head.specs.LineRules.{walk, Gives}
 use Rattle.rinex_head.specs.FirstFailing.{IsFileOf}
-use Rattle.rinex_head.proofs.Walks.{walk-takes, walk-end, walk-took}
+use Rattle.rinex_head.proofs.LineRuleLaws.{walk-takes, walk-end, walk-took}
 use Rattle.rinex_head.proofs.Stops.{Completes, CanEnd, can_end, with_line, with_end}
 use Rattle.zero_rows.specs.Rows.{Rows, rows, AreDiffLines, AreRows, IsNumberLine, IsZeroFile}
 use Rattle.zero_rows.specs.RowsRules.{Expected, Head, Claim, Diff, claimed, with_diff, with_some, admit, finish, within, number_behind, rows_rules, rows_of}

@@ -7,7 +7,7 @@ use Rattle.rinex_head.specs.declared.place.At.{At}
 use Rattle.rinex_head.specs.declared.place.Flaw.{Flaw}
 use Rattle.rinex_head.specs.declared.place.What.TheVariants.{BadLine, BadRange}
 use Rattle.rinex_head.specs.Places.{and_then, flawed}
-use Rattle.rinex_head.specs.Walk.{Rules, text_gives}
+use Rattle.rinex_head.specs.LineRules.{Rules, text_gives}
 use Rattle.zero_rows.specs.Rows.{Rows, rows}
 
 -- the number in a line after a word: first its shape, then its range

@@ -3,7 +3,7 @@ ghost use Rattle.std.specs.Prelude.{◌≡◌, ◌<◌, ◌≤◌, ℤ, List, le
 ghost use Rattle.decimal_text.specs.Whole.{size_of};
 ghost use Rattle.line_source.specs.Lines.{lines_of};
 ghost use Rattle.rinex_head.specs.FirstFailing.{IsFirstFailing};
-ghost use Rattle.rinex_head.specs.Walk.{rest_gives, ReadsFree, Gives, OnRefusal, IfRefused};
+ghost use Rattle.rinex_head.specs.LineRules.{rest_gives, ReadsFree, Gives, OnRefusal, IfRefused};
 ghost use Rattle.zero_rows.specs.Rows.{rows, AreRows, IsZeroFile};
 ghost use Rattle.zero_rows.specs.RowsRules.{Head, claimed, number_behind, rows_rules, rows_of};
 

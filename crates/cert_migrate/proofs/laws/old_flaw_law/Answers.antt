@@ -1,7 +1,7 @@
 use Rattle.std.proofs.Common.{◌≡◌, ℕ, ◌+◌, List, [], ◌∷◌, Result, Ok, Err, refl, ◌∙◌}
 use Rattle.rinex_head.specs.declared.place.Flaw.{Flaw}
 use Rattle.rinex_head.specs.Places.{and_then, at_line}
-use Rattle.rinex_head.specs.Walk.{walk, admitted}
+use Rattle.rinex_head.specs.LineRules.{walk, admitted}
 use Rattle.rinex_head.proofs.OwnFlawLaws.{own_flaw}
 use Rattle.line_source.specs.EndedLines.{ended_lines}
 use Rattle.cert_lines.specs.declared.version.Version.TheVariants.{One}

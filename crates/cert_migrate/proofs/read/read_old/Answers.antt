@@ -3,11 +3,11 @@ use Rattle.std.proofs.lemmas.Result.{err_from_is_err_and}
 use Rattle.rinex_head.specs.declared.place.At.{At}
 use Rattle.rinex_head.specs.declared.place.TextFault.{TextFault}
 use Rattle.rinex_head.specs.declared.place.TextFault.TheVariants.{Refused, NoMemory}
-use Rattle.rinex_head.specs.Walk.{OnRefusal, IfRefused}
+use Rattle.rinex_head.specs.LineRules.{OnRefusal, IfRefused}
 use Rattle.cert_lines.specs.declared.version.Version.TheVariants.{One}
 use Rattle.cert_data.specs.declared.certs.Cert.{Cert}
 use Rattle.cert_spelling.specs.Editions.{IsCertificateAs}
-use Rattle.cert_text.proofs.Begun.{begins_as}
+use Rattle.cert_text.proofs.BegunCertificates.{begins_as}
 use Rattle.cert_migrate.specs.OldSpelling.{IsOldCertificate}
 use Rattle.cert_migrate.specs.declared.old_certs.OldCert.{OldCert}
 use Rattle.cert_migrate.proofs.ReadLaws.{spelled_old, read_only, none_read, none_begins, read_whole}

@@ -2,7 +2,7 @@ use Rattle.std.proofs.Common.{sym, ap, ◌∙◌, ◌++◌, ◌<◌, ℕ, List, 
 use Rattle.std.proofs.lemmas.Result.{err_from_is_err_and}
 use Rattle.std.proofs.lemmas.List.{length_push}
 use Rattle.obs_rows.specs.declared.pair_rows.PairRows.{PairRows}
-use Rattle.rinex_head.proofs.Walks.{handed_on}
+use Rattle.rinex_head.proofs.LineRuleLaws.{handed_on}
 use Rattle.cert_spelling.specs.Spelling.{all_pair_lines}
 use Rattle.std.proofs.lemmas.List.Elements.{All-push}
 use Rattle.cert_lines.specs.Lengths.{IsWholePair}

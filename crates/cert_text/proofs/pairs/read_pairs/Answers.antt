@@ -1,6 +1,6 @@
 use Rattle.std.proofs.Common.{◌∙◌}
 use Rattle.std.proofs.lemmas.Result.{err_from_is_err_and}
-use Rattle.rinex_head.proofs.Walks.{handed_on}
+use Rattle.rinex_head.proofs.LineRuleLaws.{handed_on}
 use Rattle.obs_rows.specs.Signals.{fine_signals}
 use Rattle.cert_text.specs.Rules.{frame, PairCount, before_pairs}
 use Rattle.cert_text.proofs.LineLaws.{pair_count_taken}

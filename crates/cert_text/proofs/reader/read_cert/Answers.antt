@@ -1,7 +1,7 @@
 use Rattle.std.proofs.Common.{◌≡◌, List, Result, Ok, Err, IfOk, ℕ}
 use Rattle.rinex_head.specs.declared.place.TextFault.{TextFault}
 use Rattle.rinex_head.specs.declared.place.TextFault.TheVariants.{Refused, NoMemory}
-use Rattle.rinex_head.specs.Walk.{OnRefusal, IfRefused}
+use Rattle.rinex_head.specs.LineRules.{OnRefusal, IfRefused}
 use Rattle.cert_lines.specs.declared.version.Version.TheVariants.{Two}
 use Rattle.cert_data.specs.declared.certs.Cert.{Cert}
 use Rattle.cert_spelling.specs.Spelling.{spelling_as, spelling}
@@ -9,7 +9,7 @@ use Rattle.cert_spelling.specs.Lengths.{IsWhole, IsCertificate}
 use Rattle.cert_spelling.specs.Editions.{IsOfVersion, IsCertificateAs}
 use Rattle.grammar_lines.specs.Beginnings.{NoneBegins}
 use Rattle.cert_text.specs.BeforePairs.{BeginsBefore}
-use Rattle.cert_text.proofs.Begun.{begins_as}
+use Rattle.cert_text.proofs.BegunCertificates.{begins_as}
 use Rattle.cert_text.proofs.Versions.{of_two}
 use Rattle.cert_text.proofs.reader.read_cert.Goals as goal
 

@@ -1,7 +1,7 @@
 use Rattle.std.proofs.Common.{Ok, sym, ◌∙◌, refl, ℤ, List, take, codes, Err}
 use Rattle.std.proofs.lemmas.Result.{err_from_is_err_and}
 use Rattle.rinex_head.specs.declared.place.What.TheVariants.{BadLine}
-use Rattle.rinex_head.proofs.Walks.{has_none, goes_on, stops, reads_then}
+use Rattle.rinex_head.proofs.LineRuleLaws.{has_none, goes_on, stops, reads_then}
 use Rattle.cert_lines.specs.Forms.{vector_in}
 use Rattle.cert_lines.specs.declared.ranges.TheConstants.{ENTRIES}
 use Rattle.cert_text.specs.Rules.{cert_rules, frame, Tail, Second, End}

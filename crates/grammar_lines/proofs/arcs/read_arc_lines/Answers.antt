@@ -3,7 +3,7 @@ use Rattle.std.proofs.lemmas.List.{length_push}
 use Rattle.std.proofs.lemmas.List.Elements.{All-push}
 use Rattle.obs_rows.specs.declared.arcs.Arc.{Arc}
 use Rattle.obs_rows.specs.Arcs.{IsArcInRange, free_count}
-use Rattle.rinex_head.specs.Walk.{rest_gives}
+use Rattle.rinex_head.specs.LineRules.{rest_gives}
 use Rattle.cert_lines.specs.Lines.{arc_lines}
 use Rattle.cert_lines.specs.Lengths.{IsWholeArc}
 use Rattle.grammar_lines.specs.Parts.{free_by}

@@ -1,5 +1,5 @@
 use Rattle.std.proofs.Common.{◌≡◌, ◌+◌, ◌++◌, ℕ, length, All}
-use Rattle.rinex_head.specs.Walk.{rest_gives}
+use Rattle.rinex_head.specs.LineRules.{rest_gives}
 use Rattle.obs_rows.specs.Arcs.{IsOfPair}
 use Rattle.obs_rows.specs.Rows.{AreBelow}
 use Rattle.cert_lines.specs.Lines.{row_lines}

@@ -1,5 +1,5 @@
 use Rattle.std.proofs.lemmas.Result.{err_from_is_err_and}
-use Rattle.rinex_head.proofs.Walks.{refuses, has_long, ends_well}
+use Rattle.rinex_head.proofs.LineRuleLaws.{refuses, has_long, ends_well}
 use Rattle.grammar_lines.proofs.tails.read_end.Goals as goal
 
 pub returns-in_err-line : goal.returns-in_err-line

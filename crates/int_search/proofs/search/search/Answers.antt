@@ -1,6 +1,6 @@
 use Rattle.std.proofs.Common.{arith}
 use Rattle.int_search.specs.SearchedForm.{search_form}
-use Rattle.int_search.specs.Walk.{search_image}
+use Rattle.int_search.specs.SearchStates.{search_image}
 use Rattle.int_search.proofs.StartLaws.{too_wide_more}
 use Rattle.int_search.proofs.search.search.Goals as goal
 

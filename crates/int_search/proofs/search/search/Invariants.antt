@@ -1,6 +1,6 @@
 use Rattle.std.proofs.Common.{◌≤◌}
 use Rattle.int_search.specs.SearchedForm.{search_form}
-use Rattle.int_search.specs.Walk.{IsWalk, search_image, left_of}
+use Rattle.int_search.specs.SearchStates.{IsWalk, search_image, left_of}
 use Rattle.int_search.proofs.search.search.Given as goal
 
 abbrev pub invariant-loop : goal.invariant-loop

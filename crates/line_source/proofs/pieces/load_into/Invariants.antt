@@ -1,5 +1,5 @@
 use Rattle.std.proofs.Common.{◌≡◌, [], ◌∷◌, ◌++◌, ◌≤◌, ◌-◌}
-use Rattle.line_source.specs.Told.{Same, Stays}
+use Rattle.line_source.specs.Reports.{Same, Stays}
 use Rattle.line_source.proofs.Rests.{IsTakenSoFar}
 use Rattle.line_source.proofs.pieces.load_into.Given as goal
 

@@ -1,6 +1,6 @@
 use Rattle.std.proofs.Common.{◌*◌, Ok, refl, ◌∙◌}
 use Rattle.std.proofs.lemmas.Result.{err_from_is_err_and}
-use Rattle.rinex_head.proofs.Walks.{goes_on, stops, has_long, ends_well, handed_on}
+use Rattle.rinex_head.proofs.LineRuleLaws.{goes_on, stops, has_long, ends_well, handed_on}
 use Rattle.rinex2_obs.specs.Rows.{rows_of, further_lines_of}
 use Rattle.rinex2_obs.specs.EpochLines.{epoch_line_of}
 use Rattle.rinex2_obs.specs.declared.epoch_lines.EpochLine.TheVariants as line

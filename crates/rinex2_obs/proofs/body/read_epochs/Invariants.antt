@@ -1,5 +1,5 @@
 use Rattle.std.proofs.Common.{◌≡◌, [], length}
-use Rattle.rinex_head.specs.Walk.{rest_gives}
+use Rattle.rinex_head.specs.LineRules.{rest_gives}
 use Rattle.rinex2_obs.specs.Obs2Rules.{Body, obs2_rules}
 use Rattle.rinex2_obs.proofs.body.read_epochs.Given as goal
 

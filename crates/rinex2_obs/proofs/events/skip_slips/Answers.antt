@@ -1,7 +1,7 @@
 use Rattle.std.proofs.Common.{◌≡◌, ◌*◌, refl, ap, ◌∙◌, false}
 use Rattle.std.proofs.lemmas.Result.{err_from_is_err_and}
-use Rattle.rinex_head.specs.Walk.{rest_gives}
-use Rattle.rinex_head.proofs.Walks.{reads_then}
+use Rattle.rinex_head.specs.LineRules.{rest_gives}
+use Rattle.rinex_head.proofs.LineRuleLaws.{reads_then}
 use Rattle.rinex2_obs.specs.Rows.{rows_of, further_lines_of}
 use Rattle.rinex2_obs.specs.Obs2Rules.{Expected, Body, more_lines, more_slips, obs2_rules}
 use Rattle.rinex2_obs.proofs.events.skip_slips.Goals as goal

@@ -1,6 +1,6 @@
 use Rattle.std.proofs.Common.{Ok, refl}
 use Rattle.std.proofs.lemmas.Result.{err_from_is_err_and}
-use Rattle.rinex_head.proofs.Walks.{goes_on, stops, has_none}
+use Rattle.rinex_head.proofs.LineRuleLaws.{goes_on, stops, has_none}
 use Rattle.rinex_head.specs.declared.place.What.TheVariants.{ObsVersion}
 use Rattle.rinex2_obs.specs.FirstLine.{first_line_of}
 use Rattle.rinex2_obs.specs.Obs2Rules.{First, Head, bare_header, obs2_rules}

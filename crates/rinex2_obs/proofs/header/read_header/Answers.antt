@@ -1,4 +1,4 @@
-use Rattle.rinex_head.proofs.Walks.{reads_then}
+use Rattle.rinex_head.proofs.LineRuleLaws.{reads_then}
 use Rattle.rinex2_obs.specs.Obs2Rules.{First, Head, Body, bare_header, obs2_rules}
 use Rattle.std.proofs.Common.{[]}
 use Rattle.std.proofs.lemmas.Result.{err_from_is_err_and}

@@ -3,7 +3,7 @@ use Rattle.std.proofs.lemmas.Result.{err_from_is_err_and}
 use Rattle.rinex_head.specs.declared.place.What.TheVariants.{NoEnd}
 use Rattle.rinex_head.specs.declared.place.Flaw.{Flaw}
 use Rattle.rinex_head.specs.Places.{and_then}
-use Rattle.rinex_head.proofs.Walks.{goes_on, stops_after, stops, has_none}
+use Rattle.rinex_head.proofs.LineRuleLaws.{goes_on, stops_after, stops, has_none}
 use Rattle.rinex2_obs.specs.HeaderLines.{header_line_of}
 use Rattle.obs_fields.specs.declared.types.TypeList.{TypeList}
 use Rattle.obs_fields.specs.declared.header_line.HeaderLine.TheVariants as header

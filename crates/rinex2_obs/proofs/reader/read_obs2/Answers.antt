@@ -1,8 +1,8 @@
 use Rattle.std.proofs.Common.{ap, sym}
 use Rattle.line_source.specs.Lines.{Reading, lines_of}
 use Rattle.obs_store.specs.declared.file.ObsFile.{ObsFile}
-use Rattle.rinex_head.specs.Walk.{rest_gives}
-use Rattle.rinex_head.proofs.Walks.{gives_same}
+use Rattle.rinex_head.specs.LineRules.{rest_gives}
+use Rattle.rinex_head.proofs.LineRuleLaws.{gives_same}
 use Rattle.rinex_head.proofs.Stops.{refused_exit, first_exit}
 use Rattle.rinex2_obs.specs.Obs2Form.{HasObs2File}
 use Rattle.rinex2_obs.specs.Obs2Rules.{First, obs2_rules}

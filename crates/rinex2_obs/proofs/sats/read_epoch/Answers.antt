@@ -1,6 +1,6 @@
 use Rattle.std.proofs.Common.{◌++◌, ◌∷◌, [], ℕ, List, Option, sym, ap, ◌∙◌}
 use Rattle.obs_store.specs.Epochs.{epoch_of}
-use Rattle.rinex_head.specs.Walk.{rest_gives}
+use Rattle.rinex_head.specs.LineRules.{rest_gives}
 use Rattle.rinex2_obs.specs.Obs2Rules.{Body, more_names, more_sats, obs2_rules}
 use Rattle.rinex2_obs.proofs.Steps.{reads_after}
 use Rattle.rinex2_obs.proofs.sats.read_epoch.Goals as goal

@@ -1,8 +1,8 @@
 use Rattle.std.proofs.Common.{Ok, refl, ap, ◌∙◌, arith}
 use Rattle.std.proofs.lemmas.Result.{err_from_is_err_and}
 use Rattle.rinex_head.specs.declared.place.What.TheVariants.{Truncated}
-use Rattle.rinex_head.specs.Walk.{rest_gives}
-use Rattle.rinex_head.proofs.Walks.{goes_on, stops, has_none, gives_less}
+use Rattle.rinex_head.specs.LineRules.{rest_gives}
+use Rattle.rinex_head.proofs.LineRuleLaws.{goes_on, stops, has_none, gives_less}
 use Rattle.rinex2_obs.specs.SatNames.{further_names_of}
 use Rattle.rinex2_obs.specs.Obs2Rules.{Expected, more_names, obs2_rules}
 use Rattle.rinex2_obs.proofs.Steps.{finish_names, admit_names, names_all}

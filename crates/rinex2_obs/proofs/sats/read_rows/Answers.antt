@@ -1,7 +1,7 @@
 use Rattle.std.proofs.Common.{◌<◌, ◌+◌, ℕ, Some, Ok, refl, sym, ◌∙◌, subst, arith}
 use Rattle.std.proofs.lemmas.Result.{err_from_is_err_and}
 use Rattle.rinex_head.specs.declared.place.What.TheVariants.{Truncated}
-use Rattle.rinex_head.proofs.Walks.{goes_on, stops, has_none, gives_less}
+use Rattle.rinex_head.proofs.LineRuleLaws.{goes_on, stops, has_none, gives_less}
 use Rattle.obs_fields.specs.declared.layout.Layout.TheVariants.{Rinex2}
 use Rattle.obs_fields.specs.SatFields.{values_in}
 use Rattle.rinex2_obs.specs.Rows.{rows_of}

@@ -2,7 +2,7 @@ use Rattle.std.proofs.Common.{◌≡◌, ◌≤◌, ℕ, Bool, List, ◌∷◌, 
 use Rattle.gps_time.specs.declared.Tick.{Tick}
 use Rattle.obs_store.specs.declared.series.Epoch.{Epoch}
 use Rattle.obs_store.specs.declared.values.SatObs.{SatObs}
-use Rattle.rinex_head.specs.Walk.{rest_gives}
+use Rattle.rinex_head.specs.LineRules.{rest_gives}
 use Rattle.rinex2_obs.specs.Rows.{rows_of}
 use Rattle.rinex2_obs.specs.Obs2Rules.{more_sats, more_rows, obs2_rules}
 use Rattle.rinex2_obs.proofs.sats.read_rows.Given as goal

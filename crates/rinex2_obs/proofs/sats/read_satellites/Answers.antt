@@ -1,8 +1,8 @@
 use Rattle.std.proofs.Common.{◌≡◌, ◌+◌, ◌∷◌, ℕ, List, Option, None, drop, get_or, refl, ap, ◌∙◌, subst, arith}
 use Rattle.std.proofs.lemmas.Result.{err_from_is_err_and}
 use Rattle.std.proofs.lemmas.List.{drop_more}
-use Rattle.rinex_head.specs.Walk.{rest_gives}
-use Rattle.rinex_head.proofs.Walks.{handed_on}
+use Rattle.rinex_head.specs.LineRules.{rest_gives}
+use Rattle.rinex_head.proofs.LineRuleLaws.{handed_on}
 use Rattle.rinex2_obs.specs.SatNumbers.{AreNames, AreNew}
 use Rattle.rinex2_obs.specs.Obs2Rules.{more_sats, obs2_rules}
 use Rattle.rinex2_obs.proofs.NameLists.{new_at_first, next_new, names_behind}

@@ -2,7 +2,7 @@ use Rattle.std.proofs.Common.{◌<◌, ◌+◌, ℕ, None, ◌∙◌, subst, ari
 use Rattle.std.proofs.lemmas.Result.{err_from_is_err_and}
 use Rattle.obs_store.specs.Missing.{missing_values}
 use Rattle.rinex_head.specs.declared.place.What.TheVariants.{Truncated}
-use Rattle.rinex_head.proofs.Walks.{takes, has_none, gives_less}
+use Rattle.rinex_head.proofs.LineRuleLaws.{takes, has_none, gives_less}
 use Rattle.rinex2_obs.specs.Rows.{rows_of}
 use Rattle.rinex2_obs.specs.Obs2Rules.{more_rows, obs2_rules}
 use Rattle.rinex2_obs.proofs.Steps.{finish_rows, admit_other}

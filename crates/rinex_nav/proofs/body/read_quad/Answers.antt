@@ -1,7 +1,7 @@
 -- A further line of a record.
 use Rattle.std.proofs.Common.{◌++◌, ◌∷◌, [], Ok, refl, length}
 use Rattle.rinex_head.specs.declared.place.What.TheVariants.{Truncated}
-use Rattle.rinex_head.proofs.Walks.{goes_on, stops, has_none}
+use Rattle.rinex_head.proofs.LineRuleLaws.{goes_on, stops, has_none}
 use Rattle.rinex_nav.specs.RecordLines.{continuation_of}
 use Rattle.rinex_nav.specs.NavRules.{Further, behind, nav_rules}
 use Rattle.rinex_nav.proofs.Steps.{hands_on}

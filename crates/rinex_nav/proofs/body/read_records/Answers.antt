@@ -1,6 +1,6 @@
 -- One line or record more.
 use Rattle.std.proofs.Common.{◌≡◌, [], Ok, true, refl, sym, ap, ◌∙◌, length, List}
-use Rattle.rinex_head.proofs.Walks.{goes_on, stops, has_long, ends_well}
+use Rattle.rinex_head.proofs.LineRuleLaws.{goes_on, stops, has_long, ends_well}
 use Rattle.eph_store.specs.declared.record.Raw.{Raw}
 use Rattle.rinex_nav.specs.RecordLines.{body_line_of}
 use Rattle.rinex_nav.specs.declared.record_lines.BodyLine.TheVariants as line

@@ -1,6 +1,6 @@
 -- a record is expected after those of the file
 use Rattle.std.proofs.Common.{◌≡◌, [], false, length}
-use Rattle.rinex_head.specs.Walk.{rest_gives}
+use Rattle.rinex_head.specs.LineRules.{rest_gives}
 use Rattle.rinex_nav.specs.NavRules.{Body, nav_rules}
 use Rattle.rinex_nav.proofs.body.read_records.Given as goal
 

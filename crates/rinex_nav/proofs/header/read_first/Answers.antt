@@ -1,6 +1,6 @@
 -- The first line.
 use Rattle.std.proofs.Common.{refl}
-use Rattle.rinex_head.proofs.Walks.{reads_line, has_none}
+use Rattle.rinex_head.proofs.LineRuleLaws.{reads_line, has_none}
 use Rattle.rinex_head.specs.declared.place.What.TheVariants.{Version}
 use Rattle.rinex_nav.specs.FirstLine.{first_line_of}
 use Rattle.rinex_nav.specs.NavRules.{First, Head, nav_rules}

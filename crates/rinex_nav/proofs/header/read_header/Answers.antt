@@ -1,6 +1,6 @@
 -- The first line and the others.
 use Rattle.std.proofs.Common.{[], false}
-use Rattle.rinex_head.proofs.Walks.{reads_then}
+use Rattle.rinex_head.proofs.LineRuleLaws.{reads_then}
 use Rattle.rinex_nav.specs.NavRules.{First, Head, Body, nav_rules}
 use Rattle.rinex_nav.proofs.Steps.{hands_on}
 use Rattle.rinex_nav.proofs.header.read_header.Goals as goal

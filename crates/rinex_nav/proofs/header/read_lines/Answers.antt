@@ -1,6 +1,6 @@
 -- The lines of the header up to the last one.
 use Rattle.std.proofs.Common.{◌≡◌, Bool, true, false, List, ℕ, Ok, [], refl, sym, ap, ◌∙◌}
-use Rattle.rinex_head.proofs.Walks.{takes, has_none}
+use Rattle.rinex_head.proofs.LineRuleLaws.{takes, has_none}
 use Rattle.rinex_head.specs.declared.system.System.{System}
 use Rattle.rinex_head.specs.declared.place.What.TheVariants.{NoEnd}
 use Rattle.rinex_nav.specs.FirstLine.{ends_header}

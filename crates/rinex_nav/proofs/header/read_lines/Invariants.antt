@@ -1,7 +1,7 @@
 -- a line of the header is expected still
 use Rattle.std.proofs.Common.{◌≡◌, length}
 use Rattle.rinex_head.specs.declared.system.System.{System}
-use Rattle.rinex_head.specs.Walk.{rest_gives}
+use Rattle.rinex_head.specs.LineRules.{rest_gives}
 use Rattle.rinex_nav.specs.NavRules.{Head, nav_rules}
 use Rattle.rinex_nav.proofs.header.read_lines.Given as goal
 

@@ -1,5 +1,5 @@
 -- The header and the body.
-use Rattle.rinex_head.proofs.Walks.{gives_same}
+use Rattle.rinex_head.proofs.LineRuleLaws.{gives_same}
 use Rattle.eph_store.specs.File.{Records}
 use Rattle.rinex_nav.proofs.reader.read_lines.Goals as goal
 

@@ -2,8 +2,8 @@
 use Rattle.std.proofs.Common.{ap, sym}
 use Rattle.line_source.specs.Lines.{Reading, lines_of}
 use Rattle.eph_store.specs.File.{Records}
-use Rattle.rinex_head.specs.Walk.{rest_gives}
-use Rattle.rinex_head.proofs.Walks.{gives_same}
+use Rattle.rinex_head.specs.LineRules.{rest_gives}
+use Rattle.rinex_head.proofs.LineRuleLaws.{gives_same}
 use Rattle.rinex_head.proofs.Stops.{refused_exit, first_exit}
 use Rattle.rinex_nav.specs.NavRules.{First, nav_rules}
 use Rattle.rinex_nav.specs.NavForm.{HasNavFile}

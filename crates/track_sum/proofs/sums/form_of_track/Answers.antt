@@ -3,7 +3,7 @@ use Rattle.std.proofs.lemmas.Result.{IfOk-at_ok, IfErr-at_err, IfOk-weaker, IfEr
 use Rattle.obs_rows.specs.declared.arcs.Arc.{Arc}
 use Rattle.obs_rows.specs.Signals.{fine_signals}
 use Rattle.integer_form.specs.declared.front_form.FrontForm.{FrontForm}
-use Rattle.integer_form.specs.Told.{IsToldAs}
+use Rattle.integer_form.specs.ReportedRefusals.{IsToldAs}
 use Rattle.elimination.specs.Finish.{IsFinishOf, finish_of}
 use Rattle.track_sum.specs.declared.factors.PairFactors.{PairFactors}
 use Rattle.track_sum.specs.PairFronts.{IsFirstRefused}

@@ -3,7 +3,7 @@ use Rattle.std.proofs.lemmas.Result.{err_from_is_err_and}
 use Rattle.std.proofs.lemmas.List.{length_push, drop_more, drop_all}
 use Rattle.std.proofs.lemmas.List.Elements.{All-push}
 use Rattle.obs_rows.specs.declared.pair_rows.PairRows.{PairRows}
-use Rattle.rinex_head.specs.Walk.{rest_gives}
+use Rattle.rinex_head.specs.LineRules.{rest_gives}
 use Rattle.cert_data.specs.Tails.{IsMove}
 use Rattle.track_spelling.specs.Spelling.{move_lines}
 use Rattle.track_text.specs.Rules.{track_rules, numbers_of, before_moves}

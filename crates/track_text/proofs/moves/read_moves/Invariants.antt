@@ -1,5 +1,5 @@
 use Rattle.std.proofs.Common.{◌≡◌, ◌≤◌, ◌++◌, length, drop, All}
-use Rattle.rinex_head.specs.Walk.{rest_gives}
+use Rattle.rinex_head.specs.LineRules.{rest_gives}
 use Rattle.cert_data.specs.Tails.{IsMove}
 use Rattle.track_spelling.specs.Lengths.{AreTriples}
 use Rattle.track_spelling.specs.Spelling.{move_lines}

@@ -1,8 +1,8 @@
 use Rattle.std.proofs.Common.{◌+◌, ◌-◌, ◌++◌, ◌∷◌, [], ℕ, sym, ap, ◌∙◌}
 use Rattle.std.proofs.lemmas.Result.{err_from_is_err_and}
 use Rattle.obs_rows.specs.Signals.{fine_signals}
-use Rattle.rinex_head.specs.Walk.{rest_gives}
-use Rattle.rinex_head.proofs.Walks.{handed_on}
+use Rattle.rinex_head.specs.LineRules.{rest_gives}
+use Rattle.rinex_head.proofs.LineRuleLaws.{handed_on}
 use Rattle.track_text.specs.Rules.{track_rules, frame, before_pairs, before_rows}
 use Rattle.track_text.proofs.LineLaws.{rows_taken}
 use Rattle.track_text.proofs.pairs.next_pair.Goals as goal

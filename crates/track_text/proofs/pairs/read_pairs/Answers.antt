@@ -8,8 +8,8 @@ use Rattle.obs_rows.specs.Pairs.{HasItsArcs}
 use Rattle.obs_rows.specs.Ranges.{IsPoint}
 use Rattle.obs_rows.specs.Signals.{fine_signals}
 use Rattle.obs_rows.specs.Unused.{HasUsedRows}
-use Rattle.rinex_head.specs.Walk.{rest_gives}
-use Rattle.rinex_head.proofs.Walks.{handed_on}
+use Rattle.rinex_head.specs.LineRules.{rest_gives}
+use Rattle.rinex_head.proofs.LineRuleLaws.{handed_on}
 use Rattle.cert_lines.specs.Lengths.{IsWholePair}
 use Rattle.cert_lines.specs.Lines.{count_line}
 use Rattle.grammar_lines.proofs.RowSteps.{pairs_below}

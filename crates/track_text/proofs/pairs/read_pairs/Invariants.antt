@@ -4,7 +4,7 @@ use Rattle.obs_rows.specs.Ranges.{IsPoint}
 use Rattle.obs_rows.specs.Signals.{fine_signals}
 use Rattle.obs_rows.specs.Unused.{HasUsedRows}
 use Rattle.obs_rows.specs.declared.limits.TheConstants.{MOST_PAIRS}
-use Rattle.rinex_head.specs.Walk.{rest_gives}
+use Rattle.rinex_head.specs.LineRules.{rest_gives}
 use Rattle.cert_lines.specs.Lengths.{IsWholePair}
 use Rattle.cert_lines.specs.Lines.{count_line}
 use Rattle.track_spelling.specs.Lengths.{AreTriples}

@@ -1,7 +1,7 @@
 use Rattle.std.proofs.Common.{◌∙◌}
 use Rattle.std.proofs.lemmas.Result.{err_from_is_err_and}
 use Rattle.obs_rows.specs.Signals.{fine_signals}
-use Rattle.rinex_head.proofs.Walks.{handed_on}
+use Rattle.rinex_head.proofs.LineRuleLaws.{handed_on}
 use Rattle.track_text.proofs.reader.read_lines.Goals as goal
 
 pub returns-in_err-arcs-clause-reads : goal.returns-in_err-arcs-clause-reads

@@ -1,8 +1,8 @@
 use Rattle.std.proofs.Common.{◌≡◌, List, Result, Ok, Err, IfOk, ℕ, sym, ap, ◌∙◌, subst}
 use Rattle.line_source.specs.Lines.{Reading}
 use Rattle.rinex_head.specs.declared.place.TextFault.{TextFault}
-use Rattle.rinex_head.specs.Walk.{rest_gives}
-use Rattle.rinex_head.proofs.Walks.{gives_same}
+use Rattle.rinex_head.specs.LineRules.{rest_gives}
+use Rattle.rinex_head.proofs.LineRuleLaws.{gives_same}
 use Rattle.cert_words.specs.Spelling.{text_of_lines}
 use Rattle.line_source.specs.EndedLines.{ended_lines}
 use Rattle.cert_words.proofs.TextLaws.{AreLines, text_of_ended}
@@ -12,7 +12,7 @@ use Rattle.track_spelling.specs.Lengths.{IsWholeTrackCert}
 use Rattle.track_text.specs.Rules.{track_rules, Form}
 use Rattle.track_text.proofs.Feeds.{track_feed}
 use Rattle.track_text.proofs.Accepted.{refused_text, stuck_text}
-use Rattle.track_text.proofs.Begun.{first_text}
+use Rattle.track_text.proofs.BegunTracks.{first_text}
 use Rattle.track_text.proofs.SameTrack.{spelling_same}
 use Rattle.track_text.proofs.reader.read_track.Goals as goal
 

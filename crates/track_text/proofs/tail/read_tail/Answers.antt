@@ -1,7 +1,7 @@
 use Rattle.std.proofs.Common.{◌++◌, ℕ, ℤ, List, take, codes, Ok, Err, refl, sym, ap, ◌∙◌}
 use Rattle.std.proofs.lemmas.Result.{err_from_is_err_and}
 use Rattle.rinex_head.specs.declared.place.What.TheVariants.{BadLine}
-use Rattle.rinex_head.proofs.Walks.{has_none, goes_on, stops}
+use Rattle.rinex_head.proofs.LineRuleLaws.{has_none, goes_on, stops}
 use Rattle.cert_lines.specs.Forms.{vector_in}
 use Rattle.cert_lines.specs.declared.ranges.TheConstants.{ENTRIES}
 use Rattle.grammar_lines.proofs.LineLaws.{line_read_by, reads_behind}

@@ -1,7 +1,7 @@
 use Rattle.std.proofs.Common.{◌∙◌, take, rules, arith}
 use Rattle.std.proofs.lemmas.Grind.{common_steps}
 use Rattle.std.proofs.lemmas.Result.{err_from_is_err_and}
-use Rattle.rinex_head.proofs.Walks.{handed_on}
+use Rattle.rinex_head.proofs.LineRuleLaws.{handed_on}
 use Rattle.cert_lines.proofs.TailLaws.{word126}
 use Rattle.track_text.specs.Rules.{numbers_of, before_moves, Second, Values, Last, End}
 use Rattle.track_text.proofs.LineLaws.{second_taken, values_taken, last_taken}

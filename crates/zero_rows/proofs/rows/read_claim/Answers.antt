@@ -2,7 +2,7 @@ use Rattle.std.proofs.Common.{◌≡◌, Ok, refl, ◌∙◌, codes, arith, w64,
 use Rattle.std.proofs.lemmas.Int.{ints}
 use Rattle.std.proofs.lemmas.Result.{err_from_is_err_and}
 use Rattle.decimal_text.proofs.Numbers.{size_is}
-use Rattle.rinex_head.proofs.Walks.{takes, refuses, has_none, goes_on, stops}
+use Rattle.rinex_head.proofs.LineRuleLaws.{takes, refuses, has_none, goes_on, stops}
 use Rattle.zero_rows.specs.RowsRules.{Head, Claim, claimed, rows_rules, number_behind}
 use Rattle.zero_rows.proofs.RowsSteps.{admits_head, refuses_head, same_bytes, other_bytes, number_behind-small}
 use Rattle.zero_rows.proofs.rows.read_claim.Goals as goal

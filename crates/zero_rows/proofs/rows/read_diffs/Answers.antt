@@ -3,8 +3,8 @@ use Rattle.std.proofs.lemmas.Int.{ints}
 use Rattle.std.proofs.lemmas.Bool.Decides.{nat_tests}
 use Rattle.std.proofs.lemmas.Result.{err_from_is_err_and}
 use Rattle.decimal_text.specs.Whole.{size_of}
-use Rattle.rinex_head.specs.Walk.{rest_gives}
-use Rattle.rinex_head.proofs.Walks.{refuses, goes_on, stops, has_long, ends_badly, ends_well}
+use Rattle.rinex_head.specs.LineRules.{rest_gives}
+use Rattle.rinex_head.proofs.LineRuleLaws.{refuses, goes_on, stops, has_long, ends_badly, ends_well}
 use Rattle.zero_rows.specs.Rows.{rows}
 use Rattle.zero_rows.specs.RowsRules.{Diff, with_diff, rows_rules, number_behind}
 use Rattle.zero_rows.proofs.RowsSteps.{admits_diff, refuses_more, number_behind-small, finish_none, finish_some}

@@ -1,6 +1,6 @@
 use Rattle.std.proofs.Common.{◌≡◌, ◌≤◌, ℤ, length, vec_len, All}
 use Rattle.decimal_text.specs.Whole.{size_of}
-use Rattle.rinex_head.specs.Walk.{rest_gives}
+use Rattle.rinex_head.specs.LineRules.{rest_gives}
 use Rattle.zero_rows.specs.Rows.{rows}
 use Rattle.zero_rows.specs.RowsRules.{Diff, claimed, rows_rules}
 use Rattle.zero_rows.proofs.rows.read_diffs.Given as goal

@@ -1,5 +1,5 @@
 use Rattle.std.proofs.lemmas.Result.{err_from_is_err_and}
-use Rattle.rinex_head.proofs.Walks.{handed_on}
+use Rattle.rinex_head.proofs.LineRuleLaws.{handed_on}
 use Rattle.zero_rows.proofs.rows.read_lines.Goals as goal
 
 pub returns-in_err-diffs : goal.returns-in_err-diffs

@@ -6,7 +6,7 @@ use Rattle.int_search.specs.Suffixes.{SearchForm, rest}
 use Rattle.int_search.specs.Vectors.{suffix}
 use Rattle.int_search.specs.SearchedForm.{search_form}
 use Rattle.int_search.proofs.FormNumbers.{searchable}
-use Rattle.int_search.proofs.WalkLaws.{walk_begins}
+use Rattle.int_search.proofs.SearchStateLaws.{walk_begins}
 use Rattle.int_search.proofs.walk.SearchState.begin.Goals as goal
 
 pub returns : goal.returns

@@ -7,10 +7,10 @@ use Rattle.int_search.specs.Vectors.{Holds, suffix}
 use Rattle.int_search.specs.Images.{image_of}
 use Rattle.int_search.specs.Best.{KeepsBest}
 use Rattle.int_search.specs.SearchedForm.{search_form}
-use Rattle.int_search.specs.Walk.{search_image}
+use Rattle.int_search.specs.SearchStates.{search_image}
 use Rattle.int_search.specs.declared.walk.SearchState.{SearchState}
 use Rattle.int_search.proofs.SuffixArrays.{suffix-length}
-use Rattle.int_search.proofs.WalkLaws.{offers_best}
+use Rattle.int_search.proofs.SearchStateLaws.{offers_best}
 use Rattle.int_search.proofs.walk.SearchState.offer.Goals as goal
 
 pub returns : goal.returns

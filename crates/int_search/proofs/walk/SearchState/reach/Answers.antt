@@ -8,7 +8,7 @@ use Rattle.int_search.specs.Steps.{IsTermWithin}
 use Rattle.int_search.specs.declared.walk.SearchState.{SearchState}
 use Rattle.int_search.specs.declared.steps.Choice.{Choice}
 use Rattle.int_search.proofs.FormNumbers.{searchable}
-use Rattle.int_search.proofs.WalkLaws.{low_size, p2_size, weight_here, walk_pop, walk_reach, chosen_sizes, latest_level}
+use Rattle.int_search.proofs.SearchStateLaws.{low_size, p2_size, weight_here, walk_pop, walk_reach, chosen_sizes, latest_level}
 use Rattle.int_search.proofs.walk.SearchState.reach.Goals as goal
 
 pub room-requires-clause-p_size : goal.room-requires-clause-p_size

@@ -9,7 +9,7 @@ use Rattle.int_search.specs.Vectors.{Holds, suffix}
 use Rattle.int_search.specs.Images.{image_of}
 use Rattle.int_search.specs.Orders.{IsRankLess}
 use Rattle.int_search.specs.SearchedForm.{search_form}
-use Rattle.int_search.specs.Walk.{search_image, BeginsWith}
+use Rattle.int_search.specs.SearchStates.{search_image, BeginsWith}
 use Rattle.int_search.proofs.FormNumbers.{searchable}
 use Rattle.int_search.proofs.PointLaws.{top_first, top_second, top_small, top_wide, within_top, rounded_length, neighbour_length}
 use Rattle.int_search.proofs.StartLaws.{IsPoint, begins, wide_point, points_differ}

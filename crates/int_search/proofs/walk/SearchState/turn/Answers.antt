@@ -5,9 +5,9 @@ use Rattle.int_search.specs.PlainCount.{IsOver}
 use Rattle.int_search.specs.declared.stack.Level.{Level}
 use Rattle.int_search.proofs.VisitLaws.{wide_image_more}
 use Rattle.int_search.specs.SearchedForm.{search_form}
-use Rattle.int_search.specs.Walk.{search_image, IsWalk, Visits}
+use Rattle.int_search.specs.SearchStates.{search_image, IsWalk, Visits}
 use Rattle.int_search.specs.declared.walk.SearchState.{SearchState}
-use Rattle.int_search.proofs.WalkLaws.{walk_end, walk_over, walk_wide, left_less, drop_length, reach_entry}
+use Rattle.int_search.proofs.SearchStateLaws.{walk_end, walk_over, walk_wide, left_less, drop_length, reach_entry}
 use Rattle.int_search.proofs.walk.SearchState.turn.Goals as goal
 
 some_of : (n m : ℕ) → n ≡ m → (n ≡ 0 → ⊥) → 0 < m

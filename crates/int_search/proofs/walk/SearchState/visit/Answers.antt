@@ -5,12 +5,12 @@ use Rattle.decorrelate.proofs.Words.{small_w64}
 use Rattle.int_search.specs.Suffixes.{SearchForm, rest}
 use Rattle.int_search.specs.Vectors.{suffix}
 use Rattle.int_search.specs.SearchedForm.{search_form}
-use Rattle.int_search.specs.Walk.{search_image}
+use Rattle.int_search.specs.SearchStates.{search_image}
 use Rattle.int_search.specs.declared.walk.SearchState.{SearchState}
 use Rattle.int_search.specs.declared.walk.NextEntry.{NextEntry}
 use Rattle.int_search.proofs.FormNumbers.{searchable}
 use Rattle.int_search.proofs.PointLaws.{small_set}
-use Rattle.int_search.proofs.WalkLaws.{walk_inner, leaf_visit, drop_length}
+use Rattle.int_search.proofs.SearchStateLaws.{walk_inner, leaf_visit, drop_length}
 use Rattle.int_search.proofs.walk.SearchState.visit.Goals as goal
 
 pub offer-requires-clause-small : goal.offer-requires-clause-small

@@ -3,7 +3,7 @@ use Rattle.line_source.specs.Lines.{lines_of}
 use Rattle.obs_store.specs.declared.file.ObsFile.{ObsFile}
 use Rattle.rinex_head.specs.declared.system.System.{System}
 use Rattle.rinex_head.specs.declared.system.System.TheVariants.{Gps}
-use Rattle.rinex_head.specs.Walk.{Gives}
+use Rattle.rinex_head.specs.LineRules.{Gives}
 use Rattle.rinex_obs.specs.Feeding.{IsAnswerTo}
 use Rattle.rinex_obs.specs.ObsRules.{obs_of}
 use Rattle.rinex2_obs.specs.Obs2Rules.{obs2_of}

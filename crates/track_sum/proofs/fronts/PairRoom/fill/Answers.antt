@@ -3,7 +3,7 @@ use Rattle.std.proofs.lemmas.Result.{IfErr-weaker, on_ok_weaker}
 use Rattle.quadratic_form.specs.Lowering.{IsExponent}
 use Rattle.normal_sum.specs.Values.{form_of}
 use Rattle.obs_rows.specs.Signals.{fine_signals}
-use Rattle.integer_form.specs.Told.{IsToldAs}
+use Rattle.integer_form.specs.ReportedRefusals.{IsToldAs}
 use Rattle.lower_form.specs.Fronts.{front_of}
 use Rattle.lower_form.proofs.Exponents.{has_exponent}
 use Rattle.lower_form.specs.Rooms.{IsClean}

@@ -10,7 +10,7 @@ use Rattle.rinex_head.specs.declared.place.At.{At}
 use Rattle.rinex_head.specs.declared.place.TextFault.{TextFault}
 use Rattle.rinex_head.specs.declared.place.TextFault.TheVariants.{Refused, NoMemory}
 use Rattle.rinex_head.specs.Places.{and_then, flawed, place, at_line}
-use Rattle.rinex_head.specs.Walk.{Rules, admitted, walk, rest_gives, ReadsFree, Gives, HasNoLine, IsLongLine, FailsBy}
+use Rattle.rinex_head.specs.LineRules.{Rules, admitted, walk, rest_gives, ReadsFree, Gives, HasNoLine, IsLongLine, FailsBy}
 
 pub short_admitted : {S F : Type 0} (rules : Rules S F) (s : S) (line : List ℕ) → length line ≤ 4096 → admitted rules s line ≡ rules.admit s line
 short_admitted rules s line short = let not_too_long : nat_lt 4096 (length line) ≡ false = grind (arith, nat_tests) in rw not_too_long refl

@@ -10,7 +10,7 @@ use Rattle.rinex_head.specs.declared.place.At.{At}
 use Rattle.rinex_head.specs.declared.place.TextFault.{TextFault}
 use Rattle.rinex_head.specs.declared.place.TextFault.TheVariants.{Refused, NoMemory}
 use Rattle.rinex_head.specs.Places.{and_then, place, at_line}
-use Rattle.rinex_head.specs.Walk.{Rules, admitted, walk, Gives, IfRefused}
+use Rattle.rinex_head.specs.LineRules.{Rules, admitted, walk, Gives, IfRefused}
 use Rattle.rinex_head.proofs.Stops.{at_line-number, admitted_short}
 use Rattle.rinex_head.proofs.TakenLines.{then_holds}
 use Rattle.line_source.specs.EndedLines.{ended_lines}

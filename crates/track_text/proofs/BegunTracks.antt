@@ -11,7 +11,7 @@ use Rattle.rinex_head.specs.declared.place.At.{At}
 use Rattle.rinex_head.specs.declared.place.TextFault.{TextFault}
 use Rattle.rinex_head.specs.declared.place.TextFault.TheVariants.{Refused, NoMemory}
 use Rattle.rinex_head.specs.Places.{and_then}
-use Rattle.rinex_head.specs.Walk.{Gives, IfRefused}
+use Rattle.rinex_head.specs.LineRules.{Gives, IfRefused}
 use Rattle.rinex_head.proofs.TakenLines.{then_holds}
 use Rattle.line_source.specs.EndedLines.{ended_lines}
 use Rattle.cert_words.proofs.TextLaws.{lines_of_text}
@@ -26,7 +26,7 @@ use Rattle.cert_data.specs.declared.certs.Cert.{Cert}
 use Rattle.cert_text.specs.BeforePairs.{lines_before, SomeBegins, BeginsBefore}
 use Rattle.cert_text.proofs.ReadBack.{word_was, count_was, point_was, system_was, signals_were, arc_was}
 use Rattle.cert_text.proofs.Completed.{Head, signals_of_head, any_head, AreBegun, none_begun, one_more, filled, All-one, cert_of, cert_whole}
-use Rattle.cert_text.proofs.Begun.{admitted_lines, arc_lines-append, regroup, pushed, pairs_begins, with_ratio, with_budget, with_system, with_base, with_signals, IsOtherLine}
+use Rattle.cert_text.proofs.BegunCertificates.{admitted_lines, arc_lines-append, regroup, pushed, pairs_begins, with_ratio, with_budget, with_system, with_base, with_signals, IsOtherLine}
 use Rattle.track_data.specs.declared.tracks.Track.{Track}
 use Rattle.track_data.specs.declared.certs.TrackCert.{TrackCert}
 use Rattle.track_data.specs.declared.tails.TrackTail.TheVariants.{Overwidth}

@@ -19,7 +19,7 @@ use Rattle.int_search.proofs.SearchLaws.{search_pop, search_inner, search_leaf, 
 use Rattle.int_search.specs.Vectors.{IsSmall, Holds, suffix}
 use Rattle.int_search.specs.Steps.{IsFresh, Chooses, Moves, IsTermWithin}
 use Rattle.int_search.specs.Best.{HoldsBest, TakesOffer, KeepsBest}
-use Rattle.int_search.specs.Walk.{here, IsWalk, IsReach, BeginsWith, Offers, Visits, HasFound}
+use Rattle.int_search.specs.SearchStates.{here, IsWalk, IsReach, BeginsWith, Offers, Visits, HasFound}
 use Rattle.int_search.specs.declared.best.Best.{Best}
 use Rattle.int_search.specs.declared.walk.SearchState.{SearchState}
 use Rattle.int_search.specs.declared.walk.NextEntry.{NextEntry}
