@@ -17,6 +17,8 @@ use Rattle.rinex2_obs.specs.Obs2Rules.{First, Head, Body, Skip, so_far, bare_hea
 use Rattle.obs_fields.specs.HeadParts.{head_lines, last_position, last_delta}
 use Rattle.obs_fields.specs.declared.layout.Layout.TheVariants.{Rinex2}
 use Rattle.obs_fields.specs.Events.{AreEventLines}
+use Rattle.rinex2_obs.specs.EpochLines.{epoch_line_of}
+use Rattle.rinex2_obs.specs.declared.epoch_lines.EpochLine.TheVariants as line
 use Rattle.obs_fields.proofs.HeaderLaws.{regroup, header_given}
 use Rattle.rinex2_obs.specs.Obs2Form.{IsHeader, SatPart, Part, Blank, Event, Slips, Epoch_, AreFurtherNames, AreRows, AreSats, numbers_of, sat_lines, if_of_gps, satellites_of, AreMarked, AreShort, epoch_in_part, AreParts, epochs_of, body_lines, IsObs2File}
 use Rattle.rinex2_obs.proofs.Headers.{head_rules}
@@ -111,7 +113,8 @@ parts_taken (Blank bytes ∷ parts) h epochs n are =
     walk-takes obs2_rules (Body h epochs) (Body h epochs) bytes (body_lines parts) n are.0 admits ∙ parts_taken parts h epochs (n + 1) are.2
 parts_taken (Event p ∷ parts) h epochs n are =
     let line_count = length p.event_lines in
-    let admits : admit (Body h epochs) p.bytes ≡ Ok (more_lines h epochs p.changes line_count) = rw (are.0.says) refl in
+    let says : epoch_line_of epochs p.bytes ≡ Ok (line.Event p.changes line_count) = are.0.says in
+    let admits : admit (Body h epochs) p.bytes ≡ Ok (more_lines h epochs p.changes line_count) = rw says refl in
     walk-takes obs2_rules (Body h epochs) (more_lines h epochs p.changes line_count) p.bytes (p.event_lines ++ body_lines parts) n are.0.short admits
     ∙ lines_taken p.event_lines (body_lines parts) h epochs p.changes (n + 1) are.0.lines
     ∙ parts_taken parts h epochs (n + 1 + line_count) are.1

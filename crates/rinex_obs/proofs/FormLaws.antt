@@ -12,6 +12,8 @@ use Rattle.rinex_head.proofs.LineRuleLaws.{walk-takes, walk-end}
 use Rattle.obs_fields.specs.Types.{kept_from}
 use Rattle.obs_fields.specs.declared.layout.Layout.TheVariants.{Rinex3}
 use Rattle.obs_fields.specs.Events.{AreEventLines}
+use Rattle.rinex_obs.specs.EpochLines.{epoch_line_of}
+use Rattle.rinex_obs.specs.declared.epoch_lines.EpochLine.TheVariants as line
 use Rattle.rinex_obs.specs.declared.header.Header.{Header}
 use Rattle.rinex_obs.specs.ObsRules.{First, Head, Body, Sats, Skip, so_far, bare_header, whole_header, file_of, more_sats, more_lines, admit, obs_rules}
 use Rattle.obs_fields.specs.HeadParts.{head_lines, last_position, last_delta}
@@ -61,7 +63,8 @@ module _ (system : System) where
       walk-takes (obs_rules system) (Body h epochs) (Body h epochs) bytes (body_lines parts) n are.0 admits ∙ parts_taken parts h epochs (n + 1) are.2
   parts_taken (Event p ∷ parts) h epochs n are =
       let k = length p.event_lines in
-      let admits : admit (Body h epochs) p.bytes ≡ Ok (more_lines h epochs p.changes k) = rw (are.0.says) refl in
+      let says : epoch_line_of epochs p.bytes ≡ Ok (line.Event p.changes k) = are.0.says in
+      let admits : admit (Body h epochs) p.bytes ≡ Ok (more_lines h epochs p.changes k) = rw says refl in
       walk-takes (obs_rules system) (Body h epochs) (more_lines h epochs p.changes k) p.bytes (p.event_lines ++ body_lines parts) n are.0.short admits
       ∙ lines_taken p.event_lines (body_lines parts) h epochs p.changes (n + 1) are.0.lines
       ∙ parts_taken parts h epochs (n + 1 + k) are.1
