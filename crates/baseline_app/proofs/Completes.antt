@@ -10,7 +10,6 @@ use Rattle.job_answers.specs.Endings.{Ending, IsRefusedFile}
 use Rattle.job_answers.specs.Delivered.{SinkChange, GainsUnlessFault, IsDelivered}
 use Rattle.job_answers.specs.Works.{FileWork, EndsOver}
 use Rattle.job_answers.proofs.TextLaws.{text_status, text_verdict}
-use Rattle.session_files.specs.SessionJobs.{IsPairLine}
 use Rattle.session_files.proofs.SessionLaws.{session_status, session_verdict}
 use Rattle.file_jobs.specs.Zero.{zero_job}
 use Rattle.file_jobs.specs.Listing.{list_job}
@@ -31,7 +30,7 @@ use Rattle.sim_jobs.proofs.SimSays.{sim_status, sim_verdict}
 use Rattle.epoch_pair.specs.declared.faults.PairWhat.{PairWhat}
 use Rattle.session_files.specs.Refusals.{pair_line, HaveRefused, AreRefusedWhole}
 use Rattle.sim_jobs.proofs.RunSays.{sim_run_status, sim_run_verdict}
-use Rattle.baseline_app.specs.Jobs.{PartEnds, JobEnds, IsReadable, IsAnswer}
+use Rattle.baseline_app.specs.Jobs.{PartEnds, JobEnds, IsLineOf, IsReadable, IsAnswer}
 use Rattle.baseline_app.specs.Runs.{IsRun, IsComplete}
 
 -- the parts of a simulated session
@@ -72,9 +71,9 @@ job_status (job.Sim part seed epochs sats bands system) told end = part_status p
 
 -- the job that the words ask for ends so over its files, or memory is out
 pub asked_ends : (job : Job) (words : List (List ℕ)) (work : FileWork) (end : Ending) → IsJob words job → IsAnswer words work end
-    → EndsOver work (file_words job) IsPairLine (JobEnds job work.told) end ⊎ (end.status ≡ NoMemory)
+    → EndsOver work (file_words job) (IsLineOf job) (JobEnds job work.told) end ⊎ (end.status ≡ NoMemory)
 asked_ends job words work end asked (inl answer) =
-    inl (subst (λ (j : Job). EndsOver work (file_words j) IsPairLine (JobEnds j work.told) end) (one_job words answer.job job answer.asked asked) answer.ends)
+    inl (subst (λ (j : Job). EndsOver work (file_words j) (IsLineOf j) (JobEnds j work.told) end) (one_job words answer.job job answer.asked asked) answer.ends)
 asked_ends job words work end asked (inr (inl usage)) = absurd (usage.none job asked)
 asked_ends job words work end asked (inr (inr none)) = inr (ap (λ (e : Ending). e.status) none)
 

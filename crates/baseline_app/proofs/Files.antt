@@ -16,18 +16,18 @@ use Rattle.job_answers.specs.Works.{FileWork, AreAllRead, NamesFault, NoLine, En
 use Rattle.job_answers.specs.TextJobs.{TextJob, TextEnds}
 use Rattle.job_answers.proofs.EndingLaws.{ended_weaker, delivered_status}
 use Rattle.job_answers.proofs.WorkLaws.{none_opened, verdict_over}
-use Rattle.session_files.specs.SessionJobs.{IsPairLine}
 use Rattle.command_words.specs.declared.jobs.Job.{Job}
 use Rattle.command_words.specs.declared.sims.Part.{Part}
 use Rattle.command_words.specs.Words.{file_words}
-use Rattle.baseline_app.specs.Jobs.{PartEnds, JobEnds, AnswersJob, AnswersUsage, IsAnswer, end_of}
+use Rattle.baseline_app.specs.Jobs.{PartEnds, JobEnds, IsLineOf, AnswersJob, AnswersUsage, IsAnswer, end_of}
 use Rattle.baseline_app.specs.Runs.{IsRun, UsesFiles}
 use Rattle.baseline_app.proofs.Completes.{part_verdict}
 
 -- ---- jobs by their words
 -- a job with one file, whose name the words give
-one_over : (work : FileWork) (names : List (List ℕ)) (ends more : Ending → Type 0) (end : Ending) → (ends end → more end) → EndsOver work names NoLine ends end → EndsOver work names IsPairLine more end
-one_over work names ends more end weaker over = record {
+one_over : (work : FileWork) (names : List (List ℕ)) (IsLine : List ℕ → Type 0) (ends more : Ending → Type 0) (end : Ending) → (ends end → more end) → EndsOver work names NoLine ends end
+    → EndsOver work names IsLine more end
+one_over work names IsLine ends more end weaker over = record {
   ends_so = weaker over.ends_so;
   answered = over.answered;
   refused = λ is. elim (over.refused is) [ inl file ↦ inl file | inr none ↦ absurd none.0 ];
@@ -37,30 +37,30 @@ one_over work names ends more end weaker over = record {
 
 pub text_asked : (work : FileWork) (r : Result JobOutput JobStop) (text : TextJob) (name word : List ℕ) (job asked : Job) → job ≡ asked → name ≡ word → file_words asked ≡ word ∷ []
     → ((end : Ending) → TextEnds text work.told word end → JobEnds asked work.told end) → IsDoneOver work (name ∷ []) NoLine (TextEnds text work.told name) r
-    → IsDoneOver work (file_words job) IsPairLine (JobEnds job work.told) r
+    → IsDoneOver work (file_words job) (IsLineOf job) (JobEnds job work.told) r
 text_asked work r text name word job asked is same words weaker done =
     let at_word : IsDoneOver work (word ∷ []) NoLine (TextEnds text work.told word) r = subst (λ (n : List ℕ). IsDoneOver work (n ∷ []) NoLine (TextEnds text work.told n) r) same done in
-    let is_done : IsDoneOver work (word ∷ []) IsPairLine (JobEnds asked work.told) r = record {
+    let is_done : IsDoneOver work (word ∷ []) (IsLineOf asked) (JobEnds asked work.told) r = record {
       opened = at_word.opened;
-      ended = ended_weaker r _ _ (λ end over. one_over work (word ∷ []) (TextEnds text work.told word) (JobEnds asked work.told) end (weaker end) over) at_word.ended;
+      ended = ended_weaker r _ _ (λ end over. one_over work (word ∷ []) (IsLineOf asked) (TextEnds text work.told word) (JobEnds asked work.told) end (weaker end) over) at_word.ended;
     } in
-    subst (λ (j : Job). IsDoneOver work (file_words j) IsPairLine (JobEnds j work.told) r) (sym is)
-    (subst (λ (ns : List (List ℕ)). IsDoneOver work ns IsPairLine (JobEnds asked work.told) r) (sym words) is_done)
+    subst (λ (j : Job). IsDoneOver work (file_words j) (IsLineOf j) (JobEnds j work.told) r) (sym is)
+    (subst (λ (ns : List (List ℕ)). IsDoneOver work ns (IsLineOf asked) (JobEnds asked work.told) r) (sym words) is_done)
 
 -- any job, which the words give
-pub job_asked : (work : FileWork) (r : Result JobOutput JobStop) (job asked : Job) → job ≡ asked → IsDoneOver work (file_words asked) IsPairLine (JobEnds asked work.told) r
-    → IsDoneOver work (file_words job) IsPairLine (JobEnds job work.told) r
-job_asked work r job asked is done = subst (λ (j : Job). IsDoneOver work (file_words j) IsPairLine (JobEnds j work.told) r) (sym is) done
+pub job_asked : (work : FileWork) (r : Result JobOutput JobStop) (job asked : Job) → job ≡ asked → IsDoneOver work (file_words asked) (IsLineOf asked) (JobEnds asked work.told) r
+    → IsDoneOver work (file_words job) (IsLineOf job) (JobEnds job work.told) r
+job_asked work r job asked is done = subst (λ (j : Job). IsDoneOver work (file_words j) (IsLineOf j) (JobEnds j work.told) r) (sym is) done
 
 -- a part of a simulated session opens none
 pub part_done : (work : FileWork) (r : Result JobOutput JobStop) (part : Part) (seed epochs sats bands system : ℕ) → work.left.openings ≡ work.openings
-    → IfEnded r (PartEnds part seed epochs sats bands system) → IsDoneOver work [] IsPairLine (PartEnds part seed epochs sats bands system) r
+    → IfEnded r (PartEnds part seed epochs sats bands system) → IsDoneOver work [] NoLine (PartEnds part seed epochs sats bands system) r
 part_done work r part seed epochs sats bands system same ends =
     let read : AreAllRead work [] = record { opened = ap names_of same ∙ none_opened work.openings; last = tt } in
     record {
       opened = none_first [] work.openings work.left.openings same;
       ended = ended_weaker r _ _ (λ end so.
-          verdict_over work [] IsPairLine (PartEnds part seed epochs sats bands system) end read (part_verdict part seed epochs sats bands system end so) so) ends;
+          verdict_over work [] NoLine (PartEnds part seed epochs sats bands system) end read (part_verdict part seed epochs sats bands system end so) so) ends;
     }
 
 -- ---- the fault that is named
@@ -80,7 +80,7 @@ none_sure work names line fault all =
 
 -- ---- what a run does with files
 files_over : (work : FileWork) (job : Job) (end : Ending) (result : Status) (out err : SinkChange) → OpensFirst (file_words job) work.openings work.left.openings
-    → EndsOver work (file_words job) IsPairLine (JobEnds job work.told) end → IsDelivered end result out err → UsesFiles work (file_words job) result
+    → EndsOver work (file_words job) (IsLineOf job) (JobEnds job work.told) end → IsDelivered end result out err → UsesFiles work (file_words job) result
 files_over work job end result out err opens over written = record {
   opened = opens;
   sure = λ all is. none_sure work (file_words job) end.err (over.named (delivered_status end result ReadFault out err written is (λ e. absurd (cc (e))))) all;
@@ -90,7 +90,7 @@ files_over work job end result out err opens over written = record {
 no_memory_status : (result status : Status) (out err : SinkChange) → IsDelivered (ending NoMemory [] no_memory_line) result out err → result ≡ status → status ≢ WriteFault → NoMemory ≡ status
 no_memory_status result status out err = delivered_status (ending NoMemory [] no_memory_line) result status out err
 
-pub files_used : (work : FileWork) (job : Job) (r : Result JobOutput JobStop) (result : Status) (out err : SinkChange) → IsDoneOver work (file_words job) IsPairLine (JobEnds job work.told) r
+pub files_used : (work : FileWork) (job : Job) (r : Result JobOutput JobStop) (result : Status) (out err : SinkChange) → IsDoneOver work (file_words job) (IsLineOf job) (JobEnds job work.told) r
     → IsDelivered (end_of r) result out err → UsesFiles work (file_words job) result
 files_used work job (Ok a) result out err done written = files_over work job (ending_of a) result out err done.opened done.ended written
 files_used work job (Err (stop.Ended a)) result out err done written = files_over work job (ending_of a) result out err done.opened done.ended written

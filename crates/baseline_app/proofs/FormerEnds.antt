@@ -30,7 +30,7 @@ use Rattle.job_answers.specs.Works.{FileWork, NamesFault, IsFaultOf}
 use Rattle.job_answers.proofs.EndingLaws.{delivered_status}
 use Rattle.job_answers.specs.TextJobs.{TextJob, EndsOnText, IsTextAdmitted, form_job}
 use Rattle.session_files.specs.SessionFiles.{EndsBySession}
-use Rattle.session_files.specs.SessionJobs.{EndsOnFiles}
+use Rattle.session_files.specs.SessionJobs.{EndsOnFiles, IsPairLine}
 use Rattle.session_files.specs.Refusals.{IsPairRefused, HaveRefused}
 use Rattle.file_jobs.specs.Zero.{EndsByRows}
 use Rattle.file_jobs.specs.Listing.{EndsByObs}
@@ -49,10 +49,12 @@ use Rattle.track_job.specs.TrackJobs.{AnswersTrack}
 use Rattle.track_job.specs.CheckJobs.{AnswersTrackCert, check_track_job}
 use Rattle.command_words.specs.declared.jobs.Job.{Job}
 use Rattle.command_words.specs.declared.jobs.Job.TheVariants as job
+use Rattle.command_words.specs.declared.sims.Part.{Part}
+use Rattle.command_words.specs.declared.sims.Part.TheVariants as part
 use Rattle.command_words.specs.Words.{file_words, IsJob}
 use Rattle.baseline_app.specs.Jobs as present
 use Rattle.baseline_app.specs.Runs as runs
-use Rattle.baseline_app.specs.Former.{FormEnds, CertEnds, EndsWithOutcome, EndsWithTrack, JobEnds, IsCertAdmitted, IsFormerReadable, IsAnswer, IsRun, IsComplete, IsTold, HaveFault}
+use Rattle.baseline_app.specs.Former.{FormEnds, CertEnds, EndsWithOutcome, EndsWithTrack, PartEnds, JobEnds, IsCertAdmitted, IsFormerReadable, IsAnswer, IsRun, IsComplete, IsTold, HaveFault}
 use Rattle.baseline_app.proofs.Completes.{asked_ends, refused_told}
 use Rattle.baseline_app.proofs.Files.{fault_among}
 
@@ -110,7 +112,7 @@ fixed_tail b r n o cert (tail.Overwidth place) is fixed = tt
 fixed_tail b r n o cert (tail.Unsettled entry) is fixed = tt
 fixed_tail b r n o cert (tail.Spent budget) is fixed = tt
 
-best_answer : (b r : ObsFile) (n : Records) (o : Options) (a : Answer) → (is_fixed a ≡ true → IsFixedFor b r n o a) → IsBestAnswer a
+pub best_answer : (b r : ObsFile) (n : Records) (o : Options) (a : Answer) → (is_fixed a ≡ true → IsFixedFor b r n o a) → IsBestAnswer a
 best_answer b r n o (answer.Few pairs) fixed = tt
 best_answer b r n o (answer.Arcs free) fixed = tt
 best_answer b r n o (answer.Early stage why) fixed = tt
@@ -119,12 +121,18 @@ best_answer b r n o (answer.Full cert) fixed = fixed_tail b r n o cert cert.tail
 fix_ends : (o : Options) (end : Ending) (b r : ObsFile) (n : Records) → EndsOnFiles AnswersFix o b r n end → EndsWithOutcome b r n o end ⊎ IsPairRefused b r o end
 fix_ends o end b r n (inl answered) =
     let given_answer = answered.answer in
-    inl (record { outcome = given_answer.outcome; is = given_answer.is; best = best_answer b r n o given_answer.outcome.answer given_answer.fixed; whole = given_answer.whole; end_is = given_answer.end_is })
+    inl (record { outcome = given_answer.outcome; is = given_answer.holds.is; best = best_answer b r n o given_answer.outcome.answer given_answer.holds.fixed; whole = given_answer.whole; end_is = given_answer.end_is })
 fix_ends o end b r n (inr refused) = inr refused
 
 track_ends : (o : Options) (end : Ending) (b r : ObsFile) (n : Records) → EndsOnFiles AnswersTrack o b r n end → EndsWithTrack b r n o end ⊎ IsPairRefused b r o end
 track_ends o end b r n (inl answered) = let given_answer = answered.answer in inl (record { outcome = given_answer.outcome; is = given_answer.is; whole = given_answer.whole; end_is = given_answer.end_is })
 track_ends o end b r n (inr refused) = inr refused
+
+-- a simulated session, of which a fix is strictly best
+part_ends : (p : Part) (seed epochs sats bands system : ℕ) (end : Ending) → present.PartEnds p seed epochs sats bands system end → PartEnds p seed epochs sats bands system end
+part_ends (part.File file) seed epochs sats bands system end ends = ends
+part_ends part.Run seed epochs sats bands system end ends =
+    record { run = ends; best = best_answer ends.base_file ends.rover_file ends.records ends.options ends.ends.outcome.answer ends.ends.holds.fixed }
 
 -- ---- each job
 pub job_ends : (j : Job) (told : List ℕ → Option (List ℕ)) (end : Ending) → present.JobEnds j told end → JobEnds j told end
@@ -139,7 +147,7 @@ job_ends (job.Fix base rover nav o) told end = session_at (system_of o.system) t
 job_ends (job.Track base rover nav o) told end = session_at (system_of o.system) told base rover nav _ _ end (track_ends o end)
 job_ends (job.CheckTrack cert) told end = ends_at told cert _ _ end (check_track_ends cert end)
 job_ends (job.Arcs base rover nav o) told end = session_at (system_of o.system) told base rover nav _ _ end (arcs_ends o end)
-job_ends (job.Sim part seed epochs sats bands system) told end = λ ends. ends
+job_ends (job.Sim part seed epochs sats bands system) told end = part_ends part seed epochs sats bands system end
 
 -- ---- files that were admitted are
 form_admitted : {F : Type 0} (gives : List (List ℕ) → Result F At) (IsFile : List (List ℕ) → Type 0) (answers : List ℕ → Ending → Type 0) (told : List ℕ → Option (List ℕ)) (name : List ℕ)
@@ -170,11 +178,25 @@ is_answer words work end (inr other) = inr other
 pub is_run : (words : List (List ℕ)) (work : FileWork) (result : Status) (out err : SinkChange) → runs.IsRun words work result out err → IsRun words work.told result out err
 is_run words work result out err run = record { end = run.end; answer = is_answer words work run.end run.answer; written = run.written }
 
+-- a line about a job's files together is one about two observation files
+is_pair_line : (j : Job) (line : List ℕ) → present.IsLineOf j line → IsPairLine line
+is_pair_line (job.Zero rows) line none = absurd none
+is_pair_line (job.List obs) line none = absurd none
+is_pair_line (job.Orbit nav system sat tick) line none = absurd none
+is_pair_line (job.Check cert) line none = absurd none
+is_pair_line (job.Residuals cert) line none = absurd none
+is_pair_line (job.Migrate cert) line none = absurd none
+is_pair_line (job.Fix base rover nav options) line is = is
+is_pair_line (job.Track base rover nav options) line is = is
+is_pair_line (job.CheckTrack cert) line none = absurd none
+is_pair_line (job.Arcs base rover nav options) line is = is
+is_pair_line (job.Sim part seed epochs sats bands system) line none = absurd none
+
 -- what its text names, err has gained unless it has a fault
 pub have_refused : (words : List (List ℕ)) (work : FileWork) (result : Status) (out err : SinkChange) → runs.IsRun words work result out err → (j : Job) → IsJob words j
     → HaveRefused work.told work.left (file_words j) result (GainsUnlessFault err)
 have_refused words work result out err run j asked = elim (asked_ends j words work run.end asked run.answer) [
-  | inl over ↦ refused_told work.told work.left (file_words j) run.end result out err run.written (λ is. elim (over.refused is) [ inl file ↦ inl file | inr line ↦ inr line.0 ])
+  | inl over ↦ refused_told work.told work.left (file_words j) run.end result out err run.written (λ is. elim (over.refused is) [ inl file ↦ inl file | inr line ↦ inr (is_pair_line j run.end.err line.0) ])
   | inr none ↦ λ is. let status_is = delivered_status run.end result Refused out err run.written is (λ e. absurd (cc (e))) in absurd (cc (status_is, none))
 ]
 

@@ -1,17 +1,18 @@
 -- Each former clause of `run` follows from those of now.
-use Rattle.std.proofs.Common.{ℕ, List}
+use Rattle.std.proofs.Common.{ℕ, Bool, true, false, List}
 use Rattle.job_answers.specs.declared.status.Status.{Status}
 use Rattle.job_answers.specs.declared.status.Status.TheVariants.{Done, Declined, Usage, Refused, ReadFault, WriteFault, NoMemory}
 use Rattle.job_answers.specs.Statuses.{IsVerdictStatus}
 use Rattle.job_answers.specs.Delivered.{SinkChange}
 use Rattle.job_answers.specs.Works.{FileWork}
 use Rattle.sim_jobs.specs.SimRuns.{SaysOfSim}
-use Rattle.sim_jobs.specs.SimRunSays.{SaysOfSimRun}
+use Rattle.sim_jobs.specs.SimRunSays.{SaysMatch}
+use Rattle.sim_jobs.specs.SimRunSays as present
 use Rattle.command_words.specs.declared.sims.File.{File}
 use Rattle.command_words.specs.declared.jobs.Job.TheVariants as job
 use Rattle.command_words.specs.declared.sims.Part.TheVariants as part
-use Rattle.baseline_app.specs.Former.{SaysOfZero, SaysOfList, SaysOfOrbit, SaysOfCheck, SaysOfResiduals, SaysMigrated, SaysOfArcs, SaysOfFix, SaysOfTrack, SaysOfCheckTrack, SaysNow, SaidBefore}
-use Rattle.baseline_app.proofs.FormerEnds.{is_run, have_refused, have_fault, is_complete, still_readable}
+use Rattle.baseline_app.specs.Former.{SaysOfZero, SaysOfList, SaysOfOrbit, SaysOfCheck, SaysOfResiduals, SaysMigrated, SaysOfArcs, SaysOfFix, SaysMatchOfBest, SaysOfSimRun, SaysOfTrack, SaysOfCheckTrack, SaysNow, SaidBefore}
+use Rattle.baseline_app.proofs.FormerEnds.{best_answer, is_run, have_refused, have_fault, is_complete, still_readable}
 use Rattle.baseline_app.proofs.FormerSays.{said_each, zero_said, list_said, orbit_said, check_said, residuals_said, migrate_said, check_track_said, arcs_said, fix_said, track_said}
 
 -- a simulated session
@@ -25,10 +26,14 @@ sim_said file seed epochs sats bands system ReadFault out says = tt
 sim_said file seed epochs sats bands system WriteFault out says = tt
 sim_said file seed epochs sats bands system NoMemory out says = tt
 
-sim_run_said : (seed epochs sats bands system : ℕ) (status : Status) (out : SinkChange) → (IsVerdictStatus status → SaysOfSimRun seed epochs sats bands system status out)
+match_said : (seed epochs sats bands system : ℕ) (fixed : Bool) (out : SinkChange) → SaysMatch seed epochs sats bands system fixed out → SaysMatchOfBest seed epochs sats bands system fixed out
+match_said seed epochs sats bands system fixed out s =
+    record { says = s; best = best_answer s.have.base_file s.have.rover_file s.have.records s.options s.outcome.answer s.have.holds.fixed }
+
+sim_run_said : (seed epochs sats bands system : ℕ) (status : Status) (out : SinkChange) → (IsVerdictStatus status → present.SaysOfSimRun seed epochs sats bands system status out)
     → SaysOfSimRun seed epochs sats bands system status out
-sim_run_said seed epochs sats bands system Done out says = says tt
-sim_run_said seed epochs sats bands system Declined out says = says tt
+sim_run_said seed epochs sats bands system Done out says = match_said seed epochs sats bands system true out (says tt)
+sim_run_said seed epochs sats bands system Declined out says = match_said seed epochs sats bands system false out (says tt)
 sim_run_said seed epochs sats bands system Usage out says = tt
 sim_run_said seed epochs sats bands system Refused out says = tt
 sim_run_said seed epochs sats bands system ReadFault out says = tt

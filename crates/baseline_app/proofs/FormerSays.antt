@@ -242,10 +242,10 @@ fix_outcome : (told : List ℕ → Option (List ℕ)) (base rover nav : List ℕ
     (s : SaysOfSession AnswersFix told base rover nav o status out) → Appends out.old out.new (answer_text s.answer.outcome.answer) → (fixed : Bool)
     → is_fixed s.answer.outcome.answer ≡ fixed → SaysOfFix told base rover nav o (verdict_status fixed) out
 fix_outcome told base rover nav o status out s printed true fixed =
-    let fixed_answer : IsFixedFor s.base_file s.rover_file s.records o s.answer.outcome.answer = s.answer.fixed fixed in
+    let fixed_answer : IsFixedFor s.base_file s.rover_file s.records o s.answer.outcome.answer = s.answer.holds.fixed fixed in
     record {
       outcome = s.answer.outcome;
-      have = record { base_file = s.base_file; rover_file = s.rover_file; records = s.records; are_files = s.are_files; is = s.answer.is };
+      have = record { base_file = s.base_file; rover_file = s.rover_file; records = s.records; are_files = s.are_files; is = s.answer.holds.is };
       cert = fixed_answer.cert;
       answer_is = fixed_answer.answer_is;
       whole = subst IsWholeAnswer fixed_answer.answer_is s.answer.whole;
@@ -258,7 +258,7 @@ fix_outcome told base rover nav o status out s printed true fixed =
     }
 fix_outcome told base rover nav o status out s printed false none = record {
   outcome = s.answer.outcome;
-  have = record { base_file = s.base_file; rover_file = s.rover_file; records = s.records; are_files = s.are_files; is = s.answer.is };
+  have = record { base_file = s.base_file; rover_file = s.rover_file; records = s.records; are_files = s.are_files; is = s.answer.holds.is };
   none = none;
   whole = s.answer.whole;
   printed = printed;

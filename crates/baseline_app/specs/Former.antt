@@ -82,14 +82,17 @@ use Rattle.session_jobs.specs.FixJobs.{IsFix, StandsForIts}
 use Rattle.track_job.specs.TrackOutcomes.{IsTrackOutcome}
 use Rattle.track_job.specs.TrackJobs.{IsTrackFix, TrackStandsForIts, track_status_of}
 use Rattle.track_job.specs.CheckJobs.{IsVerdictOn, IsBestFor, IsBestByItsRatio, AnswersTrackCert}
+use Rattle.sim_jobs.specs.Sims.{SimEnds}
 use Rattle.sim_jobs.specs.SimRuns.{SaysOfSim}
-use Rattle.sim_jobs.specs.SimRunSays.{HaveOutcome, SaysOfSimRun}
+use Rattle.sim_jobs.specs.SimRunJobs as sim_run
+use Rattle.sim_jobs.specs.SimRunSays.{SaysMatch}
 use Rattle.command_words.specs.declared.sims.File.{File}
 use Rattle.command_words.specs.declared.jobs.Job.{Job}
 use Rattle.command_words.specs.declared.jobs.Job.TheVariants as job
+use Rattle.command_words.specs.declared.sims.Part.{Part}
 use Rattle.command_words.specs.declared.sims.Part.TheVariants as part
 use Rattle.command_words.specs.Words.{file_words, IsJob}
-use Rattle.baseline_app.specs.Jobs.{PartEnds, AnswersUsage, IsReadable, SaysOfJob}
+use Rattle.baseline_app.specs.Jobs.{AnswersUsage, IsReadable, SaysOfJob}
 use Rattle.baseline_app.specs.Runs as runs
 
 -- what is said with status 0, and what with status 1
@@ -237,6 +240,13 @@ abbrev pub SaysOfArcs : (List ℕ → Option (List ℕ)) → List ℕ → List �
 SaysOfArcs told base rover nav o status out = Said (SaysArcs told base rover nav o out) ⊥ status
 
 -- ---- `fix`
+pub record HaveOutcome (told : List ℕ → Option (List ℕ)) (base rover nav : List ℕ) (o : Options) (outcome : Outcome) : Type 0 where
+  pub base_file : ObsFile
+  pub rover_file : ObsFile
+  pub records : Records
+  pub are_files : AreFilesOf (system_of o.system) told base rover nav base_file rover_file records
+  pub is : IsOutcome base_file rover_file records o outcome
+
 pub record SaysFixed (told : List ℕ → Option (List ℕ)) (base rover nav : List ℕ) (o : Options) (out : SinkChange) : Type 0 where
   pub outcome : Outcome
   pub have : HaveOutcome told base rover nav o outcome
@@ -259,6 +269,15 @@ pub record SaysDeclined (told : List ℕ → Option (List ℕ)) (base rover nav 
 
 abbrev pub SaysOfFix : (List ℕ → Option (List ℕ)) → List ℕ → List ℕ → List ℕ → Options → Status → SinkChange → Type 0
 SaysOfFix told base rover nav o status out = Said (SaysFixed told base rover nav o out) (SaysDeclined told base rover nav o out) status
+
+-- ---- `sim run`: what it says now, and that a fix with its move is strictly best
+pub record SaysMatchOfBest (seed epochs sats bands system : ℕ) (fixed : Bool) (out : SinkChange) : Type 0 where
+  pub says : SaysMatch seed epochs sats bands system fixed out
+  pub best : IsBestAnswer says.outcome.answer
+
+abbrev pub SaysOfSimRun : ℕ → ℕ → ℕ → ℕ → ℕ → Status → SinkChange → Type 0
+SaysOfSimRun seed epochs sats bands system status out =
+    Said (SaysMatchOfBest seed epochs sats bands system true out) (SaysMatchOfBest seed epochs sats bands system false out) status
 
 -- ---- `track`
 pub record HaveTrackOutcome (told : List ℕ → Option (List ℕ)) (base rover nav : List ℕ) (o : Options) (outcome : TrackOutcome) : Type 0 where
@@ -346,6 +365,14 @@ pub record EndsWithTrack (b r : ObsFile) (n : Records) (o : Options) (end : Endi
   pub is : IsTrackOutcome b r n o outcome
   pub whole : IsWholeTrackAnswer outcome.answer
   pub end_is : end ≡ ending (track_status_of outcome.answer) (track_answer_text outcome.answer) (track_outcome_text outcome)
+
+pub record SimRunEnds (seed epochs sats bands system : ℕ) (end : Ending) : Type 0 where
+  pub run : sim_run.SimRunEnds seed epochs sats bands system end
+  pub best : IsBestAnswer run.ends.outcome.answer
+
+abbrev pub PartEnds : Part → ℕ → ℕ → ℕ → ℕ → ℕ → Ending → Type 0
+PartEnds (part.File file) seed epochs sats bands system end = SimEnds file seed epochs sats bands system end
+PartEnds part.Run seed epochs sats bands system end = SimRunEnds seed epochs sats bands system end
 
 abbrev pub JobEnds : Job → (List ℕ → Option (List ℕ)) → Ending → Type 0
 JobEnds (job.Zero rows) told end = EndsByFile told rows (FormEnds rows_of IsZeroFile EndsByRows rows) end

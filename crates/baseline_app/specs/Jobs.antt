@@ -10,7 +10,7 @@ use Rattle.job_answers.specs.Answers.{ending_of}
 use Rattle.job_answers.specs.Texts.{usage_line, no_memory_line}
 use Rattle.job_answers.specs.Endings.{Ending, ending}
 use Rattle.job_answers.specs.Delivered.{SinkChange}
-use Rattle.job_answers.specs.Works.{FileWork, EndsOver}
+use Rattle.job_answers.specs.Works.{FileWork, NoLine, EndsOver}
 use Rattle.job_answers.specs.TextJobs.{TextEnds, IsTextAdmitted, SaysOfText}
 use Rattle.session_files.specs.Admitted.{AreAdmitted}
 use Rattle.session_files.specs.SessionJobs.{SessionEnds, SaysOfSession, IsPairLine}
@@ -51,6 +51,13 @@ JobEnds (job.CheckTrack cert) told end = TextEnds check_track_job told cert end
 JobEnds (job.Arcs base rover nav options) told end = SessionEnds AnswersArcs told base rover nav options end
 JobEnds (job.Sim part seed epochs sats bands system) told end = PartEnds part seed epochs sats bands system end
 
+-- a line about the job's files together: of a session alone there is one
+abbrev pub IsLineOf : Job → List ℕ → Type 0
+IsLineOf (job.Fix base rover nav options) = IsPairLine
+IsLineOf (job.Track base rover nav options) = IsPairLine
+IsLineOf (job.Arcs base rover nav options) = IsPairLine
+IsLineOf _ = NoLine
+
 -- All files of the job are there and admitted, and those of a session aren't refused together. Observations may be in either
 -- format of RINEX, where the system has both; `list` reads those of GPS.
 abbrev pub IsReadable : Job → (List ℕ → Option (List ℕ)) → Type 0
@@ -86,7 +93,7 @@ SaysOfJob (job.Sim part.Run seed epochs sats bands system) told status out = Say
 pub record AnswersJob (words : List (List ℕ)) (work : FileWork) (end : Ending) : Type 0 where
   pub job : Job
   pub asked : IsJob words job
-  pub ends : EndsOver work (file_words job) IsPairLine (JobEnds job work.told) end
+  pub ends : EndsOver work (file_words job) (IsLineOf job) (JobEnds job work.told) end
 
 -- the words ask for none
 pub record AnswersUsage (words : List (List ℕ)) (end : Ending) : Type 0 where

@@ -12,11 +12,12 @@
 //! rose (`read`), 5 only where a sink's count did (`write`); with status 0 or 1 neither sink's did (`steady`). What a job
 //! does with its files is one clause (`files`, of `UsesFiles`): a first part of them is opened, each once and in order, and
 //! with sure names there is no read fault. The rest is a part of how the job ends (`run`, of `EndsOver`), whether or not the
-//! sinks take its texts: an answer, or a refusal of the two observation files together, comes after all were opened and the
-//! last was read to its end; another refusal names a file that was read to its end or is too large; a read fault names one
-//! whose name isn't sure, the last that was opened or the one after it. Words without files leave all files as they are
-//! (`untouched`). Where all files of a job are there and of its form, and nothing fails, it ends with status 0 or 1 and its
-//! text is written, or it is out of memory (`complete`); `sim` and `sim run` need no file for that.
+//! sinks take its texts: an answer, or a refusal of the two observation files together, which a session alone has, comes
+//! after all were opened and the last was read to its end; another refusal names a file that was read to its end or is too
+//! large; a read fault names one whose name isn't sure, the last that was opened or the one after it. Words without files
+//! leave all files as they are (`untouched`). Where all files of a job are there and of its form, and nothing fails, it ends
+//! with status 0 or 1 and its text is written, or it is out of memory (`complete`); `sim` and `sim run` need no file for
+//! that.
 //!
 //! # Jobs
 //!
@@ -33,7 +34,7 @@
 //! | `migrate` | the spelling of the lifted certificate, whose tail is fixed, and best in the printed boxes and in the old ones (`migrate_job`) | the same where its tail isn't fixed |
 //! | `arcs` | the kept arcs of the files | |
 //! | `sim` | a file of a session of the seed | |
-//! | `sim run` | the four lines about a session that is fixed, of which holds what `fix` says of a fix; `match yes` exactly where its integers are the truth's | the four lines about one that isn't |
+//! | `sim run` | the four lines about a session that is fixed, of which holds what `fix` says of a fix; `match yes` exactly where its integers are the truth's | the four lines about one that isn't, of which holds what `fix` says of a decline |
 //!
 //! What `run` said in clauses of earlier forms follows from these (`former_law` of `laws`), and what the commands of `sim`
 //! have in common (`one_session_law`).
@@ -41,14 +42,14 @@
 //! # How a command is added
 //!
 //! A command has a variant of `Job` with its words (crate command_words), and in a crate of commands a struct with one
-//! method: a `TextCommand` on one file, as `Orbit` of file_jobs, or a `SessionCommand` on the three of a session, as `Fix` of
-//! session_jobs, with what it answers in specs/. Here it has cases of `JobEnds`, `IsReadable` and `SaysOfJob` (specs/Jobs.antt), of
-//! the three lemmas over them (proofs/Completes.antt, proofs/Says.antt), of the older forms (specs/Former.antt,
-//! proofs/FormerEnds.antt), and an arm in `do_job` with its answer. What is said of statuses, sinks, files, faults and
-//! completeness (specs/Runs.antt) stays as it is. In command_words: a variant of `CommandName` (`src/command_name.rt`) with
-//! its name and its options, specs/Words.antt, specs/Split.antt, an arm in `src/jobs.rt`, and cases in proofs/, above all
-//! in OneJob.antt, which tells each two jobs apart. Its usage line stands in job_answers (`src/stop.rt`, specs/Texts.antt),
-//! its words and texts in docs/FORMATS.md, docs/GUIDE.md and README.
+//! method: a `TextCommand` on one file, as `Orbit` of file_jobs, or a `SessionCommand` on the three of a session, as `Fix`
+//! of session_jobs, with what it answers in specs/. Here it has cases of `JobEnds`, `IsReadable` and `SaysOfJob`, and on
+//! three files of `IsLineOf` (specs/Jobs.antt), of the three lemmas over them (proofs/Completes.antt, proofs/Says.antt), of
+//! the older forms (specs/Former.antt, proofs/FormerEnds.antt), and an arm in `do_job` with its answer. What is said of
+//! statuses, sinks, files, faults and completeness (specs/Runs.antt) stays as it is. In command_words: a variant of
+//! `CommandName` (`src/command_name.rt`) with its name and its options, specs/Words.antt, specs/Split.antt, an arm in
+//! `src/jobs.rt`, and cases in proofs/, above all in OneJob.antt, which tells each two jobs apart. Its usage line stands in
+//! job_answers (`src/stop.rt`, specs/Texts.antt), its words and texts in docs/FORMATS.md, docs/GUIDE.md and README.
 #![tactic(auto)]
 
 #[cfg(test)]

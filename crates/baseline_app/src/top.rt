@@ -1,5 +1,5 @@
 //! The program over any files and sinks.
-ghost use Rattle.std.specs.Prelude.{◌≡◌, ◌≢◌, ◌⊎◌, [], ◌∷◌, All, IfOk, IsErr};
+ghost use Rattle.std.specs.Prelude.{◌≡◌, ◌⊎◌, [], ◌∷◌, All, IfOk, IsErr};
 ghost use Rattle.line_source.specs.Causes.{Rose};
 ghost use Rattle.job_answers.specs.Statuses.{IsVerdictStatus};
 ghost use Rattle.job_answers.specs.Answers.{IfEnded};
@@ -8,7 +8,7 @@ ghost use Rattle.job_answers.specs.Works.{file_work, IsDoneOver};
 ghost use Rattle.command_words.specs.declared.jobs.Job.{Job};
 ghost use Rattle.command_words.specs.Words.{texts_of, file_words, IsJob, IsInRange, IsSimInRange};
 ghost use Rattle.session_files.specs.SessionJobs.{SessionEnds, IsPairLine};
-ghost use Rattle.baseline_app.specs.Jobs.{PartEnds, JobEnds, IsReadable, SaysOfJob, AnswersJob, AnswersUsage, stop_end, end_of};
+ghost use Rattle.baseline_app.specs.Jobs.{PartEnds, JobEnds, IsLineOf, IsReadable, SaysOfJob, AnswersJob, AnswersUsage, stop_end, end_of};
 ghost use Rattle.baseline_app.specs.Runs.{IsRun, UsesFiles, IsComplete, IsStarted, HasNoWords};
 
 use cert_jobs::{CertCheck, Migration, Residuals};
@@ -68,7 +68,7 @@ fn sim_part(
 // What the job ends with.
 fn do_job<F: Files>(alloc: Global, job: &Job, files: &mut F) -> Result<JobOutput, JobStop>
     requires { IsInRange job.now }
-    ensures done { IsDoneOver (file_work F.Files files.old files.new) (file_words job.now) IsPairLine (JobEnds job.now (F.text_of files.old)) result }
+    ensures done { IsDoneOver (file_work F.Files files.old files.new) (file_words job.now) (IsLineOf job.now) (JobEnds job.now (F.text_of files.old)) result }
     ensures untouched { file_words job.now ≡ [] → files.new ≡ files.old }
 {
     match job {
@@ -123,7 +123,7 @@ fn do_job<F: Files>(alloc: Global, job: &Job, files: &mut F) -> Result<JobOutput
 // What the words ask for, as far as memory goes.
 fn answer_of<F: Files>(alloc: Global, words: &[String], files: &mut F) -> Result<JobOutput, JobStop>
     ensures answer { IfEnded result (λ end. AnswersJob (texts_of words.now) (file_work F.Files files.old files.new) end ⊎ AnswersUsage (texts_of words.now) end) }
-    ensures done { (job : Job) → IsJob (texts_of words.now) job → IsDoneOver (file_work F.Files files.old files.new) (file_words job) IsPairLine (JobEnds job (F.text_of files.old)) result }
+    ensures done { (job : Job) → IsJob (texts_of words.now) job → IsDoneOver (file_work F.Files files.old files.new) (file_words job) (IsLineOf job) (JobEnds job (F.text_of files.old)) result }
     ensures untouched { ((job : Job) → IsJob (texts_of words.now) job → file_words job ≡ []) → files.new ≡ files.old }
 {
     match read_words(alloc, words) {

@@ -1,4 +1,4 @@
--- What an outcome that is a fix says of its files.
+-- What an outcome says of its files.
 use Rattle.std.proofs.Common.{◌≡◌, true, refl, subst}
 use Rattle.std.proofs.lemmas.Bool.{false≢true}
 use Rattle.cert_data.specs.declared.certs.Cert.{Cert}
@@ -16,9 +16,9 @@ use Rattle.cert_check.proofs.Checked.{certified_by_ratio}
 use Rattle.session.specs.Answers.{IsBestAnswer}
 use Rattle.session.specs.Outcomes.{IsOutcome}
 use Rattle.outcome_report.specs.OutcomeText.{is_fixed, is_fixed_tail}
-use Rattle.session_jobs.specs.FixJobs.{IsFix, IsFixedFor}
+use Rattle.session_jobs.specs.FixJobs.{IsFix, IsFixedFor, IsOutcomeFor}
 use Rattle.session_jobs.proofs.Runs.{stands_for}
-use Rattle.session_jobs.proofs.Certified.{certified_again, no_other}
+use Rattle.session_jobs.proofs.Certified.{ends_once, certified_again, no_other}
 
 -- an answer that is fixed is a certificate that says so
 record IsFixedCert (a : Answer) : Type 0 where
@@ -40,7 +40,7 @@ fixed_cert (Arcs free) fixed best = absurd (false≢true fixed)
 fixed_cert (Early stage why) fixed best = absurd (false≢true fixed)
 fixed_cert (Full cert) fixed best = record { cert = cert; is = refl; fix = fixed_tail cert cert.tail refl fixed best }
 
-pub fixed_for : (b r : ObsFile) (n : Records) (o : Options) (outcome : Outcome) → IsOutcome b r n o outcome → IsBestAnswer outcome.answer
+fixed_for : (b r : ObsFile) (n : Records) (o : Options) (outcome : Outcome) → IsOutcome b r n o outcome → IsBestAnswer outcome.answer
     → is_fixed outcome.answer ≡ true → IsFixedFor b r n o outcome.answer
 fixed_for b r n o outcome is best fixed =
     let fixed_answer : IsFixedCert outcome.answer = fixed_cert outcome.answer fixed best in
@@ -54,3 +54,11 @@ fixed_for b r n o outcome is best fixed =
       only = no_other fixed_answer.cert certified;
       stands = stands_for b r n o outcome fixed_answer.cert is fixed_answer.is;
     }
+
+pub outcome_for : (b r : ObsFile) (n : Records) (o : Options) (outcome : Outcome) → IsOutcome b r n o outcome → IsBestAnswer outcome.answer → IsOutcomeFor b r n o outcome
+outcome_for b r n o outcome is best = record {
+  is = is;
+  fixed = fixed_for b r n o outcome is best;
+  only = ends_once b r n o outcome is;
+  stands = λ cert full. stands_for b r n o outcome cert is full;
+}

@@ -71,13 +71,17 @@ pub record IsFixedFor (b r : ObsFile) (n : Records) (o : Options) (answer : Answ
 abbrev pub status_of : Answer → Status
 status_of a = verdict_status (is_fixed a)
 
--- The outcome of the files, in its two texts. A certificate that is printed stands for the files, whatever it says, and is the only
--- one with its text. The round of its session ends the run, and in no other way, but where a search gave up.
-pub record AnswersFix (o : Options) (b r : ObsFile) (n : Records) (end : Ending) : Type 0 where
-  pub outcome : Outcome
+-- The outcome of the files, whatever is printed of it. A certificate of it stands for the files, whatever it says. The round of its
+-- session ends the run, and in no other way, but where a search gave up.
+pub record IsOutcomeFor (b r : ObsFile) (n : Records) (o : Options) (outcome : Outcome) : Type 0 where
   pub is : IsOutcome b r n o outcome
   pub fixed : is_fixed outcome.answer ≡ true → IsFixedFor b r n o outcome.answer
   pub only : (cert : Cert) → outcome.answer ≡ Full cert → IsOnlyEnd (outcome.rounds.fine == most_rounds 0) cert.session cert.ratio cert.budget cert.tail
   pub stands : (cert : Cert) → outcome.answer ≡ Full cert → StandsForIts b r n o cert
+
+-- That outcome, in its two texts. A certificate that is printed is the only one with its text.
+pub record AnswersFix (o : Options) (b r : ObsFile) (n : Records) (end : Ending) : Type 0 where
+  pub outcome : Outcome
+  pub holds : IsOutcomeFor b r n o outcome
   pub whole : IsWholeAnswer outcome.answer
   pub end_is : end ≡ ending (status_of outcome.answer) (answer_text outcome.answer) (outcome_text outcome)

@@ -39,7 +39,7 @@ sim_run_says seed epochs sats bands system end out run written =
     let answer = found.outcome.answer in
     let printed : Appends out.old out.new (run_text seed epochs sats answer found.matched) = subst (λ (e : Ending). Appends out.old out.new e.out) found.end_is written in
     let have : HaveOutcome run.told (codes "base") (codes "rover") (codes "nav") run.options found.outcome =
-    record { base_file = run.base_file; rover_file = run.rover_file; records = run.records; are_files = run.are_files; is = found.is } in
+    record { base_file = run.base_file; rover_file = run.rover_file; records = run.records; are_files = run.are_files; holds = found.holds } in
     says_at seed epochs sats bands system end _ out found.end_is (by_verdict seed epochs sats bands system out (is_fixed answer) (record {
       told = run.told;
       made = run.made;
@@ -47,7 +47,6 @@ sim_run_says seed epochs sats bands system end out run written =
       options_are = run.options_are;
       outcome = found.outcome;
       have = have;
-      fix = found.fixed;
       fixed_is = refl;
       matched = found.matched;
       matched_is = found.matched_is;

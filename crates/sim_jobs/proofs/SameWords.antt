@@ -1,13 +1,11 @@
 -- The texts of two sessions of the same words.
-use Rattle.std.proofs.Common.{◌≡◌, ◌∙◌, ℕ, zero, suc, ◌+◌, ◌<◌, ℤ, pos, negsuc, List, [], ◌∷◌, ◌++◌, length, All, refl, sym, ap, subst, arith}
+use Rattle.std.proofs.Common.{◌≡◌, ◌∙◌, ℕ, ◌+◌, ℤ, pos, negsuc, List, [], ◌∷◌, ◌++◌, length, refl, sym, ap, arith}
 use Rattle.rational.specs.Rational.{of_whole}
 use Rattle.eph_store.specs.Decimals.{decimal}
 use Rattle.eph_store.specs.declared.ephemeris.Eph.{Eph}
 use Rattle.orbit_model.specs.Elements.{Constants}
-use Rattle.sv_orbit.specs.Worlds.{world_of}
-use Rattle.sim_session.specs.declared.signals.Signals.{Signals}
 use Rattle.sim_session.specs.declared.signals.Tracking.{Tracking}
-use Rattle.sim_session.specs.Navigation.{record_text, record_texts, navigation_header, navigation_text}
+use Rattle.sim_session.specs.Navigation.{record_text, record_texts, navigation_header}
 use Rattle.sim_session.specs.Satellites.{anomaly, node, root_a_tenths, IsSatellite, AreNormal, AreSatellites}
 use Rattle.sim_session.specs.Observations.{IsObservationText}
 use Rattle.sim_session.specs.Texts.{tracking_of, IsBaseText, IsRoverText, IsNavigationText}

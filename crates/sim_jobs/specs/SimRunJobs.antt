@@ -15,12 +15,11 @@ use Rattle.cert_data.specs.declared.outcomes.Answer.{Answer}
 use Rattle.cert_data.specs.declared.outcomes.Answer.TheVariants.{Full}
 use Rattle.run_options.specs.declared.options.Options.{Options}
 use Rattle.run_options.specs.Defaults.{AreDefaults, numbers_of}
-use Rattle.session.specs.Outcomes.{IsOutcome}
 use Rattle.outcome_report.specs.OutcomeText.{is_fixed}
 use Rattle.job_answers.specs.Endings.{Ending, ending}
 use Rattle.session_files.specs.SessionFiles.{AreFilesOf}
 use Rattle.session_files.specs.Refusals.{IsPairRefused}
-use Rattle.session_jobs.specs.FixJobs.{IsFixedFor, status_of}
+use Rattle.session_jobs.specs.FixJobs.{IsOutcomeFor, status_of}
 use Rattle.sim_jobs.specs.Matches.{IsMatched}
 
 -- under these three names the files of a session of the seed stand, with these bands of the system with that letter
@@ -63,11 +62,10 @@ found_lines a matched = codes "verdict " ++ (verdict_word a ++ (codes "\ninteger
 abbrev pub run_text : ℕ → ℕ → ℕ → Answer → Bool → List ℕ
 run_text seed epochs sats a matched = made_line seed epochs sats ++ found_lines a matched
 
--- the outcome of the files, with all that `fix` says of a fix, and whether it is one with the integers of the truth
+-- the outcome of the files, with all that `fix` says of one, and whether it is a fix with the integers of the truth
 pub record EndsWithMatch (o : Options) (seed epochs sats bands : ℕ) (b r : ObsFile) (n : Records) (end : Ending) : Type 0 where
   pub outcome : Outcome
-  pub is : IsOutcome b r n o outcome
-  pub fixed : is_fixed outcome.answer ≡ true → IsFixedFor b r n o outcome.answer
+  pub holds : IsOutcomeFor b r n o outcome
   pub matched : Bool
   pub matched_is : IsTrue matched ↔ IsMatched (truth_in seed sats bands) outcome.answer
   pub end_is : end ≡ ending (status_of outcome.answer) (run_text seed epochs sats outcome.answer matched) []

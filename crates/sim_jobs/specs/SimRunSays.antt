@@ -11,22 +11,21 @@ use Rattle.job_answers.specs.Delivered.{SinkChange}
 use Rattle.obs_store.specs.declared.file.ObsFile.{ObsFile}
 use Rattle.eph_store.specs.File.{Records}
 use Rattle.rinex_head.specs.Systems.{system_of}
-use Rattle.session.specs.Outcomes.{IsOutcome}
 use Rattle.session_files.specs.SessionFiles.{AreFilesOf}
-use Rattle.session_jobs.specs.FixJobs.{IsFixedFor}
+use Rattle.session_jobs.specs.FixJobs.{IsOutcomeFor}
 use Rattle.sim_jobs.specs.Matches.{IsMatched}
 use Rattle.sim_jobs.specs.SimRunJobs.{AreMadeFiles, AreOptionsOn, truth_in, run_text}
 
--- the three texts stand for a session of the options' system, whose outcome is this
+-- the three texts stand for a session of the options' system, whose outcome is this, with all that `fix` says of one
 pub record HaveOutcome (told : List ℕ → Option (List ℕ)) (base rover nav : List ℕ) (o : Options) (outcome : Outcome) : Type 0 where
   pub base_file : ObsFile
   pub rover_file : ObsFile
   pub records : Records
   pub are_files : AreFilesOf (system_of o.system) told base rover nav base_file rover_file records
-  pub is : IsOutcome base_file rover_file records o outcome
+  pub holds : IsOutcomeFor base_file rover_file records o outcome
 
--- the made texts stand for a session, whose outcome is a fix or not, a fix with all that `fix` says of one; out has gained what it
--- is, and `match yes` exactly where it is a fix with the integers of the truth
+-- the made texts stand for a session, whose outcome is a fix or not; out has gained what it is, and `match yes` exactly where it is
+-- a fix with the integers of the truth
 pub record SaysMatch (seed epochs sats bands system : ℕ) (fixed : Bool) (out : SinkChange) : Type 0 where
   pub told : List ℕ → Option (List ℕ)
   pub made : AreMadeFiles seed epochs sats bands system told
@@ -34,7 +33,6 @@ pub record SaysMatch (seed epochs sats bands system : ℕ) (fixed : Bool) (out :
   pub options_are : AreOptionsOn bands system options
   pub outcome : Outcome
   pub have : HaveOutcome told (codes "base") (codes "rover") (codes "nav") options outcome
-  pub fix : is_fixed outcome.answer ≡ true → IsFixedFor have.base_file have.rover_file have.records options outcome.answer
   pub fixed_is : is_fixed outcome.answer ≡ fixed
   pub matched : Bool
   pub matched_is : IsTrue matched ↔ IsMatched (truth_in seed sats bands) outcome.answer

@@ -1,12 +1,13 @@
 //! The commands of simulated sessions: `sim` gives a file of one, and `sim run` processes one and compares its integers with
 //! those that it was made with.
 //!
-//! `sim run` ends with the outcome of the simulated texts, which is that of `fix` on them
-//! with the bands and the system that they were made for and no other option given: the three are read, whatever the
-//! seed, and the two are never refused together (`ends`). `is_matched`, and so the line `match yes`, is exact: the
-//! answer is a fix, and each free arc has on each of the bands, against the datum of its linked set, the cycles that
-//! its satellite was made with. That datum is found as the last one at or before the arc, and proved to be the one that
-//! a chain of arcs leads to, each of which shares a pair with the next; a linked set has no other.
+//! `sim run` ends with the outcome of the simulated texts, which is that of `fix` on them with the bands and the system
+//! that they were made for and no other option given, with all that `fix` says of one, fixed or declined
+//! (`IsOutcomeFor`): the three are read, whatever the seed, and the two are never refused together (`ends`).
+//! `is_matched`, and so the line `match yes`, is exact: the answer is a fix, and each free arc has on each of the
+//! bands, against the datum of its linked set, the cycles that its satellite was made with. That datum is found as the
+//! last one at or before the arc, and proved to be the one that a chain of arcs leads to, each of which shares a pair
+//! with the next; a linked set has no other.
 //!
 //! `sim` ends with status 0, and on out with exactly the file that is asked for, of a session of the seed that has all
 //! three (`SimEnds`; crate sim_session says what such a session is). A run with status 0 has written that text, and

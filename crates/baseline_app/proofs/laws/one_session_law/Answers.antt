@@ -1,6 +1,5 @@
 use Rattle.std.proofs.Common.{◌≡◌, ◌∙◌, List, ℕ, Some, ap, sym, subst}
-use Rattle.sim_session.specs.Texts.{tracking_of, IsBaseText, IsRoverText, IsNavigationText}
-use Rattle.sim_jobs.specs.SameWords.{DifferInSignals}
+use Rattle.sim_session.specs.Texts.{IsBaseText, IsRoverText, IsNavigationText}
 use Rattle.sim_jobs.proofs.SameWords.{one_navigation, base_differs, rover_differs}
 use Rattle.baseline_app.proofs.laws.one_session_law.Goals as goal
 

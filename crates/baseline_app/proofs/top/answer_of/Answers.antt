@@ -1,11 +1,10 @@
 use Rattle.std.proofs.Common.{rules, inl, inr, subst}
 use Rattle.job_answers.specs.Works.{file_work, IsDoneOver}
 use Rattle.job_answers.proofs.EndingLaws.{ended_weaker}
-use Rattle.session_files.specs.SessionJobs.{IsPairLine}
 use Rattle.command_words.specs.declared.jobs.Job.{Job}
 use Rattle.command_words.specs.Words.{texts_of, file_words, IsJob}
 use Rattle.command_words.proofs.OneJob.{one_job}
-use Rattle.baseline_app.specs.Jobs.{JobEnds}
+use Rattle.baseline_app.specs.Jobs.{JobEnds, IsLineOf}
 use Rattle.baseline_app.proofs.top.answer_of.Goals as goal
 
 pub returns-in-Ok-clause-answer : goal.returns-in-Ok-clause-answer
@@ -15,7 +14,7 @@ returns-in-Ok-clause-answer g c =
 pub returns-in-Ok-clause-done : goal.returns-in-Ok-clause-done
 returns-in-Ok-clause-done g c = λ job asked.
     let work = file_work g.F.Files c.args.files.now c.do_job.new.files in
-    subst (λ (j : Job). IsDoneOver work (file_words j) IsPairLine (JobEnds j work.told) c.do_job.result) (one_job (texts_of c.args.words.now) c.in-Ok.job job c.in-Ok.ensures.job asked)
+    subst (λ (j : Job). IsDoneOver work (file_words j) (IsLineOf j) (JobEnds j work.told) c.do_job.result) (one_job (texts_of c.args.words.now) c.in-Ok.job job c.in-Ok.ensures.job asked)
     c.do_job.ensures.done
 
 pub returns-in_ok-usage-in-Err-Usage-clause-answer : goal.returns-in_ok-usage-in-Err-Usage-clause-answer

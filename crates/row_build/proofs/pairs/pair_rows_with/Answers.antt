@@ -61,6 +61,7 @@ returns-in_err-rows-clause-overwidth c = λ e.
     let allowed : IsGroup setting c.args.pair chosen_group = record {
       entry = c.first_entry-first.result.sv.now;
       entry_is = c.first_entry-first.ensures.entry;
+      seen = both_see c.first_entry-first.result c.args.from.now.base.now c.args.from.now.point.now c.first_entry-first.ensures.seen;
       allowed =
           c.group_of-group.ensures.allowed c.args.from.now.base.now c.args.from.now.point.now c.first_entry-first.ensures.seen c.args.scale c.requires.scale;
     } in

@@ -1,6 +1,4 @@
-use Rattle.session_jobs.proofs.Certified.{ends_once}
-use Rattle.session_jobs.proofs.FixSays.{fixed_for}
-use Rattle.session_jobs.proofs.Runs.{stands_for}
+use Rattle.session_jobs.proofs.FixSays.{outcome_for}
 use Rattle.session_jobs.proofs.fixes.FixSessionCommand.answer.Goals as goal
 
 pub finish_run-requires : goal.finish_run-requires
@@ -16,10 +14,7 @@ returns-clause-answered c =
       verdict = written.verdict;
       answer = record {
         outcome = outcome;
-        is = outcome_holds;
-        fixed = fixed_for files.base files.rover files.nav c.args.options.now outcome outcome_holds c.in_ok-outcome.ensures.strictly_best;
-        only = ends_once files.base files.rover files.nav c.args.options.now outcome outcome_holds;
-        stands = λ cert full. stands_for files.base files.rover files.nav c.args.options.now outcome cert outcome_holds full;
+        holds = outcome_for files.base files.rover files.nav c.args.options.now outcome outcome_holds c.in_ok-outcome.ensures.strictly_best;
         whole = written.whole;
         end_is = written.ended;
       };
