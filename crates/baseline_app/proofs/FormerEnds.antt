@@ -179,24 +179,24 @@ pub is_run : (words : List (List ℕ)) (work : FileWork) (result : Status) (out 
 is_run words work result out err run = record { end = run.end; answer = is_answer words work run.end run.answer; written = run.written }
 
 -- a line about a job's files together is one about two observation files
-pair_line : (j : Job) (line : List ℕ) → present.IsLineOf j line → IsPairLine line
-pair_line (job.Zero rows) line none = absurd none
-pair_line (job.List obs) line none = absurd none
-pair_line (job.Orbit nav system sat tick) line none = absurd none
-pair_line (job.Check cert) line none = absurd none
-pair_line (job.Residuals cert) line none = absurd none
-pair_line (job.Migrate cert) line none = absurd none
-pair_line (job.Fix base rover nav options) line is = is
-pair_line (job.Track base rover nav options) line is = is
-pair_line (job.CheckTrack cert) line none = absurd none
-pair_line (job.Arcs base rover nav options) line is = is
-pair_line (job.Sim part seed epochs sats bands system) line none = absurd none
+is_pair_line : (j : Job) (line : List ℕ) → present.IsLineOf j line → IsPairLine line
+is_pair_line (job.Zero rows) line none = absurd none
+is_pair_line (job.List obs) line none = absurd none
+is_pair_line (job.Orbit nav system sat tick) line none = absurd none
+is_pair_line (job.Check cert) line none = absurd none
+is_pair_line (job.Residuals cert) line none = absurd none
+is_pair_line (job.Migrate cert) line none = absurd none
+is_pair_line (job.Fix base rover nav options) line is = is
+is_pair_line (job.Track base rover nav options) line is = is
+is_pair_line (job.CheckTrack cert) line none = absurd none
+is_pair_line (job.Arcs base rover nav options) line is = is
+is_pair_line (job.Sim part seed epochs sats bands system) line none = absurd none
 
 -- what its text names, err has gained unless it has a fault
 pub have_refused : (words : List (List ℕ)) (work : FileWork) (result : Status) (out err : SinkChange) → runs.IsRun words work result out err → (j : Job) → IsJob words j
     → HaveRefused work.told work.left (file_words j) result (GainsUnlessFault err)
 have_refused words work result out err run j asked = elim (asked_ends j words work run.end asked run.answer) [
-  | inl over ↦ refused_told work.told work.left (file_words j) run.end result out err run.written (λ is. elim (over.refused is) [ inl file ↦ inl file | inr line ↦ inr (pair_line j run.end.err line.0) ])
+  | inl over ↦ refused_told work.told work.left (file_words j) run.end result out err run.written (λ is. elim (over.refused is) [ inl file ↦ inl file | inr line ↦ inr (is_pair_line j run.end.err line.0) ])
   | inr none ↦ λ is. let status_is = delivered_status run.end result Refused out err run.written is (λ e. absurd (cc (e))) in absurd (cc (status_is, none))
 ]
 
