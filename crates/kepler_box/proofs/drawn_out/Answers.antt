@@ -11,7 +11,7 @@ within : (a b : ℤ) → Within (pos (2 ^ 54)) a → Within (pos (2 ^ 52)) b →
 within a b h k = let a_above_low = h.0 in let a_below_high = h.1 in let b_above_low = k.0 in let b_below_high = k.1 in (omega (arith, ints), omega (arith, ints))
 
 pub overflow_add-result : goal.overflow_add-result
-overflow_add-result c = fits c.args.change c.coarse.result c.requires.change c.coarse.ensures.size
+overflow_add-result c = fits c.args.change c.pull_of.result c.requires.change c.pull_of.ensures.size
 
 pub returns : goal.returns
-returns c = within c.args.change c.coarse.result c.requires.change c.coarse.ensures.size
+returns c = within c.args.change c.pull_of.result c.requires.change c.pull_of.ensures.size
