@@ -4,6 +4,7 @@ use job_answers::Status;
 use line_source::MemFiles;
 use sim_session::{Made, make};
 use std::alloc::{AllocError, Global};
+use std::process::Abort;
 use std::test::Fail;
 
 const ROOM: usize = 8_000_000;
@@ -32,66 +33,39 @@ fn name_told(err: &[u8]) -> usize {
     .unwrap_or(3)
 }
 
-// The run of which that call on the files fails.
-fn run_failing_at(alloc: Global, made: &Made, call: u64) -> Result<Ran, AllocError> {
-    let mut fails = Fails::none(alloc);
-    fails.files.push(call)?;
-    run_fix(alloc, made, ROOM, fails)
-}
-
-// Of the calls on the files, which name is told as the first fails, and so on, up to the run in which none does.
-fn names_told(alloc: Global, made: &Made) -> Result<Vec<usize>, AllocError> {
-    let mut told = Vec::new(alloc);
-    for call in 0..200 {
-        let ran = run_failing_at(alloc, made, call)?;
-        if ran.status == Status::Done {
-            break;
-        }
-        let is_fault = ran.status == Status::ReadFault && ran.out.bytes().is_empty();
-        told.push(if is_fault {
-            name_told(ran.err.bytes())
-        } else {
-            3
-        })?;
-    }
-    Ok(told)
-}
-
-// Each file is opened and read in turn, so the calls that fail name B, then R, then N: each for its opening, for its bytes and for
-// its end.
+// Each file is opened and read in turn, so the calls that fail name B, then R, then N, until no call is left.
 #[test]
 fn each_call_on_the_files_fails(rt: HostRuntime) -> Result<(), Fail> {
     let alloc = rt.alloc();
     let made = make(alloc, 1, 60, 8, 12, b'G')?;
-    let told = names_told(alloc, &made)?;
-    assert_eq!(rt; told.as_slice(), [0, 0, 0, 1, 1, 1, 2, 2, 2].as_slice());
     let whole = run_fix(alloc, &made, ROOM, Fails::none(alloc))?;
-    let ran = run_failing_at(alloc, &made, 9)?;
-    expect_run(
-        &rt,
-        &ran,
-        Status::Done,
-        whole.out.bytes(),
-        whole.err.bytes(),
-    );
+    assert_eq!(rt; whole.status, Status::Done);
+    let mut told = [0u32; 4];
+    let mut last = 0;
+    let mut finished = false;
+    for call in 0..200 {
+        let mut fails = Fails::none(alloc);
+        fails.files.push(call)?;
+        let ran = run_fix(alloc, &made, ROOM, fails)?;
+        if ran.status == Status::Done {
+            assert!(rt; ran.out.bytes() == whole.out.bytes());
+            assert!(rt; ran.err.bytes() == whole.err.bytes());
+            finished = true;
+            break;
+        }
+        assert_eq!(rt; ran.status, Status::ReadFault);
+        assert!(rt; ran.out.bytes().is_empty());
+        let name = name_told(ran.err.bytes());
+        assert!(rt; last <= name);
+        last = name;
+        let calls = &mut told[name.min(3)];
+        *calls = calls.saturating_add(1);
+    }
+    assert!(rt; finished);
+    // a name stands there once for its opening, once for its bytes and once for its end
+    assert!(rt; told[0] == 3 && told[1] == 3 && told[2] == 3);
+    assert_eq!(rt; told[3], 0);
     Ok(())
-}
-
-// The run of which these calls on out and on err fail.
-fn run_with(
-    alloc: Global,
-    made: &Made,
-    out: Option<u64>,
-    err: Option<u64>,
-) -> Result<Ran, AllocError> {
-    let mut fails = Fails::none(alloc);
-    if let Some(call) = out {
-        fails.out.push(call)?;
-    }
-    if let Some(call) = err {
-        fails.err.push(call)?;
-    }
-    run_fix(alloc, made, ROOM, fails)
 }
 
 #[test]
@@ -100,17 +74,31 @@ fn each_sink_fails(rt: HostRuntime) -> Result<(), Fail> {
     let made = make(alloc, 1, 60, 8, 12, b'G')?;
     let whole = run_fix(alloc, &made, ROOM, Fails::none(alloc))?;
     let text = whole.out.bytes();
+    assert!(rt; text.len() > 4096);
     for room in [7, 100, 4096] {
         let ran = run_fix(alloc, &made, room, Fails::none(alloc))?;
-        let begun = text.get(..room).ok_or("a short text")?;
-        expect_run(&rt, &ran, Status::WriteFault, begun, b"write fault\n");
+        assert_eq!(rt; ran.status, Status::WriteFault);
+        assert_eq!(rt; ran.out.bytes().len(), room);
+        assert!(rt; text.starts_with(ran.out.bytes()));
+        assert_eq!(rt; ran.err.bytes(), b"write fault\n".as_slice());
     }
-    let ran = run_with(alloc, &made, Some(0), None)?;
-    expect_run(&rt, &ran, Status::WriteFault, b"", b"write fault\n");
-    let ran = run_with(alloc, &made, None, Some(0))?;
-    expect_run(&rt, &ran, Status::WriteFault, text, b"");
+    let mut fails = Fails::none(alloc);
+    fails.out.push(0)?;
+    let ran = run_fix(alloc, &made, ROOM, fails)?;
+    expect_run(&rt, &ran, Status::WriteFault, "", "write fault\n");
+    let mut fails = Fails::none(alloc);
+    fails.err.push(0)?;
+    let ran = run_fix(alloc, &made, ROOM, fails)?;
+    assert_eq!(rt; ran.status, Status::WriteFault);
+    assert!(rt; ran.out.bytes() == text);
+    assert!(rt; ran.err.bytes().is_empty());
     // a call that is never made
-    let ran = run_with(alloc, &made, Some(text.len() as u64), Some(1))?;
-    expect_run(&rt, &ran, Status::Done, text, whole.err.bytes());
+    let mut fails = Fails::none(alloc);
+    fails.out.push(text.len() as u64)?;
+    fails.err.push(1)?;
+    let ran = run_fix(alloc, &made, ROOM, fails)?;
+    assert_eq!(rt; ran.status, Status::Done);
+    assert!(rt; ran.out.bytes() == text);
+    assert!(rt; ran.err.bytes() == whole.err.bytes());
     Ok(())
 }

@@ -8,8 +8,8 @@ use std::alloc::{AllocError, Global};
 use std::process::Abort;
 use std::test::Fail;
 
-const USAGE: &[u8] =
-    b"usage: baseline fix|check|residuals|zero|list|orbit|arcs|sim|migrate|track|check-track WORDS\n";
+const USAGE: &str =
+    "usage: baseline fix|check|residuals|zero|list|orbit|arcs|sim|migrate|track|check-track WORDS\n";
 
 #[derive(Drop)]
 pub(crate) struct Ran {
@@ -95,9 +95,10 @@ pub(crate) fn run_on(
     run_over(alloc, words, &mut files, room, 7, fails.out, fails.err)
 }
 
-pub(crate) fn expect_run(rt: &impl Abort, ran: &Ran, status: Status, out: &[u8], err: &[u8]) {
-    let found = (ran.status, ran.out.bytes(), ran.err.bytes());
-    assert_eq!(rt; found, (status, out, err));
+pub(crate) fn expect_run(rt: &impl Abort, ran: &Ran, status: Status, out: &str, err: &str) {
+    assert_eq!(rt; ran.out.bytes(), out.as_bytes(), "at {out}{err}");
+    assert_eq!(rt; ran.err.bytes(), err.as_bytes(), "at {out}{err}");
+    assert_eq!(rt; ran.status, status, "at {out}{err}");
 }
 
 #[test]
@@ -115,7 +116,7 @@ fn wrong_words_open_no_file(rt: HostRuntime) -> Result<(), Fail> {
             Vec::new(alloc),
             Vec::new(alloc),
         )?;
-        expect_run(&rt, &ran, Status::Usage, b"", USAGE);
+        expect_run(&rt, &ran, Status::Usage, "", USAGE);
         // the first call on the files is the one that fails, and it is still to come
         assert!(rt; load(alloc, &mut files, "F").is_err());
     }
@@ -135,8 +136,8 @@ fn an_empty_name_is_told(rt: HostRuntime) -> Result<(), Fail> {
         Vec::new(alloc),
         Vec::new(alloc),
     )?;
-    let line = b"refused:  line 3 column 1: bad line\n";
-    expect_run(&rt, &ran, Status::Refused, b"", line);
+    let line = "refused:  line 3 column 1: bad line\n";
+    expect_run(&rt, &ran, Status::Refused, "", line);
     Ok(())
 }
 
@@ -151,9 +152,9 @@ fn each_call_on_the_files_fails(rt: HostRuntime) -> Result<(), Fail> {
         fails.files.push(call)?;
         let ran = run_on(alloc, &["zero", "F"], ROWS, 1000, fails)?;
         if call < 3 {
-            expect_run(&rt, &ran, Status::ReadFault, b"", b"read fault: F\n");
+            expect_run(&rt, &ran, Status::ReadFault, "", "read fault: F\n");
         } else {
-            expect_run(&rt, &ran, Status::Done, b"optimal 1 sum 11\n", b"");
+            expect_run(&rt, &ran, Status::Done, "optimal 1 sum 11\n", "");
         }
     }
     Ok(())
@@ -162,24 +163,18 @@ fn each_call_on_the_files_fails(rt: HostRuntime) -> Result<(), Fail> {
 #[test]
 fn each_call_on_a_sink_fails(rt: HostRuntime) -> Result<(), Fail> {
     let alloc = rt.alloc();
-    let prefixes = [b"".as_slice(), b"optimal", b"optimal 1 sum "];
+    let prefixes = ["", "optimal", "optimal 1 sum "];
     for (call, prefix) in prefixes.iter().enumerate() {
         let mut fails = Fails::none(alloc);
         fails.out.push(call as u64)?;
         let ran = run_on(alloc, &["zero", "F"], ROWS, 1000, fails)?;
-        expect_run(&rt, &ran, Status::WriteFault, prefix, b"write fault\n");
+        expect_run(&rt, &ran, Status::WriteFault, *prefix, "write fault\n");
     }
     let ran = run_on(alloc, &["zero", "F"], ROWS, 10, Fails::none(alloc))?;
-    expect_run(
-        &rt,
-        &ran,
-        Status::WriteFault,
-        b"optimal 1 ",
-        b"write fault\n",
-    );
+    expect_run(&rt, &ran, Status::WriteFault, "optimal 1 ", "write fault\n");
     let mut fails = Fails::none(alloc);
     fails.err.push(1)?;
     let ran = run_on(alloc, &["zero", "F"], b"", 1000, fails)?;
-    expect_run(&rt, &ran, Status::Refused, b"", b"refused");
+    expect_run(&rt, &ran, Status::Refused, "", "refused");
     Ok(())
 }
