@@ -1,4 +1,4 @@
-use Rattle.std.proofs.Common.{◌≡◌, ℕ, suc, ◌<◌, ◌≤◌, List, ℤ, arith, sym, ap, ◌∙◌}
+use Rattle.std.proofs.Common.{◌≡◌, ℕ, arith, sym, ap, ◌∙◌}
 use Rattle.form_tables.specs.Tables.{item}
 use Rattle.elimination.specs.RowSteps.{left_after}
 use Rattle.elimination.proofs.three_steps.step_through.Goals as goal
