@@ -2,9 +2,9 @@
 use Rattle.std.proofs.Common.{◌≡◌, ◌⊎◌, ⊎_elim, ℕ, ◌<◌, Option, Some, None, IfSome, arith, sym, subst}
 
 -- what two clauses say of an answer
-pub both_some : {X : Type 0} (o : Option X) {P Q : X → Type 0} → IfSome o P → IfSome o Q → IfSome o (λ x. P x × Q x)
-both_some None p q = tt
-both_some (Some x) p q = (p, q)
+pub both_some : {X : Type 0} (o : Option X) (P Q : X → Type 0) → IfSome o P → IfSome o Q → IfSome o (λ x. P x × Q x)
+both_some None P Q p q = tt
+both_some (Some x) P Q p q = (p, q)
 
 -- what holds of 0, 1 and 2
 pub one_of_three : (P : ℕ → Type 0) → P 0 → P 1 → P 2 → (k : ℕ) → k < 3 → P k

@@ -1,6 +1,6 @@
 //! The first rounding of entries off the diagonal in a row: those that follow one another are mostly 0 or the same, and are
 //! rounded once.
-ghost use Rattle.std.specs.Prelude.{◌≡◌, ℕ, ◌^◌, ◌<◌, ◌≤◌, unsigned_abs, IfSome};
+ghost use Rattle.std.specs.Prelude.{ℕ, ◌^◌, ◌<◌, ◌≤◌, unsigned_abs, IfSome};
 ghost use Rattle.lower_form.specs.FirstRounding.{IsRounded};
 
 use crate::first_entries::{nearest_shift, times_63};

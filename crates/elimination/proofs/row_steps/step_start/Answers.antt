@@ -1,4 +1,4 @@
-use Rattle.std.proofs.Common.{◌≡◌, ℕ, ◌-◌, ◌^◌, ◌<◌, ◌≤◌, List, ℤ, pos, ◌*ℤ◌, unsigned_abs, arith, sym, ap, ap₂, ◌∙◌, subst}
+use Rattle.std.proofs.Common.{◌≡◌, ℕ, ◌-◌, ◌^◌, ◌≤◌, List, ℤ, pos, ◌*ℤ◌, unsigned_abs, arith, sym, ap, ap₂, ◌∙◌, subst}
 use Rattle.whole_math.specs.Rounding.{nearest_div}
 use Rattle.form_tables.specs.Tables.{entry, item}
 use Rattle.elimination.specs.Shares.{IsNearShare}

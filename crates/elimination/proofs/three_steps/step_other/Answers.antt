@@ -1,4 +1,4 @@
-use Rattle.std.proofs.Common.{◌≡◌, ℕ, suc, ◌^◌, ◌<◌, ◌≤◌, List, ℤ, pos, unsigned_abs, arith, sym, ap, ◌∙◌, IfSome}
+use Rattle.std.proofs.Common.{◌≡◌, ℕ, List, ℤ, unsigned_abs, arith, sym, ap, ◌∙◌, IfSome}
 use Rattle.std.proofs.lemmas.Int.{to_z-of_z}
 use Rattle.std.proofs.lemmas.Option.{IfSome_then}
 use Rattle.std.specs.Int.{w64}

@@ -1,4 +1,4 @@
-use Rattle.std.proofs.Common.{◌≡◌, ℕ, suc, ◌^◌, ◌<◌, ◌≤◌, List, ℤ, true, unsigned_abs, sym, ◌∙◌, subst, IfSome}
+use Rattle.std.proofs.Common.{◌≡◌, ℕ, suc, ◌^◌, ◌≤◌, List, ℤ, true, unsigned_abs, sym, ◌∙◌, subst, IfSome}
 use Rattle.std.proofs.lemmas.Int.{to_z-of_z}
 use Rattle.std.proofs.lemmas.Option.{IfSome_then}
 use Rattle.std.specs.Int.{w64}
@@ -31,7 +31,7 @@ returns-in-Some-clause-small_each c =
     let second_word : (n : ℕ) → word c.in-Some.second ≡ left_after q n c.args.r c.args.c 2 c.args.number =
     λ n. as_w64 c.in-Some.second (small_size c.in-Some.second c.in-Some.ensures.small) ∙ second n in
     let both : IfSome c.step_other.result (λ x. ((n : ℕ) (y : ℤ) → word c.in-Some.second ≡ left_after q n c.args.r c.args.c 2 y → x ≡ left_after q n c.args.r c.args.c 3 y) × (is_small x ≡ true)) =
-    both_some c.step_other.result c.step_other.ensures.value c.step_other.ensures.small in
+    both_some c.step_other.result _ _ c.step_other.ensures.value c.step_other.ensures.small in
     IfSome_then c.step_other.result both (λ x h. λ n k g.
     one_of_three (λ (k : ℕ). is_small (left_after q n c.args.r c.args.c (suc k) c.args.number) ≡ true)
     (first_small n)

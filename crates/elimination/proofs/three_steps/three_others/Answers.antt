@@ -1,4 +1,4 @@
-use Rattle.std.proofs.Common.{◌≡◌, ◌≢◌, ℕ, suc, ◌<◌, ◌≤◌, List, length, set, ℤ, pos, true, slice_index_or, get_or-set_same, get_or-set_other, length-set, arith, sym, ◌∙◌, subst, below_more}
+use Rattle.std.proofs.Common.{◌≡◌, ◌≢◌, ℕ, suc, ◌<◌, ◌≤◌, List, length, set, ℤ, pos, true, slice_index_or, get_or-set_same, get_or-set_other, length-set, arith, ◌∙◌, below_more}
 use Rattle.whole_math.proofs.Words.{as_w64}
 use Rattle.form_tables.specs.Tables.{item}
 use Rattle.elimination.specs.StepEntries.{is_small}

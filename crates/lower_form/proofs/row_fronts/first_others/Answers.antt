@@ -1,4 +1,4 @@
-use Rattle.std.proofs.Common.{◌≡◌, ◌≢◌, ℕ, ◌^◌, ◌<◌, ◌≤◌, Bool, length, set, List, ℤ, pos, ◌*ℤ◌, ◌-ℤ◌, cond, true, unsigned_abs, get_or-set_same, get_or-set_other, length-set, arith, to_z, of_z, sym, ap, ◌∙◌, subst, below_more}
+use Rattle.std.proofs.Common.{◌≡◌, ◌≢◌, ℕ, ◌^◌, ◌<◌, ◌≤◌, Bool, length, set, ℤ, pos, ◌*ℤ◌, ◌-ℤ◌, cond, true, unsigned_abs, get_or-set_same, get_or-set_other, length-set, arith, to_z, of_z, sym, ap, ◌∙◌, subst, below_more}
 use Rattle.std.specs.Int.{w64, w128}
 use Rattle.whole_math.specs.Rounding.{floor_div, nearest_div}
 use Rattle.whole_math.proofs.Words.{as_w64, as_w128}

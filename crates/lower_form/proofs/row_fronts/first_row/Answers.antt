@@ -1,4 +1,4 @@
-use Rattle.std.proofs.Common.{◌≡◌, ◌≢◌, ⊎_elim, ℕ, ◌<◌, ◌≤◌, length, set, ℤ, pos, true, get_or-set_same, get_or-set_other, arith, to_z, of_z, sym, ap, ◌∙◌, subst, eq-or-lt_of_le}
+use Rattle.std.proofs.Common.{◌≡◌, ⊎_elim, ℕ, ◌<◌, ◌≤◌, length, ℤ, pos, true, get_or-set_same, arith, to_z, of_z, sym, ap, ◌∙◌, subst, eq-or-lt_of_le}
 use Rattle.std.specs.Int.{w64, w128}
 use Rattle.whole_math.proofs.Words.{as_w64}
 use Rattle.form_tables.specs.declared.sizes.TheConstants.{MOST_COLUMNS}
