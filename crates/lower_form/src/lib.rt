@@ -17,7 +17,6 @@
 mod first_entries;
 mod forms;
 mod fronts;
-mod repeats;
 mod rounding;
 mod row_fronts;
 
