@@ -62,8 +62,8 @@ fn each_call_on_the_files_fails(rt: HostRuntime) -> Result<(), Fail> {
         *calls = calls.saturating_add(1);
     }
     assert!(rt; finished);
-    // a name stands there once for its opening, once for its bytes and once for its end
-    assert!(rt; told[0] == 3 && told[1] == 3 && told[2] == 3);
+    // a name stands there once at least for its opening, for its bytes and for its end
+    assert!(rt; told[0] >= 3 && told[1] >= 3 && told[2] >= 3);
     assert_eq!(rt; told[3], 0);
     Ok(())
 }

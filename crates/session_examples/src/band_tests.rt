@@ -1,7 +1,7 @@
 //! Whole runs on other bands and of Galileo.
 
 use crate::band_cases::{BANDS, BandCase, L5_OF_FOUR};
-use crate::cases::{End, Verdict};
+use crate::cases::{ExpectedEnd, Verdict};
 use crate::tests::{end_of, integers_agree, options_of, point_agrees, run};
 use obs_rows::{bands_of, is_bands_number, is_system};
 use run_options::Options;
@@ -48,7 +48,7 @@ fn case_agrees(rt: &impl Abort, alloc: Global, case: &BandCase) -> Result<(), Fa
     );
     assert_eq!(rt;
         end_of(&outcome.answer),
-        End::Full(Verdict::Fixed),
+        ExpectedEnd::Full(Verdict::Fixed),
         "{}",
         case.what
     );

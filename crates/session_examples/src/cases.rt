@@ -19,7 +19,7 @@ pub enum Verdict {
 }
 
 #[derive(Clone, Copy, Debug, PartialEq, Eq)]
-pub enum End {
+pub enum ExpectedEnd {
     Few { pairs: u32 },
     Arcs { free: u32 },
     Early(Stage, Verdict),
@@ -35,7 +35,7 @@ pub struct Case {
     pub budget: u64,
     pub kept: u32,
     pub delta: bool,
-    pub end: End,
+    pub end: ExpectedEnd,
     // The point of the last session, in 0.1 mm, where it doesn't hang on the rows' roundings.
     pub point: Option<[i64; 3]>,
 }
@@ -92,7 +92,7 @@ pub static SHORT: [Case; 12] = [
         budget: 1_000_000,
         kept: 4,
         delta: false,
-        end: End::Full(Verdict::Fixed),
+        end: ExpectedEnd::Full(Verdict::Fixed),
         point: Some([63_779_713_156, 9_436_085, -6_595_010]),
     },
     Case {
@@ -107,7 +107,7 @@ pub static SHORT: [Case; 12] = [
         budget: 1_000_000,
         kept: 0,
         delta: true,
-        end: End::Few { pairs: 2 },
+        end: ExpectedEnd::Few { pairs: 2 },
         point: None,
     },
     Case {
@@ -119,7 +119,7 @@ pub static SHORT: [Case; 12] = [
         budget: 1,
         kept: 4,
         delta: false,
-        end: End::Full(Verdict::Spent),
+        end: ExpectedEnd::Full(Verdict::Spent),
         point: Some([63_779_713_156, 9_436_085, -6_595_010]),
     },
     Case {
@@ -131,7 +131,7 @@ pub static SHORT: [Case; 12] = [
         budget: 1_000_000,
         kept: 4,
         delta: false,
-        end: End::Full(Verdict::Fixed),
+        end: ExpectedEnd::Full(Verdict::Fixed),
         point: Some([63_779_713_350, 29_436_538, -6_595_315]),
     },
     Case {
@@ -146,7 +146,7 @@ pub static SHORT: [Case; 12] = [
         budget: 1_000_000,
         kept: 4,
         delta: false,
-        end: End::Full(Verdict::Unseparated),
+        end: ExpectedEnd::Full(Verdict::Unseparated),
         point: Some([63_779_713_156, 9_436_085, -6_595_010]),
     },
     Case {
@@ -161,7 +161,7 @@ pub static SHORT: [Case; 12] = [
         budget: 1_000_000,
         kept: 4,
         delta: false,
-        end: End::Early(Stage::Coarse, Verdict::Overwidth(Place::Y)),
+        end: ExpectedEnd::Early(Stage::Coarse, Verdict::Overwidth(Place::Y)),
         point: None,
     },
     Case {
@@ -176,7 +176,7 @@ pub static SHORT: [Case; 12] = [
         budget: 1_000_000,
         kept: 4,
         delta: false,
-        end: End::Early(Stage::Coarse, Verdict::Overwidth(Place::Point)),
+        end: ExpectedEnd::Early(Stage::Coarse, Verdict::Overwidth(Place::Point)),
         point: None,
     },
     Case {
@@ -188,7 +188,7 @@ pub static SHORT: [Case; 12] = [
         budget: 1_000_000,
         kept: 4,
         delta: false,
-        end: End::Early(Stage::Coarse, Verdict::Weak { column: 2 }),
+        end: ExpectedEnd::Early(Stage::Coarse, Verdict::Weak { column: 2 }),
         point: None,
     },
     Case {
@@ -200,7 +200,7 @@ pub static SHORT: [Case; 12] = [
         budget: 1_000_000,
         kept: 4,
         delta: false,
-        end: End::Early(Stage::Coarse, Verdict::Unsettled),
+        end: ExpectedEnd::Early(Stage::Coarse, Verdict::Unsettled),
         point: None,
     },
     Case {
@@ -215,7 +215,7 @@ pub static SHORT: [Case; 12] = [
         budget: 1_000_000,
         kept: 4,
         delta: false,
-        end: End::Early(Stage::Fine, Verdict::Overwidth(Place::Y)),
+        end: ExpectedEnd::Early(Stage::Fine, Verdict::Overwidth(Place::Y)),
         point: None,
     },
     // 924 and 720 cycles are the same length on L1 and L2, so the slip isn't seen.
@@ -231,7 +231,7 @@ pub static SHORT: [Case; 12] = [
         budget: 1_000_000,
         kept: 4,
         delta: false,
-        end: End::Full(Verdict::Weak { column: 4 }),
+        end: ExpectedEnd::Full(Verdict::Weak { column: 4 }),
         point: None,
     },
     Case {
@@ -249,7 +249,7 @@ pub static SHORT: [Case; 12] = [
         budget: 1_000_000,
         kept: 4,
         delta: false,
-        end: End::Full(Verdict::Unsettled),
+        end: ExpectedEnd::Full(Verdict::Unsettled),
         point: None,
     },
 ];

@@ -1,7 +1,7 @@
 //! What whole runs end with.
 ghost use Rattle.std.specs.Prelude.{◌≤◌, length};
 
-use crate::cases::{CUTS, CYCLES, Case, Edit, End, SHORT, UNCUT_POINT, Verdict};
+use crate::cases::{CUTS, CYCLES, Case, Edit, ExpectedEnd, SHORT, UNCUT_POINT, Verdict};
 use gal_nav::read_gal_nav;
 use gal_obs::read_gal_obs;
 use obs_rows::Arc;
@@ -110,12 +110,12 @@ fn verdict_of(tail: &Tail) -> Verdict {
 }
 
 /// What an answer ends with. It states nothing, as `options_of`.
-pub(crate) fn end_of(answer: &Answer) -> End {
+pub(crate) fn end_of(answer: &Answer) -> ExpectedEnd {
     match answer {
-        Answer::Few { pairs } => End::Few { pairs: *pairs },
-        Answer::Arcs { free } => End::Arcs { free: *free },
-        Answer::Early { stage, tail } => End::Early(*stage, verdict_of(tail)),
-        Answer::Full(cert) => End::Full(verdict_of(&cert.tail)),
+        Answer::Few { pairs } => ExpectedEnd::Few { pairs: *pairs },
+        Answer::Arcs { free } => ExpectedEnd::Arcs { free: *free },
+        Answer::Early { stage, tail } => ExpectedEnd::Early(*stage, verdict_of(tail)),
+        Answer::Full(cert) => ExpectedEnd::Full(verdict_of(&cert.tail)),
     }
 }
 
@@ -205,7 +205,13 @@ pub(crate) fn integers_agree(
     }
 }
 
-fn answer_agrees(rt: &impl Abort, what: &str, answer: &Answer, end: End, point: Option<[i64; 3]>) {
+fn answer_agrees(
+    rt: &impl Abort,
+    what: &str,
+    answer: &Answer,
+    end: ExpectedEnd,
+    point: Option<[i64; 3]>,
+) {
     assert_eq!(rt; end_of(answer), end, "{what}");
     point_agrees(rt, what, answer, point);
     if let Answer::Full(cert) = answer {
@@ -237,7 +243,7 @@ fn cut_agrees(
     alloc: Global,
     made: &Made,
     cuts: &[Edit],
-    want: (u32, End, Option<[i64; 3]>),
+    want: (u32, ExpectedEnd, Option<[i64; 3]>),
 ) -> Result<(), Fail> {
     let (kept, end, point) = want;
     let options = options_of(rt, 2, 1_000_000);
@@ -251,8 +257,8 @@ fn cut_agrees(
 #[test]
 fn twenty_arcs_are_free(rt: HostRuntime) -> Result<(), Fail> {
     let made = make(rt.alloc(), 1, 4, 12, 12, GPS)?;
-    let fixed = (21, End::Full(Verdict::Fixed), Some(UNCUT_POINT));
-    let many = (22, End::Arcs { free: 21 }, None);
+    let fixed = (21, ExpectedEnd::Full(Verdict::Fixed), Some(UNCUT_POINT));
+    let many = (22, ExpectedEnd::Arcs { free: 21 }, None);
     cut_agrees(&rt, rt.alloc(), &made, &CUTS[..9], fixed)?;
     cut_agrees(&rt, rt.alloc(), &made, &CUTS, many)
 }
