@@ -6,6 +6,7 @@ ghost use Rattle.elimination.specs.Shares.{IsNearShare};
 ghost use Rattle.elimination.specs.StepEntries.{is_small};
 
 use crate::shares::{PivotShare, Share};
+use form_tables::wide_product;
 use whole_math::{ceil, ceil_shift, floor_shift, nearest};
 
 /// Every factor and every entry after a rounding is below this in size.
@@ -34,23 +35,13 @@ fn narrow(x: i128) -> i64
 }
 
 /// p · q
-fn short_product(p: i64, q: i64) -> i128
-    requires p_size { unsigned_abs p ≤ 2 ^ 52 }
-    requires q_size { unsigned_abs q ≤ 2 ^ 52 }
-    ensures value { result ≡ p *ℤ q }
-    ensures size { unsigned_abs result ≤ 2 ^ 104 }
-{
-    p as i128 * q as i128
-}
-
-/// p · q
 fn product(p: i128, q: i128) -> i128
     requires p_size { unsigned_abs p ≤ 2 ^ 52 }
     requires q_size { unsigned_abs q ≤ 2 ^ 52 }
     ensures value { result ≡ p *ℤ q }
     ensures size { unsigned_abs result ≤ 2 ^ 104 }
 {
-    short_product(narrow(p), narrow(q))
+    wide_product(narrow(p), narrow(q))
 }
 
 /// entry - square - count - loss

@@ -19,3 +19,13 @@ pub fn weighed(a: i64, s: i128) -> i128
 {
     a as i128 * s
 }
+
+/// x · y
+pub fn wide_product(x: i64, y: i64) -> i128
+    requires x_size { unsigned_abs x ≤ 2 ^ 52 }
+    requires y_size { unsigned_abs y ≤ 2 ^ 52 }
+    ensures value { result ≡ x *ℤ y }
+    ensures size { unsigned_abs result ≤ 2 ^ 104 }
+{
+    x as i128 * y as i128
+}

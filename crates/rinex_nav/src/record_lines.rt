@@ -3,7 +3,7 @@ ghost use Rattle.std.specs.Prelude.{◌≡◌, ◌≤◌, Ok};
 ghost use Rattle.rinex_nav.specs.RecordLines.{number_in, satellite_in, moment_of, toc_in, start_in, record_line_of, body_line_of, number_if, quad_in, continuation_of};
 
 use decimal_text::{Dec, all_blank};
-use gps_time::{Tick, tick_of};
+use gps_time::{TICKS_IN_SECOND, Tick, tick_of};
 use rinex_head::{
     Flaw, System, What, bad_field, byte_in, exponent_number, field, filled_number, flaw,
     two_digits, whole_number,
@@ -69,7 +69,7 @@ fn moment(year: u16, month: u8, day: u8, hour: u8, minute: u8, second: u8) -> Re
     requires { second ≤ 99 }
     ensures { result ≡ moment_of year month day hour minute second }
 {
-    match tick_of(year, month, day, hour, minute, second as u32 * 10_000_000) {
+    match tick_of(year, month, day, hour, minute, second as u32 * TICKS_IN_SECOND as u32) {
         Ok(tick) => Ok(tick),
         Err(_) => Err(Flaw {
             column: 5,

@@ -12,6 +12,6 @@ returns-clause-value c =
     let q_narrowed : c.narrow-2.result ≡ c.args.q = rw q_kept at c.narrow-2.ensures.value in
     let narrow_p_kept : to_z w64 (of_z w64 c.narrow.result) ≡ c.narrow.result = as_w64 c.narrow.result (omega (arith, c.narrow.ensures.size)) in
     let narrow_q_kept : to_z w64 (of_z w64 c.narrow-2.result) ≡ c.narrow-2.result = as_w64 c.narrow-2.result (omega (arith, c.narrow-2.ensures.size)) in
-    let product_is : c.short_product.result ≡ c.narrow.result *ℤ c.narrow-2.result = rw (narrow_p_kept, narrow_q_kept) at c.short_product.ensures.value in
-    let product_kept : to_z w128 (of_z w128 c.short_product.result) ≡ c.short_product.result = as_w128 c.short_product.result (omega (arith, c.short_product.ensures.size)) in
+    let product_is : c.wide_product.result ≡ c.narrow.result *ℤ c.narrow-2.result = rw (narrow_p_kept, narrow_q_kept) at c.wide_product.ensures.value in
+    let product_kept : to_z w128 (of_z w128 c.wide_product.result) ≡ c.wide_product.result = as_w128 c.wide_product.result (omega (arith, c.wide_product.ensures.size)) in
     product_kept ∙ product_is ∙ ap₂ (λ x y. x *ℤ y) p_narrowed q_narrowed
