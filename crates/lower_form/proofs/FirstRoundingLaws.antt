@@ -1,8 +1,10 @@
 -- The entries of the first rounding are those of the form that bounds the sum of squares, rounded.
-use Rattle.std.proofs.Common.{◌≡◌, ℕ, zero, suc, ◌+◌, ◌-◌, ◌^◌, ◌<◌, ◌≤◌, Bool, true, false, nat_eq, nat_lt, cond, List, [], ◌∷◌, ◌++◌, length, ℤ, pos, negsuc, ◌+ℤ◌, ◌-ℤ◌, ◌*ℤ◌, slice_index_or, arith, sym, ap, ap₂, ◌∙◌, refl, subst}
+use Rattle.std.proofs.Common.{◌≡◌, ℕ, zero, suc, ◌+◌, ◌-◌, ◌^◌, ◌<◌, ◌≤◌, Bool, true, false, nat_eq, nat_lt, cond, List, [], ◌∷◌, ◌++◌, length, ℤ, pos, negsuc, ◌+ℤ◌, ◌-ℤ◌, ◌*ℤ◌, slice_index_or, arith, unsigned_abs, pow_pos, sym, ap, ap₂, ◌∙◌, refl, subst}
 use Rattle.std.proofs.lemmas.Bool.Decides.{nat_tests}
+use Rattle.std.proofs.lemmas.Int.{ints}
 use Rattle.std.proofs.lemmas.Bool.{eq-eqb}
 use Rattle.whole_math.specs.Rounding.{floor_div, nearest_div}
+use Rattle.whole_math.proofs.Rounding.{nearest_size}
 use Rattle.whole_math.specs.Vectors.{zeros}
 use Rattle.whole_math.proofs.Ring.{ko, ◌⊕◌, ◌⊖◌, ◌⊗◌}
 use Rattle.whole_math.proofs.Inequalities.{same_by, nat}
@@ -103,3 +105,10 @@ first_form_is n h k =
     ap (λ (m : ℕ). form_from (first_entry n h) 0 m) columns_are
     ∙ form_rounded (2 ^ h) (pos n.columns) (bound_entry n) (first_entry n h) 0 (columns (n.columns - 4)) (λ r a b. first_own n h r) (λ r c a b d. first_other n h r c b)
     ∙ ap (λ (b : List Column). rounded (2 ^ h) (pos n.columns) b) (bounding_is n (n.columns - 4) columns_are)
+
+-- 0 is rounded to 0
+pub zero_rounds : (h : ℕ) → pos 0 ≡ nearest_div (pos 63 *ℤ pos 0) (2 ^ h)
+zero_rounds h = nothing_left (nearest_div (pos 63 *ℤ pos 0) (2 ^ h)) (nearest_size (pos 63 *ℤ pos 0) (2 ^ h) (pow_pos h))
+  where
+    nothing_left : (x : ℤ) → unsigned_abs x ≤ 0 → pos 0 ≡ x
+    nothing_left x g = omega (arith, ints)

@@ -17,6 +17,7 @@
 mod first_entries;
 mod forms;
 mod fronts;
+mod repeats;
 mod rounding;
 mod row_fronts;
 

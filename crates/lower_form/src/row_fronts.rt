@@ -11,9 +11,28 @@ ghost use Rattle.lower_form.specs.FirstRounding.{first_entry as first_entry_of};
 ghost use Rattle.lower_form.specs.Fronts.{front_of};
 
 use crate::first_entries::first_entry;
+use crate::repeats::LastRounded;
 use elimination::{PivotRows, is_small, put_row, step_through};
 use form_tables::{BASELINE_COLUMNS, FormTable, FrontTable, MOST_COLUMNS};
 use normal_sum::Normal;
+
+/// Writes the entries of row r of the first rounding over 2^h after its own; false where one is too large.
+fn first_others(normal: &Normal, h: u32, r: usize, row: &mut [i64; MOST_COLUMNS]) -> bool
+    requires few { h ≤ 76 }
+    requires row_in { r < normal.now.columns }
+    ensures value { result ≡ true → (c : ℕ) → r < c → c < normal.now.columns → item row.new c ≡ first_entry_of normal.now h r c }
+    ensures small { result ≡ true → (c : ℕ) → r < c → c < normal.now.columns → is_small (item row.new c) ≡ true }
+    ensures before { (c : ℕ) → c ≤ r → item row.new c ≡ item row.old c }
+{
+    let mut last = LastRounded::zero();
+    for c in r + 1..normal.columns {
+        match last.round(normal.c.at(r, c), h) {
+            Some(rounded) => row[c] = rounded,
+            None => return false,
+        }
+    }
+    true
+}
 
 /// Writes row r of the first rounding over 2^h, from its own entry on; false where one is too large.
 fn first_row(normal: &Normal, h: u32, r: usize, row: &mut [i64; MOST_COLUMNS]) -> bool
@@ -22,14 +41,12 @@ fn first_row(normal: &Normal, h: u32, r: usize, row: &mut [i64; MOST_COLUMNS]) -
     ensures value { result ≡ true → (c : ℕ) → r ≤ c → c < normal.now.columns → item row.new c ≡ first_entry_of normal.now h r c }
     ensures small { result ≡ true → (c : ℕ) → r ≤ c → c < normal.now.columns → is_small (item row.new c) ≡ true }
 {
-    for c in r..normal.columns {
-        let rounded = first_entry(normal, h, r, c);
-        if !is_small(rounded) {
-            return false;
-        }
-        row[c] = rounded as i64;
+    let own = first_entry(normal, h, r, r);
+    if !is_small(own) {
+        return false;
     }
-    true
+    row[r] = own as i64;
+    first_others(normal, h, r, row)
 }
 
 /// Writes row r as the first rounding over 2^h and the steps of the first columns leave it, and its factors; false where a step stops.

@@ -1,6 +1,6 @@
 //! Observed less computed.
-ghost use Rattle.std.specs.Prelude.{IsTrue, not, ◌≡◌, ◌+◌, ◌*◌, ◌^◌, ◌<◌, ◌≤◌, ℤ, pos, ◌+ℤ◌, ◌-ℤ◌, ◌*ℤ◌, neg_ℤ, ◌≤ℤ◌, unsigned_abs};
-ghost use Rattle.whole_math.specs.Rounding.{IsFloor};
+ghost use Rattle.std.specs.Prelude.{IsTrue, not, ◌≡◌, ◌+◌, ◌*◌, ◌^◌, ◌<◌, ◌≤◌, ℤ, pos, ◌+ℤ◌, ◌-ℤ◌, ◌*ℤ◌, ◌≤ℤ◌, unsigned_abs};
+ghost use Rattle.whole_math.specs.Rounding.{IsFloor, IsCeil};
 ghost use Rattle.rational.specs.Rational.{Rational, InBox, sub_r};
 ghost use Rattle.obs_rows.specs.declared.units.TheConstants.{SIGNALS};
 ghost use Rattle.obs_rows.specs.Signals.{wavelength, is_phase};
@@ -50,6 +50,29 @@ struct Observed {
     ghost narrow: { (hi -ℤ lo) ≤ℤ pos 1 },
 }
 
+// A box of a whole number
+fn whole_box(whole: i128) -> Observed
+    ensures low { result.lo ≡ whole }
+    ensures high { result.hi ≡ whole }
+{
+    Observed {
+        lo: whole,
+        hi: whole,
+    }
+}
+
+// A box from a whole number to the next
+fn step_box(low: i128) -> Observed
+    requires { unsigned_abs low ≤ 2 ^ 67 }
+    ensures low { result.lo ≡ low }
+    ensures high { result.hi ≡ low +ℤ pos 1 }
+{
+    Observed {
+        lo: low,
+        hi: low + 1,
+    }
+}
+
 // ⌊amount · L1_CYCLE / 1000⌋. Here and below the divisor is known when the program is built, which then multiplies in place of
 // dividing 128 bits.
 fn l1_below(amount: i64) -> i128
@@ -59,6 +82,20 @@ fn l1_below(amount: i64) -> i128
     let raised = (amount + AMOUNT_OFFSET) as u64;
     (raised / 1000) as i128 * L1_CYCLE + (raised % 1000 * L1_CYCLE as u64 / 1000) as i128
         - (L1_CYCLE << 40)
+}
+
+// amount · L1_CYCLE / 1000
+fn l1_box(amount: i64) -> Observed
+    requires { unsigned_abs amount < 2 ^ 48 }
+    ensures low { IsFloor (amount *ℤ L1_CYCLE) 1000 result.lo }
+    ensures high { IsCeil (amount *ℤ L1_CYCLE) 1000 result.hi }
+{
+    let low = l1_below(amount);
+    if low * 1000 == amount as i128 * L1_CYCLE {
+        whole_box(low)
+    } else {
+        step_box(low)
+    }
 }
 
 // ⌊amount · L2_CYCLE / 1000⌋
@@ -71,6 +108,20 @@ fn l2_below(amount: i64) -> i128
         - (L2_CYCLE << 40)
 }
 
+// amount · L2_CYCLE / 1000
+fn l2_box(amount: i64) -> Observed
+    requires { unsigned_abs amount < 2 ^ 48 }
+    ensures low { IsFloor (amount *ℤ L2_CYCLE) 1000 result.lo }
+    ensures high { IsCeil (amount *ℤ L2_CYCLE) 1000 result.hi }
+{
+    let low = l2_below(amount);
+    if low * 1000 == amount as i128 * L2_CYCLE {
+        whole_box(low)
+    } else {
+        step_box(low)
+    }
+}
+
 // ⌊amount · L5_CYCLE / 1000⌋
 fn l5_below(amount: i64) -> i128
     requires { unsigned_abs amount < 2 ^ 48 }
@@ -79,6 +130,20 @@ fn l5_below(amount: i64) -> i128
     let raised = (amount + AMOUNT_OFFSET) as u64;
     (raised / 1000) as i128 * L5_CYCLE + (raised % 1000 * L5_CYCLE as u64 / 1000) as i128
         - (L5_CYCLE << 40)
+}
+
+// amount · L5_CYCLE / 1000
+fn l5_box(amount: i64) -> Observed
+    requires { unsigned_abs amount < 2 ^ 48 }
+    ensures low { IsFloor (amount *ℤ L5_CYCLE) 1000 result.lo }
+    ensures high { IsCeil (amount *ℤ L5_CYCLE) 1000 result.hi }
+{
+    let low = l5_below(amount);
+    if low * 1000 == amount as i128 * L5_CYCLE {
+        whole_box(low)
+    } else {
+        step_box(low)
+    }
 }
 
 // ⌊amount · MILLIMETRE_UNITS / HALF_LIGHT_SPEED⌋
@@ -93,18 +158,17 @@ fn code_below(amount: i64) -> i128
     (raised / HALF_LIGHT_SPEED) as i128 * MILLIMETRE_UNITS + rest as i128 - (MILLIMETRE_UNITS << 21)
 }
 
-// The least box of a number, from what it is at least and what its opposite is at least
-fn between(low: i128, opposite: i128) -> Observed
-    requires low_size { unsigned_abs low ≤ 2 ^ 67 }
-    requires opposite_size { unsigned_abs opposite ≤ 2 ^ 67 }
-    requires ordered { (low +ℤ opposite) ≤ℤ pos 0 }
-    requires narrow { neg_ℤ (pos 1) ≤ℤ (low +ℤ opposite) }
-    ensures low { result.lo ≡ low }
-    ensures high { result.hi ≡ neg_ℤ opposite }
+// amount · MILLIMETRE_UNITS / HALF_LIGHT_SPEED
+fn code_box(amount: i64) -> Observed
+    requires { unsigned_abs amount < 2 ^ 48 }
+    ensures low { IsFloor (amount *ℤ MILLIMETRE_UNITS) HALF_LIGHT_SPEED result.lo }
+    ensures high { IsCeil (amount *ℤ MILLIMETRE_UNITS) HALF_LIGHT_SPEED result.hi }
 {
-    Observed {
-        lo: low,
-        hi: -opposite,
+    let low = code_below(amount);
+    if low * HALF_LIGHT_SPEED as i128 == amount as i128 * MILLIMETRE_UNITS {
+        whole_box(low)
+    } else {
+        step_box(low)
     }
 }
 
@@ -119,10 +183,10 @@ fn observed_box(signal: usize, amount: i64) -> Observed
     ensures code { IsTrue (not (is_phase signal)) → unsigned_abs amount < 2 ^ 37 → unsigned_abs result.lo ≤ 2 ^ 56 }
 {
     match signal {
-        0 => between(l1_below(amount), l1_below(-amount)),
-        1 => between(l2_below(amount), l2_below(-amount)),
-        4 => between(l5_below(amount), l5_below(-amount)),
-        _ => between(code_below(amount), code_below(-amount)),
+        0 => l1_box(amount),
+        1 => l2_box(amount),
+        4 => l5_box(amount),
+        _ => code_box(amount),
     }
 }
 

@@ -11,7 +11,7 @@ ghost use Rattle.row_build.specs.Halves.{AreBaseHalves};
 ghost use Rattle.row_build.specs.Rows.{setting, setting_from};
 ghost use Rattle.row_build.specs.SessionRows.{AreSessionRows, HasFarPair, listed};
 
-use crate::pairs::pair_rows_with;
+use crate::pairs::next_pair_rows;
 use crate::{RowFault, RowSource};
 use obs_rows::{Arc, ArcList, PairRows, Session, SessionBuilder, Signals};
 use screening::Screened;
@@ -63,8 +63,9 @@ pub fn rows_with(
     let held = ArcList::new(Vec::from_slice(alloc, from.arcs)?);
     let (base, point) = (*from.base, *from.point);
     let mut session = SessionBuilder::new(alloc, scale, system, base, point, from.signals, held);
+    let mut likely = 0;
     for pair in 0..from.screened.used.len() {
-        let rows = pair_rows_with(alloc, from, pair as u32, scale)?;
+        let rows = next_pair_rows(alloc, from, pair as u32, scale, &mut likely)?;
         add_pair(&mut session, rows)?;
     }
     Ok(session.finish())

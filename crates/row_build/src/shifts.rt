@@ -25,8 +25,8 @@ use obs_rows::{Arc, PHASES, Signals, fine_signals};
 use row_boxes::{first_group, first_shift};
 use screening::Screened;
 
-/// The entry of the satellite of a pair's first row.
-pub fn first_entry<'a>(from: &RowSource<'a>, pair: u32) -> Entry<'a>
+/// The entry of the satellite of a pair's first row, which is looked for from a likely place on first.
+pub fn first_entry<'a>(from: &RowSource<'a>, pair: u32, likely: usize) -> Entry<'a>
     requires cut { IsCutOf from.now.screened.now.used from.now.arcs.now }
     requires few { length from.now.arcs.now ≤ 200 }
     requires held { arcs_at from.now.arcs.now pair ≢ [] }
@@ -38,7 +38,7 @@ pub fn first_entry<'a>(from: &RowSource<'a>, pair: u32) -> Entry<'a>
 {
     let arcs = from.arcs;
     let first = first_held(arcs, pair).unwrap();
-    entry_of(from, pair, arcs[first].sat, 0)
+    entry_of(from, pair, arcs[first].sat, likely)
 }
 
 /// The group of a pair, from the entry of its first row's satellite.
@@ -107,7 +107,7 @@ fn first_shifts(from: &RowSource<'_>, sat: u8, pair: u32) -> [i64; PHASES]
     ensures near { AreFirstShifts (setting_from from.now 0) pair sat result }
     ensures size { All (IsBelow (2 ^ 39)) result }
 {
-    let first = first_entry(from, pair);
+    let first = first_entry(from, pair, 0);
     let entry = entry_of(from, pair, sat, first.place);
     let group = group_of(&first);
     shifts_of(fine_signals(from.signals), &entry, group)

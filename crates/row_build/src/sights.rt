@@ -1,19 +1,19 @@
 //! What the rover sees of the entries' satellites from a point.
-ghost use Rattle.std.specs.Prelude.{◌≡◌, Some, List, slice_get, IfOk, OnOk};
+ghost use Rattle.std.specs.Prelude.{◌≡◌, Some, List, [], ◌∷◌, slice_get, IfOk, OnOk};
 ghost use Rattle.obs_rows.specs.ReceiverPoints.{IsReceiverPoint};
 ghost use Rattle.screening.specs.declared.sv_pair.SvPair.{SvPair};
 ghost use Rattle.row_boxes.specs.declared.sights.Sight.{Sight};
 ghost use Rattle.row_build.specs.Sights.{IsRoverSight, AreRoverSights};
 
-use row_boxes::{Sight, sight_of};
+use row_boxes::{Sight, sight_from};
 use screening::{Screened, SvPair};
+use signal_travel::{Point, point_at};
 use std::alloc::{AllocError, Global};
 
-fn rover_sight(entry: &SvPair, point: &[i64; 3]) -> Sight
-    requires { IsReceiverPoint point.now }
-    ensures { IsRoverSight entry.now point.now result }
+fn rover_sight(entry: &SvPair, point: &Point) -> Sight
+    ensures { IsRoverSight entry.now (point.now.x ∷ point.now.y ∷ point.now.z ∷ []) result }
 {
-    sight_of(&entry.rover, point)
+    sight_from(&entry.rover, point)
 }
 
 /// The sight of the entry in this place: the one that is kept, or else one that is made.
@@ -24,7 +24,7 @@ pub fn sight_at(sights: &[Sight], place: usize, entry: &SvPair, point: &[i64; 3]
 {
     match sights.get(place) {
         Some(sight) => *sight,
-        None => rover_sight(entry, point),
+        None => rover_sight(entry, &point_at(point)),
     }
 }
 
@@ -34,8 +34,9 @@ fn sights_of(alloc: Global, boxes: &[SvPair], point: &[i64; 3]) -> Result<Vec<Si
     ensures { IfOk result (λ sights. AreRoverSights boxes.now point.now sights.items) }
 {
     let mut sights = Vec::with_capacity(alloc, boxes.len())?;
+    let receiver = point_at(point);
     for place in 0..boxes.len() {
-        sights.push(rover_sight(&boxes[place], point))?;
+        sights.push(rover_sight(&boxes[place], &receiver))?;
     }
     Ok(sights)
 }

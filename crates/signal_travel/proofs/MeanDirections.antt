@@ -16,7 +16,7 @@ use Rattle.orbit_model.specs.SeenPlaces.{Place, difference, square, point_of, Is
 use Rattle.orbit_model.proofs.Apart.{IsBetween, vector_square, whole_le}
 use Rattle.orbit_model.proofs.Exists.{coordinates, turned_round, turned_about}
 use Rattle.signal_travel.specs.declared.places.VectorBox.{VectorBox}
-use Rattle.signal_travel.specs.declared.places.Point.{Point}
+use Rattle.signal_travel.specs.declared.sent.Point.{Point}
 use Rattle.signal_travel.specs.VectorBoxes.{HoldsVector, HasVectorBetween}
 use Rattle.signal_travel.proofs.Sights.{lowest, lowest_held, point_place}
 

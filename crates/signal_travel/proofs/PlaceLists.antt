@@ -5,7 +5,7 @@ use Rattle.whole_math.proofs.Lists.{three_items}
 use Rattle.obs_rows.specs.ReceiverPoints.{IsReceiverPoint}
 use Rattle.obs_rows.specs.declared.limits.TheConstants.{MOST_COORDINATE}
 use Rattle.obs_rows.proofs.ReceiverPointLaws.{plain}
-use Rattle.signal_travel.specs.declared.places.Point.{Point}
+use Rattle.signal_travel.specs.declared.sent.Point.{Point}
 use Rattle.signal_travel.proofs.AboveLaws.{coordinate}
 
 -- a point as the code reads it

@@ -19,7 +19,7 @@ use Rattle.orbit_model.proofs.Apart.{IsBetween, turned_square, loosely, vector_s
 use Rattle.orbit_model.proofs.Seen.{square_same, difference_same}
 use Rattle.orbit_model.proofs.Exists.{AreApart, AreTurns, moves_slowly, both_within, rate_low}
 use Rattle.orbit_exists.proofs.Roots.{near_root_exists}
-use Rattle.signal_travel.specs.declared.places.Point.{Point}
+use Rattle.signal_travel.specs.declared.sent.Point.{Point}
 use Rattle.signal_travel.specs.declared.sent.SentBox.{SentBox}
 use Rattle.signal_travel.specs.SeenAfter.{IsSeenAfter}
 use Rattle.signal_travel.specs.VectorBoxes.{HoldsVector}

@@ -20,7 +20,7 @@ use Rattle.orbit_model.proofs.Apart.{IsBetween, turned_square, loosely, vector_s
 use Rattle.orbit_model.proofs.DistanceCertificates.{place_far, place_near}
 use Rattle.obs_rows.specs.ReceiverPoints.{IsReceiverPoint}
 use Rattle.signal_travel.specs.declared.places.VectorBox.{VectorBox}
-use Rattle.signal_travel.specs.declared.places.Point.{Point}
+use Rattle.signal_travel.specs.declared.sent.Point.{Point}
 use Rattle.signal_travel.specs.VectorBoxes.{HoldsVector, IsVectorAtMostWide, HasVectorBetween}
 
 -- equal places lie in the same boxes

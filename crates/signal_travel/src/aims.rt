@@ -1,9 +1,7 @@
 //! About how long a signal travels. Nothing is claimed of it, so its sums may wrap: it is only where the passes begin.
 ghost use Rattle.std.specs.Prelude.{◌^◌, pos, ◌≤ℤ◌};
 
-use crate::places::Point;
-use crate::sent::SentBox;
-use crate::vectors::units_of;
+use crate::sent::{Point, SentBox};
 use iv_core::Iv;
 
 // The Earth's rate over the speed of light in rad/m, at 2^-102
@@ -35,9 +33,9 @@ fn rough_place(sent: &SentBox) -> Rough {
 
 fn rough_point(point: &Point) -> Rough {
     Rough {
-        x: units_of(point.x) >> 10,
-        y: units_of(point.y) >> 10,
-        z: units_of(point.z) >> 10,
+        x: point.boxes.x.lo >> 10,
+        y: point.boxes.y.lo >> 10,
+        z: point.boxes.z.lo >> 10,
     }
 }
 

@@ -9,8 +9,7 @@ ghost use Rattle.signal_travel.specs.VectorBoxes.{HoldsVector, IsVectorAtMostWid
 ghost use Rattle.signal_travel.specs.Directions.{IsInSpread};
 
 use crate::passes::Sight;
-use crate::places::Point;
-use crate::sent::SeenPlace;
+use crate::sent::{Point, SeenPlace};
 use crate::spread::Spread;
 use crate::vectors::{length_by, vector_from};
 use iv_core::{Inverses, Iv};

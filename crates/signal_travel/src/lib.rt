@@ -6,7 +6,7 @@
 //! and the distance from the Earth's centre; the call takes no memory and is never refused. `above` says whether a
 //! satellite is above the elevation mask, exactly, at a place within 2^-17 m of every place in its box (`kept`,
 //! `left_out`; a mask of 1000 included). `aim_from` gives the range with the mean direction, both at one point, and makes
-//! their vector once (`range`, `direction`). `mean_direction` holds the mean direction from a point, which may be another
+//! their vector once (`range`, `direction`); the boxes of a point's coordinates are made once with it (`point_at`). `mean_direction` holds the mean direction from a point, which may be another
 //! one than the box was made with, for every place of the box and every displacement of at most 16 m; its type
 //! `Spread` keeps each centre at most 1 in size and each radius at most 32 units of 2^-24. `is_receiver_point` tests
 //! exactly what these calls ask of a point.
@@ -39,7 +39,8 @@ use iv_core::Iv;
 use mask::{is_above, offset_of};
 pub use obs_rows::is_receiver_point;
 use passes::sight_of;
-use sent::{point_at, seen_place, sent_box};
+pub use sent::{Point, point_at};
+use sent::{seen_place, sent_box};
 pub use spread::Spread;
 use sv_orbit::SvBox;
 
@@ -106,20 +107,17 @@ pub struct Aim {
     pub ghost range_narrow: { width_of range ≤ℤ pos (2 ^ 19) },
 }
 
-/// The range of `seen_from` and the direction of `mean_direction` at one point, in units of 0.1 mm. It takes no memory and is never
-/// refused.
-pub fn aim_from(sv: &SvBox, point: &[i64; 3]) -> Aim
-    requires { IsReceiverPoint point.now }
-    ensures range { (a b c : ℤ) (sent seen : Place) (travel : Rational) → point.now ≡ a ∷ b ∷ c ∷ [] →
-        HoldsPlace sv.now.place sent → IsSeenPlace sent (point_of a b c) travel seen → Holds result.range (range_of travel) }
-    ensures direction { (a b c : ℤ) (sent seen move direction : Place) (travel : Rational) → point.now ≡ a ∷ b ∷ c ∷ [] →
-        HoldsPlace sv.now.place sent → IsSeenPlace sent (point_of a b c) travel seen →
-        IsDisplacement move → IsMeanDirection seen (point_of a b c) move direction → HoldsDirection result.direction direction }
+/// The range of `seen_from` and the direction of `mean_direction` at one point. It takes no memory and is never refused.
+pub fn aim_from(sv: &SvBox, point: &Point) -> Aim
+    ensures range { (sent seen : Place) (travel : Rational) → HoldsPlace sv.now.place sent →
+        IsSeenPlace sent (point_of point.now.x point.now.y point.now.z) travel seen → Holds result.range (range_of travel) }
+    ensures direction { (sent seen move direction : Place) (travel : Rational) → HoldsPlace sv.now.place sent →
+        IsSeenPlace sent (point_of point.now.x point.now.y point.now.z) travel seen →
+        IsDisplacement move → IsMeanDirection seen (point_of point.now.x point.now.y point.now.z) move direction → HoldsDirection result.direction direction }
 {
     let sent = sent_box(sv);
-    let receiver = point_at(point);
-    let sight = sight_of(&sent, &receiver, travel_guess(&sent, &receiver));
-    let direction = direction_of(&sight, &receiver);
+    let sight = sight_of(&sent, point, travel_guess(&sent, point));
+    let direction = direction_of(&sight, point);
     Aim {
         range: sight.range,
         direction: [direction.x, direction.y, direction.z],

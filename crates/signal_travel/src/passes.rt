@@ -7,8 +7,8 @@ ghost use Rattle.orbit_model.specs.SeenPlaces.{Place, difference, square, point_
 ghost use Rattle.signal_travel.specs.SeenAfter.{IsSeenAfter};
 ghost use Rattle.signal_travel.specs.VectorBoxes.{HoldsVector, IsVectorWithin, AreEndsWithin, IsVectorAtMostWide, IsTravel};
 
-use crate::places::{Point, VectorBox};
-use crate::sent::SentBox;
+use crate::places::VectorBox;
+use crate::sent::{Point, SentBox};
 use crate::turns::{turn_in, turned_box};
 use crate::vectors::{length_by, vector_from};
 use iv_core::Iv;

@@ -1,6 +1,4 @@
-//! Points, and boxes of places and of vectors, in metres at scale 2^-36.
-ghost use Rattle.std.specs.Prelude.{[], ◌∷◌};
-ghost use Rattle.obs_rows.specs.ReceiverPoints.{IsReceiverPoint};
+//! Boxes of places and of vectors, in metres at scale 2^-36.
 
 use iv_core::Iv;
 
@@ -10,13 +8,4 @@ pub struct VectorBox {
     pub x: Iv<36>,
     pub y: Iv<36>,
     pub z: Iv<36>,
-}
-
-/// A point where a receiver may be, in units of 0.1 mm.
-#[derive(Clone, Copy)]
-pub struct Point {
-    pub x: i64,
-    pub y: i64,
-    pub z: i64,
-    pub ghost receiver: { IsReceiverPoint (x ∷ y ∷ z ∷ []) },
 }

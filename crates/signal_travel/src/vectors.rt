@@ -8,7 +8,8 @@ ghost use Rattle.orbit_model.specs.SeenPlaces.{Place, square};
 ghost use Rattle.signal_travel.specs.VectorBoxes.{coordinate_of, HoldsVector, IsVectorWithin, AreEndsWithin, IsVectorAtMostWide, HasVectorBetween, near_square, far_square};
 ghost use Rattle.obs_rows.specs.declared.limits.TheConstants.{MOST_COORDINATE};
 
-use crate::places::{Point, VectorBox};
+use crate::places::VectorBox;
+use crate::sent::Point;
 use iv_core::Iv;
 
 // 625 · 2^27, which makes a coordinate positive
@@ -25,7 +26,7 @@ fn raised_units(raised: u64) -> u64
 }
 
 // ⌊coordinate · 2^36 / 10^4⌋, which is ⌊coordinate · 2^32 / 625⌋
-pub fn units_of(coordinate: i64) -> i64
+fn units_of(coordinate: i64) -> i64
     requires { unsigned_abs coordinate ≤ MOST_COORDINATE }
     ensures low { (result *ℤ pos 10000) ≤ℤ (coordinate *ℤ pos (2 ^ 36)) }
     ensures high { (coordinate *ℤ pos (2 ^ 36)) <ℤ ((result *ℤ pos 10000) +ℤ pos 10000) }
@@ -45,8 +46,8 @@ fn rest_of(coordinate: i64) -> i64
     if raised % 625 == 0 { 0 } else { 1 }
 }
 
-// A coordinate in units of 0.1 mm
-fn coordinate_box(coordinate: i64) -> Iv<36>
+/// A coordinate in units of 0.1 mm
+pub fn coordinate_box(coordinate: i64) -> Iv<36>
     requires { unsigned_abs coordinate ≤ MOST_COORDINATE }
     ensures holds { Holds result (coordinate_of coordinate) }
     ensures size { IsWithin (7000001 * 2 ^ 36) result }
@@ -56,15 +57,16 @@ fn coordinate_box(coordinate: i64) -> Iv<36>
     Iv::from_ends(low, low + rest_of(coordinate))
 }
 
-// x less a coordinate in units of 0.1 mm
-fn offset_from(x: &Iv<36>, coordinate: i64) -> Iv<36>
+// x less the coordinate in the same place
+fn offset_from(x: &Iv<36>, coordinate: &Iv<36>) -> Iv<36>
     requires x_size { IsWithin (38100000 * 2 ^ 36) x.now }
-    requires size { unsigned_abs coordinate ≤ MOST_COORDINATE }
-    ensures holds { (q : Rational) → Holds x.now q → Holds result (sub_r q (coordinate_of coordinate)) }
+    requires size { IsWithin (7000001 * 2 ^ 36) coordinate.now }
+    requires narrow { width_of coordinate.now ≤ℤ pos 1 }
+    ensures holds { (q p : Rational) → Holds x.now q → Holds coordinate.now p → Holds result (sub_r q p) }
     ensures size { IsWithin (45200000 * 2 ^ 36) result }
     ensures width { width_of result ≤ℤ (width_of x.now +ℤ pos 1) }
 {
-    x.difference_of(&coordinate_box(coordinate))
+    x.difference_of(coordinate)
 }
 
 /// The place less the point.
@@ -79,9 +81,9 @@ pub fn vector_from(point: &Point, place: &VectorBox) -> VectorBox
     ensures width { (w : ℤ) → IsVectorAtMostWide w place.now → IsVectorAtMostWide (w +ℤ pos 1) result }
 {
     VectorBox {
-        x: offset_from(&place.x, point.x),
-        y: offset_from(&place.y, point.y),
-        z: offset_from(&place.z, point.z),
+        x: offset_from(&place.x, &point.boxes.x),
+        y: offset_from(&place.y, &point.boxes.y),
+        z: offset_from(&place.z, &point.boxes.z),
     }
 }
 

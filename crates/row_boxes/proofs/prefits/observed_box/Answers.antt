@@ -14,31 +14,25 @@ use Rattle.obs_rows.specs.declared.units.TheConstants.{SIGNALS}
 pub returns-in-0-clause-holds : goal.returns-in-0-clause-holds
 returns-in-0-clause-holds c =
     let size_allowed = c.requires.size in
-    let below_stands = c.l1_below.ensures in
-    let above_stands = c.l1_below-in-0.ensures in
-    let box = c.between in
-    let low : (box.result.lo *ℤ pos 1000) ≤ℤ ((wavelength 0 *ℤ c.args.amount) *ℤ pos 32768) = omega (arith, ints, size_allowed, below_stands.0, below_stands.1, box.ensures.low) in
-    let high : ((wavelength 0 *ℤ c.args.amount) *ℤ pos 32768) ≤ℤ (box.result.hi *ℤ pos 1000) = omega (arith, ints, size_allowed, above_stands.0, above_stands.1, box.ensures.high) in
+    let box = c.l1_box in
+    let low : (box.result.lo *ℤ pos 1000) ≤ℤ ((wavelength 0 *ℤ c.args.amount) *ℤ pos 32768) = omega (arith, ints, size_allowed, box.ensures.low.0, box.ensures.low.1) in
+    let high : ((wavelength 0 *ℤ c.args.amount) *ℤ pos 32768) ≤ℤ (box.result.hi *ℤ pos 1000) = omega (arith, ints, size_allowed, box.ensures.high.0, box.ensures.high.1) in
     subst (λ (n : ℕ). InBox iota_exponent box.result.lo box.result.hi (observed n c.args.amount)) (sym c.in-0.is) (low, high)
 
 pub returns-in-1-clause-holds : goal.returns-in-1-clause-holds
 returns-in-1-clause-holds c =
     let size_allowed = c.requires.size in
-    let below_stands = c.l2_below.ensures in
-    let above_stands = c.l2_below-in-1.ensures in
-    let box = c.between-in-1 in
-    let low : (box.result.lo *ℤ pos 1000) ≤ℤ ((wavelength 1 *ℤ c.args.amount) *ℤ pos 32768) = omega (arith, ints, size_allowed, below_stands.0, below_stands.1, box.ensures.low) in
-    let high : ((wavelength 1 *ℤ c.args.amount) *ℤ pos 32768) ≤ℤ (box.result.hi *ℤ pos 1000) = omega (arith, ints, size_allowed, above_stands.0, above_stands.1, box.ensures.high) in
+    let box = c.l2_box in
+    let low : (box.result.lo *ℤ pos 1000) ≤ℤ ((wavelength 1 *ℤ c.args.amount) *ℤ pos 32768) = omega (arith, ints, size_allowed, box.ensures.low.0, box.ensures.low.1) in
+    let high : ((wavelength 1 *ℤ c.args.amount) *ℤ pos 32768) ≤ℤ (box.result.hi *ℤ pos 1000) = omega (arith, ints, size_allowed, box.ensures.high.0, box.ensures.high.1) in
     subst (λ (n : ℕ). InBox iota_exponent box.result.lo box.result.hi (observed n c.args.amount)) (sym c.in-1.is) (low, high)
 
 pub returns-in-4-clause-holds : goal.returns-in-4-clause-holds
 returns-in-4-clause-holds c =
     let size_allowed = c.requires.size in
-    let below_stands = c.l5_below.ensures in
-    let above_stands = c.l5_below-in-4.ensures in
-    let box = c.between-in-4 in
-    let low : (box.result.lo *ℤ pos 1000) ≤ℤ ((wavelength 4 *ℤ c.args.amount) *ℤ pos 32768) = omega (arith, ints, size_allowed, below_stands.0, below_stands.1, box.ensures.low) in
-    let high : ((wavelength 4 *ℤ c.args.amount) *ℤ pos 32768) ≤ℤ (box.result.hi *ℤ pos 1000) = omega (arith, ints, size_allowed, above_stands.0, above_stands.1, box.ensures.high) in
+    let box = c.l5_box in
+    let low : (box.result.lo *ℤ pos 1000) ≤ℤ ((wavelength 4 *ℤ c.args.amount) *ℤ pos 32768) = omega (arith, ints, size_allowed, box.ensures.low.0, box.ensures.low.1) in
+    let high : ((wavelength 4 *ℤ c.args.amount) *ℤ pos 32768) ≤ℤ (box.result.hi *ℤ pos 1000) = omega (arith, ints, size_allowed, box.ensures.high.0, box.ensures.high.1) in
     subst (λ (n : ℕ). InBox iota_exponent box.result.lo box.result.hi (observed n c.args.amount)) (sym c.in-4.is) (low, high)
 
 -- a signal that is none of the three phases
@@ -54,11 +48,9 @@ code (suc (suc (suc (suc (suc (suc s)))))) h a b d = absurd (omega arith)
 pub returns-in_default-clause-holds : goal.returns-in_default-clause-holds
 returns-in_default-clause-holds c =
     let size_allowed = c.requires.size in
-    let below_stands = c.code_below.ensures in
-    let above_stands = c.code_below-in_default.ensures in
-    let box = c.between-in_default in
-    let low : IsFloor (c.args.amount *ℤ MILLIMETRE_UNITS) HALF_LIGHT_SPEED box.result.lo = (omega (arith, ints, size_allowed, below_stands.0, below_stands.1, box.ensures.low), omega (arith, ints, size_allowed, below_stands.0, below_stands.1, box.ensures.low)) in
-    let high : IsCeil (c.args.amount *ℤ MILLIMETRE_UNITS) HALF_LIGHT_SPEED box.result.hi = (omega (arith, ints, size_allowed, above_stands.0, above_stands.1, box.ensures.high), omega (arith, ints, size_allowed, above_stands.0, above_stands.1, box.ensures.high)) in
+    let box = c.code_box in
+    let low : IsFloor (c.args.amount *ℤ MILLIMETRE_UNITS) HALF_LIGHT_SPEED box.result.lo = (omega (arith, ints, size_allowed, box.ensures.low.0, box.ensures.low.1), omega (arith, ints, size_allowed, box.ensures.low.0, box.ensures.low.1)) in
+    let high : IsCeil (c.args.amount *ℤ MILLIMETRE_UNITS) HALF_LIGHT_SPEED box.result.hi = (omega (arith, ints, size_allowed, box.ensures.high.0, box.ensures.high.1), omega (arith, ints, size_allowed, box.ensures.high.0, box.ensures.high.1)) in
     observed_code c.args.signal c.args.amount box.result.lo box.result.hi (code c.args.signal c.requires.signal (omega arith) (omega arith) (omega arith)) low high
 
 pub returns-in_default-clause-phase : goal.returns-in_default-clause-phase

@@ -1,9 +1,6 @@
-use Rattle.std.proofs.Common.{ℤ, pos, ◌-ℤ◌, ◌≤ℤ◌, neg_ℤ, arith, lit≤, subst}
-use Rattle.std.proofs.lemmas.Int.{ints, to_z-of_z}
-use Rattle.std.specs.Int.{w64}
-use Rattle.iv_core.specs.Intervals.{Holds}
+use Rattle.std.proofs.Common.{ℤ, pos, ◌-ℤ◌, ◌≤ℤ◌, neg_ℤ, arith, lit≤}
+use Rattle.std.proofs.lemmas.Int.{ints}
 use Rattle.sized_box.proofs.Bounds.{reached}
-use Rattle.signal_travel.specs.VectorBoxes.{coordinate_of}
 use Rattle.signal_travel.proofs.vectors.offset_from.Goals as goal
 
 low : (a d : ℤ) → neg_ℤ (pos 2618212063641600000) ≤ℤ a → d ≤ℤ pos 481036405871476736 → neg_ℤ (pos 3106120348467200000) ≤ℤ (a -ℤ d)
@@ -16,17 +13,16 @@ pub difference_of-requires : goal.difference_of-requires
 difference_of-requires c = (
   omega arith,
   reached _ _ 3106120348467200000 (lit≤ tt)
-      (low c.args.x.now.lo c.coordinate_box.result.hi c.requires.x_size.0 c.coordinate_box.ensures.size.1)
-      (high c.args.x.now.hi c.coordinate_box.result.lo c.requires.x_size.1 c.coordinate_box.ensures.size.0),
+      (low c.args.x.now.lo c.args.coordinate.now.hi c.requires.x_size.0 c.requires.size.1)
+      (high c.args.x.now.hi c.args.coordinate.now.lo c.requires.x_size.1 c.requires.size.0),
 )
 
 pub returns-clause-size : goal.returns-clause-size
 returns-clause-size c =
     let difference_stands = c.difference_of.ensures in (
-      rw difference_stands.lo (low c.args.x.now.lo c.coordinate_box.result.hi c.requires.x_size.0 c.coordinate_box.ensures.size.1),
-      rw difference_stands.hi (high c.args.x.now.hi c.coordinate_box.result.lo c.requires.x_size.1 c.coordinate_box.ensures.size.0),
+      rw difference_stands.lo (low c.args.x.now.lo c.args.coordinate.now.hi c.requires.x_size.0 c.requires.size.1),
+      rw difference_stands.hi (high c.args.x.now.hi c.args.coordinate.now.lo c.requires.x_size.1 c.requires.size.0),
     )
 
 pub returns-clause-holds : goal.returns-clause-holds
-returns-clause-holds c = λ q h. c.difference_of.ensures.holds q (coordinate_of c.args.coordinate) h
-    (subst (λ (z : ℤ). Holds c.coordinate_box.result (coordinate_of z)) (to_z-of_z w64 c.args.coordinate c.ranges.coordinate) c.coordinate_box.ensures.holds)
+returns-clause-holds c = λ q p h k. c.difference_of.ensures.holds q p h k

@@ -14,7 +14,7 @@ use Rattle.row_build.specs.Rows.{setting_from, seen_by, IsRow}
 use Rattle.row_build.specs.Far.{IsGroup, HasFarRow}
 use Rattle.row_build.proofs.FirstRow.{first_meets}
 use Rattle.row_build.proofs.SightLaws.{both_see}
-use Rattle.row_build.proofs.pairs.pair_rows_with.Goals as goal
+use Rattle.row_build.proofs.pairs.next_pair_rows.Goals as goal
 
 row_in : (P : Row → Type 0) (rows : List Row) (r : Row) → All P rows → slice_get rows 0 ≡ Some r → P r
 row_in P rows r all e = subst P (get_or_from_slice_get rows 0 r r e) (all 0 r (slice_get_within rows 0 r e))
