@@ -19,19 +19,19 @@ use Rattle.obs_source.specs.Formats.{any_of, IsObservation, HasObservation}
 
 -- What is kept is of this number of bytes; a line that has begun has no end, and a feed reads GPS.
 abbrev pub IsKeptOf : Source → ℕ → Type 0
-IsKeptOf (source.Begun line) taken = (length line ≡ taken) × GoesOn line
+IsKeptOf (source.FirstLine line) taken = (length line ≡ taken) × GoesOn line
 IsKeptOf (source.Three feed) taken = (feed.taken ≡ taken) × (feed.system ≡ Gps)
 IsKeptOf (source.Two bytes) taken = length bytes.items ≡ taken
 IsKeptOf source.NoMemory taken = Unit {0}
 
 pub IsKeptOf-prop : (s : Source) (taken : ℕ) → IsProp (IsKeptOf s taken)
-IsKeptOf-prop (source.Begun line) taken = Prim.hlevel props
+IsKeptOf-prop (source.FirstLine line) taken = Prim.hlevel props
 IsKeptOf-prop (source.Three feed) taken = Prim.hlevel props
 IsKeptOf-prop (source.Two bytes) taken = Prim.hlevel props
 IsKeptOf-prop source.NoMemory taken = Prim.hlevel props
 
 abbrev pub HasNoMemory : Source → Type 0
-HasNoMemory (source.Begun line) = ⊥
+HasNoMemory (source.FirstLine line) = ⊥
 HasNoMemory (source.Three feed) = ⊥
 HasNoMemory (source.Two bytes) = ⊥
 HasNoMemory source.NoMemory = Unit {0}
@@ -46,7 +46,7 @@ IsReadBy reads text = (more : List ℕ) → any_of Gps (lines_of (text ++ more))
 
 -- the text is a line without an end; a feed stands for it, or it is kept; after running out of memory there is none
 abbrev pub StandsForText : Source → List ℕ → Type 0
-StandsForText (source.Begun line) text = text ≡ line
+StandsForText (source.FirstLine line) text = text ≡ line
 StandsForText (source.Three feed) text = StandsFor feed.system feed.state feed.taken text × IsReadBy (λ lines. obs_of Gps lines) text
 StandsForText (source.Two bytes) text = (text ≡ bytes.items) × IsReadBy obs2_of text
 StandsForText source.NoMemory text = ⊥

@@ -19,7 +19,7 @@ use std::alloc::{AllocError, Global};
 #[derive(Drop)]
 pub enum Source {
     /// The first line, which hasn't ended.
-    Begun(StartedLine),
+    FirstLine(StartedLine),
     /// The file is read as RINEX 3.
     Three(Feed),
     /// The file is read as RINEX 2 when it is whole.
@@ -160,7 +160,7 @@ impl ObsTaker {
         ObsTaker {
             alloc,
             taken: 0,
-            source: Source::Begun(StartedLine::new()),
+            source: Source::FirstLine(StartedLine::new()),
         }
     }
 
@@ -173,7 +173,7 @@ impl ObsTaker {
         let alloc = self.alloc;
         let source = self.source;
         match source {
-            Source::Begun(line) => read_line(alloc, line.as_slice()),
+            Source::FirstLine(line) => read_line(alloc, line.as_slice()),
             Source::Three(feed) => feed.finish(),
             Source::Two(bytes) => read_obs2(alloc, &bytes),
             Source::NoMemory => Err(TextFault::NoMemory),
@@ -198,7 +198,7 @@ impl Taker for ObsTaker {
     {
         self.taken += piece.len() as u32;
         match &mut self.source {
-            Source::Begun(line) => match go_on(self.alloc, line, piece) {
+            Source::FirstLine(line) => match go_on(self.alloc, line, piece) {
                 Ok(None) => Ok(()),
                 Ok(Some(source)) => {
                     self.source = source;
