@@ -7,7 +7,9 @@ ghost use Rattle.trig_box.specs.AnglePairs.{Pair, IsAnglePair};
 ghost use Rattle.trig_box.specs.PairBoxes.{HoldsPair, AreAtMostWide};
 ghost use Rattle.orbit_model.specs.Elements.{earth_rate};
 ghost use Rattle.orbit_model.specs.SeenPlaces.{Place, turned_back};
+ghost use Rattle.orbit_model.specs.declared.rotation.TheConstants.{EARTH_ROTATION};
 ghost use Rattle.signal_travel.specs.VectorBoxes.{HoldsVector, IsVectorWithin, IsVectorAtMostWide, IsTravel};
+ghost use Rattle.signal_travel.specs.declared.passes.TheConstants.{LATEST};
 
 use crate::places::VectorBox;
 use crate::sent::SentBox;
@@ -51,8 +53,8 @@ fn over_scale(turn: u128) -> u64
 // The angle by which the Earth turns in the time, from units of 2^-60 s to units of 2^-56 rad, rounded down
 fn angle_in(time: i64) -> i64
     requires low { pos 0 ≤ℤ time }
-    requires high { time ≤ℤ pos 192153584101141163 }
-    ensures value { result ≡ floor_div (pos 72921151467 *ℤ time) 16000000000000000 }
+    requires high { time ≤ℤ LATEST }
+    ensures value { result ≡ floor_div (pos EARTH_ROTATION *ℤ time) 16000000000000000 }
     ensures low { pos 0 ≤ℤ result }
     ensures high { result ≤ℤ pos 875753788197 }
 {
