@@ -8,10 +8,10 @@ wider r a w h k = omega (arith, ints, h, k)
 
 pub returns-clause-width : goal.returns-clause-width
 returns-clause-width c = λ w h. (
-      wider _ _ w c.offset_from.ensures.width h.0,
-      wider _ _ w c.offset_from-2.ensures.width h.1,
-      wider _ _ w c.offset_from-3.ensures.width h.2,
-    )
+  wider _ _ w c.offset_from.ensures.width h.0,
+  wider _ _ w c.offset_from-2.ensures.width h.1,
+  wider _ _ w c.offset_from-3.ensures.width h.2,
+)
 
 pub returns-clause-holds : goal.returns-clause-holds
 returns-clause-holds c = λ p held.
