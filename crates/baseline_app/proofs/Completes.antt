@@ -43,49 +43,49 @@ part_status (part.File file) seed epochs sats bands system end ends = sim_status
 part_status part.Run seed epochs sats bands system end ends = sim_run_status seed epochs sats bands system end ends
 
 -- each command's own part
-readable_ends : (job : Job) (told : List ℕ → Option (List ℕ)) (end : Ending) → IsReadable job told → end.status ≢ ReadFault → JobEnds job told end → IsVerdictStatus end.status
-readable_ends (job.Zero rows) told end = text_verdict zero_job told rows end
-readable_ends (job.List obs) told end = text_verdict list_job told obs end
-readable_ends (job.Orbit nav system sat tick) told end = text_verdict (orbit_job system sat tick.0) told nav end
-readable_ends (job.Check cert) told end = text_verdict check_job told cert end
-readable_ends (job.Residuals cert) told end = text_verdict residuals_job told cert end
-readable_ends (job.Migrate cert) told end = text_verdict migrate_job told cert end
-readable_ends (job.Fix base rover nav options) told end = session_verdict AnswersFix told base rover nav options end
-readable_ends (job.Track base rover nav options) told end = session_verdict AnswersTrack told base rover nav options end
-readable_ends (job.CheckTrack cert) told end = text_verdict check_track_job told cert end
-readable_ends (job.Arcs base rover nav options) told end = session_verdict AnswersArcs told base rover nav options end
-readable_ends (job.Sim part seed epochs sats bands system) told end = λ readable no_fault ends. part_verdict part seed epochs sats bands system end ends
+readable_ends : (job : Job) (text_of : List ℕ → Option (List ℕ)) (end : Ending) → IsReadable job text_of → end.status ≢ ReadFault → JobEnds job text_of end → IsVerdictStatus end.status
+readable_ends (job.Zero rows) text_of end = text_verdict zero_job text_of rows end
+readable_ends (job.List obs) text_of end = text_verdict list_job text_of obs end
+readable_ends (job.Orbit nav system sat tick) text_of end = text_verdict (orbit_job system sat tick.0) text_of nav end
+readable_ends (job.Check cert) text_of end = text_verdict check_job text_of cert end
+readable_ends (job.Residuals cert) text_of end = text_verdict residuals_job text_of cert end
+readable_ends (job.Migrate cert) text_of end = text_verdict migrate_job text_of cert end
+readable_ends (job.Fix base rover nav options) text_of end = session_verdict AnswersFix text_of base rover nav options end
+readable_ends (job.Track base rover nav options) text_of end = session_verdict AnswersTrack text_of base rover nav options end
+readable_ends (job.CheckTrack cert) text_of end = text_verdict check_track_job text_of cert end
+readable_ends (job.Arcs base rover nav options) text_of end = session_verdict AnswersArcs text_of base rover nav options end
+readable_ends (job.Sim part seed epochs sats bands system) text_of end = λ readable no_fault ends. part_verdict part seed epochs sats bands system end ends
 
-job_status : (job : Job) (told : List ℕ → Option (List ℕ)) (end : Ending) → JobEnds job told end → IsJobStatus end.status
-job_status (job.Zero rows) told end = text_status zero_job told rows end
-job_status (job.List obs) told end = text_status list_job told obs end
-job_status (job.Orbit nav system sat tick) told end = text_status (orbit_job system sat tick.0) told nav end
-job_status (job.Check cert) told end = text_status check_job told cert end
-job_status (job.Residuals cert) told end = text_status residuals_job told cert end
-job_status (job.Migrate cert) told end = text_status migrate_job told cert end
-job_status (job.Fix base rover nav options) told end = session_status AnswersFix told base rover nav options end
-job_status (job.Track base rover nav options) told end = session_status AnswersTrack told base rover nav options end
-job_status (job.CheckTrack cert) told end = text_status check_track_job told cert end
-job_status (job.Arcs base rover nav options) told end = session_status AnswersArcs told base rover nav options end
-job_status (job.Sim part seed epochs sats bands system) told end = part_status part seed epochs sats bands system end
+job_status : (job : Job) (text_of : List ℕ → Option (List ℕ)) (end : Ending) → JobEnds job text_of end → IsJobStatus end.status
+job_status (job.Zero rows) text_of end = text_status zero_job text_of rows end
+job_status (job.List obs) text_of end = text_status list_job text_of obs end
+job_status (job.Orbit nav system sat tick) text_of end = text_status (orbit_job system sat tick.0) text_of nav end
+job_status (job.Check cert) text_of end = text_status check_job text_of cert end
+job_status (job.Residuals cert) text_of end = text_status residuals_job text_of cert end
+job_status (job.Migrate cert) text_of end = text_status migrate_job text_of cert end
+job_status (job.Fix base rover nav options) text_of end = session_status AnswersFix text_of base rover nav options end
+job_status (job.Track base rover nav options) text_of end = session_status AnswersTrack text_of base rover nav options end
+job_status (job.CheckTrack cert) text_of end = text_status check_track_job text_of cert end
+job_status (job.Arcs base rover nav options) text_of end = session_status AnswersArcs text_of base rover nav options end
+job_status (job.Sim part seed epochs sats bands system) text_of end = part_status part seed epochs sats bands system end
 
 -- the job that the words ask for ends so over its files, or memory is out
 pub asked_ends : (job : Job) (words : List (List ℕ)) (work : FileWork) (end : Ending) → IsJob words job → IsAnswer words work end
-    → EndsOver work (file_words job) (IsLineOf job) (JobEnds job work.told) end ⊎ (end.status ≡ NoMemory)
+    → EndsOver work (file_words job) (IsLineOf job) (JobEnds job work.text_of) end ⊎ (end.status ≡ NoMemory)
 asked_ends job words work end asked (inl answer) =
-    inl (subst (λ (j : Job). EndsOver work (file_words j) (IsLineOf j) (JobEnds j work.told) end) (one_job words answer.job job answer.asked asked) answer.ends)
+    inl (subst (λ (j : Job). EndsOver work (file_words j) (IsLineOf j) (JobEnds j work.text_of) end) (one_job words answer.job job answer.asked asked) answer.ends)
 asked_ends job words work end asked (inr (inl usage)) = absurd (usage.none job asked)
 asked_ends job words work end asked (inr (inr none)) = inr (ap (λ (e : Ending). e.status) none)
 
-answer_ends : (job : Job) (words : List (List ℕ)) (work : FileWork) (end : Ending) → IsJob words job → IsReadable job work.told → end.status ≢ ReadFault → IsAnswer words work end
-    → (end.status ≡ NoMemory) ⊎ (JobEnds job work.told end × IsVerdictStatus end.status)
+answer_ends : (job : Job) (words : List (List ℕ)) (work : FileWork) (end : Ending) → IsJob words job → IsReadable job work.text_of → end.status ≢ ReadFault → IsAnswer words work end
+    → (end.status ≡ NoMemory) ⊎ (JobEnds job work.text_of end × IsVerdictStatus end.status)
 answer_ends job words work end asked readable no_fault answer = elim (asked_ends job words work end asked answer) [
-  | inl over ↦ inr (over.ends_so, readable_ends job work.told end readable no_fault over.ends_so)
+  | inl over ↦ inr (over.ends_so, readable_ends job work.text_of end readable no_fault over.ends_so)
   | inr none ↦ inl none
 ]
 
 pub run_complete : (job : Job) (words : List (List ℕ)) (work : FileWork) (result : Status) (out err : SinkChange)
-    → IsRun words work result out err → IsJob words job → IsReadable job work.told → result ≢ ReadFault → IsComplete job work.told result out err
+    → IsRun words work result out err → IsJob words job → IsReadable job work.text_of → result ≢ ReadFault → IsComplete job work.text_of result out err
 run_complete job words work result out err run asked readable no_fault = elim (run.written) [
   | inl written ↦ elim (answer_ends job words work run.end asked readable (λ e. no_fault (written.same ∙ e)) run.answer) [
     | inl none ↦ inr (inl (written.same ∙ none))
@@ -107,7 +107,7 @@ pub run_usage : (words : List (List ℕ)) (work : FileWork) (result : Status) (o
     → result ≡ Usage → (job : Job) → IsJob words job → ⊥
 run_usage words work result out err run is job asked = elim (run.written) [
   | inl written ↦ elim (run.answer) [
-    | inl answer ↦ subst IsJobStatus (sym written.same ∙ is) (job_status answer.job work.told run.end answer.ends.ends_so)
+    | inl answer ↦ subst IsJobStatus (sym written.same ∙ is) (job_status answer.job work.text_of run.end answer.ends.ends_so)
     | inr (inl usage) ↦ usage.none job asked
     | inr (inr none) ↦ let status_is = ap (λ (e : Ending). e.status) none in absurd (cc (status_is, written.same, is))
   ]
@@ -120,7 +120,7 @@ pub run_write : (words : List (List ℕ)) (work : FileWork) (result : Status) (o
     → result ≡ WriteFault → Rose out.before out.now ⊎ Rose err.before err.now
 run_write words work result out err run is = elim (run.written) [
   | inl written ↦ elim (run.answer) [
-    | inl answer ↦ absurd (subst IsJobStatus (sym written.same ∙ is) (job_status answer.job work.told run.end answer.ends.ends_so))
+    | inl answer ↦ absurd (subst IsJobStatus (sym written.same ∙ is) (job_status answer.job work.text_of run.end answer.ends.ends_so))
     | inr (inl usage) ↦ let usage_status_is = ap (λ (e : Ending). e.status) usage.end_is in absurd (cc (usage_status_is, written.same, is))
     | inr (inr none) ↦ let status_is = ap (λ (e : Ending). e.status) none in absurd (cc (status_is, written.same, is))
   ]
@@ -138,21 +138,21 @@ run_steady words work result out err run verdict = elim (run.written) [
 ]
 
 -- ---- the refusal that is said
-told_file : (told : List ℕ → Option (List ℕ)) (left : Unread) (P Q : List ℕ → Type 0) (name : List ℕ)
-    → ((text : List ℕ) → P text → Q text) → IsRefusedFile told left P name → IsRefusedFile told left Q name
-told_file told left P Q name more (inl refused) = inl (record { at = refused.at; line = more _ refused.line; read = refused.read })
-told_file told left P Q name more (inr large) = inr (record { line = more _ large.line; large = large.large })
+told_file : (text_of : List ℕ → Option (List ℕ)) (left : Unread) (P Q : List ℕ → Type 0) (name : List ℕ)
+    → ((text : List ℕ) → P text → Q text) → IsRefusedFile text_of left P name → IsRefusedFile text_of left Q name
+told_file text_of left P Q name more (inl refused) = inl (record { at = refused.at; line = more _ refused.line; read = refused.read })
+told_file text_of left P Q name more (inr large) = inr (record { line = more _ large.line; large = large.large })
 
-told_any : (told : List ℕ → Option (List ℕ)) (left : Unread) (P Q : List ℕ → Type 0) (names : List (List ℕ))
-    → ((text : List ℕ) → P text → Q text) → Any (IsRefusedFile told left P) names ⊎ ((what : PairWhat) × P (pair_line what))
-    → Any (IsRefusedFile told left Q) names ⊎ ((what : PairWhat) × Q (pair_line what))
-told_any told left P Q names more (inl found) = inl (found.0, found.1, found.2, found.3, told_file told left P Q found.1 more found.4)
-told_any told left P Q names more (inr pair) = inr (pair.0, more _ pair.1)
+told_any : (text_of : List ℕ → Option (List ℕ)) (left : Unread) (P Q : List ℕ → Type 0) (names : List (List ℕ))
+    → ((text : List ℕ) → P text → Q text) → Any (IsRefusedFile text_of left P) names ⊎ ((what : PairWhat) × P (pair_line what))
+    → Any (IsRefusedFile text_of left Q) names ⊎ ((what : PairWhat) × Q (pair_line what))
+told_any text_of left P Q names more (inl found) = inl (found.0, found.1, found.2, found.3, told_file text_of left P Q found.1 more found.4)
+told_any text_of left P Q names more (inr pair) = inr (pair.0, more _ pair.1)
 
 -- a refusal that is written is that of the ending
-pub refused_told : (told : List ℕ → Option (List ℕ)) (left : Unread) (names : List (List ℕ)) (end : Ending) (result : Status)
-    (out err : SinkChange) → IsDelivered end result out err → AreRefusedWhole told left names end → HaveRefused told left names result (GainsUnlessFault err)
-refused_told told left names end result out err (inl written) refused = λ is.
-    told_any told left (λ text. end.err ≡ text) (GainsUnlessFault err) names (λ text same. subst (GainsUnlessFault err) same written.err_gains) (refused (sym written.same ∙ is))
-refused_told told left names end result out err (inr (inl by_out)) refused = λ is. absurd (cc (by_out.fault, is))
-refused_told told left names end result out err (inr (inr by_err)) refused = λ is. absurd (cc (by_err.fault, is))
+pub refused_told : (text_of : List ℕ → Option (List ℕ)) (left : Unread) (names : List (List ℕ)) (end : Ending) (result : Status)
+    (out err : SinkChange) → IsDelivered end result out err → AreRefusedWhole text_of left names end → HaveRefused text_of left names result (GainsUnlessFault err)
+refused_told text_of left names end result out err (inl written) refused = λ is.
+    told_any text_of left (λ text. end.err ≡ text) (GainsUnlessFault err) names (λ text same. subst (GainsUnlessFault err) same written.err_gains) (refused (sym written.same ∙ is))
+refused_told text_of left names end result out err (inr (inl by_out)) refused = λ is. absurd (cc (by_out.fault, is))
+refused_told text_of left names end result out err (inr (inr by_err)) refused = λ is. absurd (cc (by_err.fault, is))

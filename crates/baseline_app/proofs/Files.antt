@@ -36,21 +36,21 @@ one_over work names IsLine ends more end weaker over = record {
 }
 
 pub text_asked : (work : FileWork) (r : Result JobOutput JobStop) (text : TextJob) (name word : List ℕ) (job asked : Job) → job ≡ asked → name ≡ word → file_words asked ≡ word ∷ []
-    → ((end : Ending) → TextEnds text work.told word end → JobEnds asked work.told end) → IsDoneOver work (name ∷ []) NoLine (TextEnds text work.told name) r
-    → IsDoneOver work (file_words job) (IsLineOf job) (JobEnds job work.told) r
+    → ((end : Ending) → TextEnds text work.text_of word end → JobEnds asked work.text_of end) → IsDoneOver work (name ∷ []) NoLine (TextEnds text work.text_of name) r
+    → IsDoneOver work (file_words job) (IsLineOf job) (JobEnds job work.text_of) r
 text_asked work r text name word job asked is same words weaker done =
-    let at_word : IsDoneOver work (word ∷ []) NoLine (TextEnds text work.told word) r = subst (λ (n : List ℕ). IsDoneOver work (n ∷ []) NoLine (TextEnds text work.told n) r) same done in
-    let is_done : IsDoneOver work (word ∷ []) (IsLineOf asked) (JobEnds asked work.told) r = record {
+    let at_word : IsDoneOver work (word ∷ []) NoLine (TextEnds text work.text_of word) r = subst (λ (n : List ℕ). IsDoneOver work (n ∷ []) NoLine (TextEnds text work.text_of n) r) same done in
+    let is_done : IsDoneOver work (word ∷ []) (IsLineOf asked) (JobEnds asked work.text_of) r = record {
       opened = at_word.opened;
-      ended = ended_weaker r _ _ (λ end over. one_over work (word ∷ []) (IsLineOf asked) (TextEnds text work.told word) (JobEnds asked work.told) end (weaker end) over) at_word.ended;
+      ended = ended_weaker r _ _ (λ end over. one_over work (word ∷ []) (IsLineOf asked) (TextEnds text work.text_of word) (JobEnds asked work.text_of) end (weaker end) over) at_word.ended;
     } in
-    subst (λ (j : Job). IsDoneOver work (file_words j) (IsLineOf j) (JobEnds j work.told) r) (sym is)
-    (subst (λ (ns : List (List ℕ)). IsDoneOver work ns (IsLineOf asked) (JobEnds asked work.told) r) (sym words) is_done)
+    subst (λ (j : Job). IsDoneOver work (file_words j) (IsLineOf j) (JobEnds j work.text_of) r) (sym is)
+    (subst (λ (ns : List (List ℕ)). IsDoneOver work ns (IsLineOf asked) (JobEnds asked work.text_of) r) (sym words) is_done)
 
 -- any job, which the words give
-pub job_asked : (work : FileWork) (r : Result JobOutput JobStop) (job asked : Job) → job ≡ asked → IsDoneOver work (file_words asked) (IsLineOf asked) (JobEnds asked work.told) r
-    → IsDoneOver work (file_words job) (IsLineOf job) (JobEnds job work.told) r
-job_asked work r job asked is done = subst (λ (j : Job). IsDoneOver work (file_words j) (IsLineOf j) (JobEnds j work.told) r) (sym is) done
+pub job_asked : (work : FileWork) (r : Result JobOutput JobStop) (job asked : Job) → job ≡ asked → IsDoneOver work (file_words asked) (IsLineOf asked) (JobEnds asked work.text_of) r
+    → IsDoneOver work (file_words job) (IsLineOf job) (JobEnds job work.text_of) r
+job_asked work r job asked is done = subst (λ (j : Job). IsDoneOver work (file_words j) (IsLineOf j) (JobEnds j work.text_of) r) (sym is) done
 
 -- a part of a simulated session opens none
 pub part_done : (work : FileWork) (r : Result JobOutput JobStop) (part : Part) (seed epochs sats bands system : ℕ) → work.left.openings ≡ work.openings
@@ -80,7 +80,7 @@ none_sure work names line fault all =
 
 -- ---- what a run does with files
 files_over : (work : FileWork) (job : Job) (end : Ending) (result : Status) (out err : SinkChange) → OpensFirst (file_words job) work.openings work.left.openings
-    → EndsOver work (file_words job) (IsLineOf job) (JobEnds job work.told) end → IsDelivered end result out err → UsesFiles work (file_words job) result
+    → EndsOver work (file_words job) (IsLineOf job) (JobEnds job work.text_of) end → IsDelivered end result out err → UsesFiles work (file_words job) result
 files_over work job end result out err opens over written = record {
   opened = opens;
   sure = λ all is. none_sure work (file_words job) end.err (over.named (delivered_status end result ReadFault out err written is (λ e. absurd (cc (e))))) all;
@@ -90,7 +90,7 @@ files_over work job end result out err opens over written = record {
 no_memory_status : (result status : Status) (out err : SinkChange) → IsDelivered (ending NoMemory [] no_memory_line) result out err → result ≡ status → status ≢ WriteFault → NoMemory ≡ status
 no_memory_status result status out err = delivered_status (ending NoMemory [] no_memory_line) result status out err
 
-pub files_used : (work : FileWork) (job : Job) (r : Result JobOutput JobStop) (result : Status) (out err : SinkChange) → IsDoneOver work (file_words job) (IsLineOf job) (JobEnds job work.told) r
+pub files_used : (work : FileWork) (job : Job) (r : Result JobOutput JobStop) (result : Status) (out err : SinkChange) → IsDoneOver work (file_words job) (IsLineOf job) (JobEnds job work.text_of) r
     → IsDelivered (end_of r) result out err → UsesFiles work (file_words job) result
 files_used work job (Ok a) result out err done written = files_over work job (ending_of a) result out err done.opened done.ended written
 files_used work job (Err (stop.Ended a)) result out err done written = files_over work job (ending_of a) result out err done.opened done.ended written

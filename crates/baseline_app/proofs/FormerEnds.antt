@@ -59,10 +59,10 @@ use Rattle.baseline_app.proofs.Completes.{asked_ends, refused_told}
 use Rattle.baseline_app.proofs.Files.{fault_among}
 
 -- ---- by the text of one file
-ends_at : (told : List ℕ → Option (List ℕ)) (name : List ℕ) (P Q : List ℕ → Ending → Type 0) (end : Ending) → ((text : List ℕ) → P text end → Q text end) → EndsByFile told name P end
-    → EndsByFile told name Q end
-ends_at told name P Q end each (inl by_text) = inl (record { text = by_text.text; is = by_text.is; ends_so = each by_text.text by_text.ends_so })
-ends_at told name P Q end each (inr unloaded) = inr unloaded
+ends_at : (text_of : List ℕ → Option (List ℕ)) (name : List ℕ) (P Q : List ℕ → Ending → Type 0) (end : Ending) → ((text : List ℕ) → P text end → Q text end) → EndsByFile text_of name P end
+    → EndsByFile text_of name Q end
+ends_at text_of name P Q end each (inl by_text) = inl (record { text = by_text.text; is = by_text.is; ends_so = each by_text.text by_text.ends_so })
+ends_at text_of name P Q end each (inr unloaded) = inr unloaded
 
 form_ends : {F : Type 0} (gives : List (List ℕ) → Result F At) (IsFile : List (List ℕ) → Type 0) (answers : List ℕ → Ending → Type 0) (name : List ℕ) (end : Ending) (text : List ℕ)
     → EndsOnText (form_job gives IsFile answers) name text end → FormEnds gives IsFile answers name text end
@@ -87,11 +87,11 @@ check_track_ends name end text (inl answered) = inl answered.answer
 check_track_ends name end text (inr r) = inr (record { at = r.at; none = r.refused.none; stuck = r.refused.place.stuck; gives_is = r.refused.place.gives_is; end_is = r.end_is })
 
 -- ---- by the files of a session
-session_at : (system : System) (told : List ℕ → Option (List ℕ)) (base rover nav : List ℕ) (P Q : ObsFile → ObsFile → Records → Ending → Type 0) (end : Ending)
-    → ((b r : ObsFile) (n : Records) → P b r n end → Q b r n end) → EndsBySession system told base rover nav P end → EndsBySession system told base rover nav Q end
-session_at system told base rover nav P Q end each (inl s) =
+session_at : (system : System) (text_of : List ℕ → Option (List ℕ)) (base rover nav : List ℕ) (P Q : ObsFile → ObsFile → Records → Ending → Type 0) (end : Ending)
+    → ((b r : ObsFile) (n : Records) → P b r n end → Q b r n end) → EndsBySession system text_of base rover nav P end → EndsBySession system text_of base rover nav Q end
+session_at system text_of base rover nav P Q end each (inl s) =
     inl (record { base_file = s.base_file; rover_file = s.rover_file; records = s.records; are = s.are; ends_so = each s.base_file s.rover_file s.records s.ends_so })
-session_at system told base rover nav P Q end each (inr stops) = inr stops
+session_at system text_of base rover nav P Q end each (inr stops) = inr stops
 
 arcs_ends : (o : Options) (end : Ending) (b r : ObsFile) (n : Records) → EndsOnFiles AnswersArcs o b r n end → AnswersArcs o b r n end ⊎ IsPairRefused b r o end
 arcs_ends o end b r n (inl answered) = inl answered.answer
@@ -135,47 +135,47 @@ part_ends part.Run seed epochs sats bands system end ends =
     record { run = ends; best = best_answer ends.base_file ends.rover_file ends.records ends.options ends.ends.outcome.answer ends.ends.holds.fixed }
 
 -- ---- each job
-pub job_ends : (j : Job) (told : List ℕ → Option (List ℕ)) (end : Ending) → present.JobEnds j told end → JobEnds j told end
-job_ends (job.Zero rows) told end = ends_at told rows _ _ end (form_ends rows_of IsZeroFile EndsByRows rows end)
-job_ends (job.List obs) told end = ends_at told obs _ _ end (form_ends (any_of Gps) (HasObservation Gps) EndsByObs obs end)
-job_ends (job.Orbit nav system sat tick) told end =
-    ends_at told nav _ _ end (form_ends (nav_of (system_of system)) (HasNavFile (system_of system)) (EndsByRecords system sat tick.0) nav end)
-job_ends (job.Check cert) told end = ends_at told cert _ _ end (check_ends cert end)
-job_ends (job.Residuals cert) told end = ends_at told cert _ _ end (residuals_ends cert end)
-job_ends (job.Migrate cert) told end = ends_at told cert _ _ end (migrate_ends cert end)
-job_ends (job.Fix base rover nav o) told end = session_at (system_of o.system) told base rover nav _ _ end (fix_ends o end)
-job_ends (job.Track base rover nav o) told end = session_at (system_of o.system) told base rover nav _ _ end (track_ends o end)
-job_ends (job.CheckTrack cert) told end = ends_at told cert _ _ end (check_track_ends cert end)
-job_ends (job.Arcs base rover nav o) told end = session_at (system_of o.system) told base rover nav _ _ end (arcs_ends o end)
-job_ends (job.Sim part seed epochs sats bands system) told end = part_ends part seed epochs sats bands system end
+pub job_ends : (j : Job) (text_of : List ℕ → Option (List ℕ)) (end : Ending) → present.JobEnds j text_of end → JobEnds j text_of end
+job_ends (job.Zero rows) text_of end = ends_at text_of rows _ _ end (form_ends rows_of IsZeroFile EndsByRows rows end)
+job_ends (job.List obs) text_of end = ends_at text_of obs _ _ end (form_ends (any_of Gps) (HasObservation Gps) EndsByObs obs end)
+job_ends (job.Orbit nav system sat tick) text_of end =
+    ends_at text_of nav _ _ end (form_ends (nav_of (system_of system)) (HasNavFile (system_of system)) (EndsByRecords system sat tick.0) nav end)
+job_ends (job.Check cert) text_of end = ends_at text_of cert _ _ end (check_ends cert end)
+job_ends (job.Residuals cert) text_of end = ends_at text_of cert _ _ end (residuals_ends cert end)
+job_ends (job.Migrate cert) text_of end = ends_at text_of cert _ _ end (migrate_ends cert end)
+job_ends (job.Fix base rover nav o) text_of end = session_at (system_of o.system) text_of base rover nav _ _ end (fix_ends o end)
+job_ends (job.Track base rover nav o) text_of end = session_at (system_of o.system) text_of base rover nav _ _ end (track_ends o end)
+job_ends (job.CheckTrack cert) text_of end = ends_at text_of cert _ _ end (check_track_ends cert end)
+job_ends (job.Arcs base rover nav o) text_of end = session_at (system_of o.system) text_of base rover nav _ _ end (arcs_ends o end)
+job_ends (job.Sim part seed epochs sats bands system) text_of end = part_ends part seed epochs sats bands system end
 
 -- ---- files that were admitted are
-form_admitted : {F : Type 0} (gives : List (List ℕ) → Result F At) (IsFile : List (List ℕ) → Type 0) (answers : List ℕ → Ending → Type 0) (told : List ℕ → Option (List ℕ)) (name : List ℕ)
-    → IsAdmitted told name IsFile → IsTextAdmitted (form_job gives IsFile answers) told name
-form_admitted gives IsFile answers told name a = record { text = a.text; told_is = a.told_is; fits = a.fits; file = a.file }
+form_admitted : {F : Type 0} (gives : List (List ℕ) → Result F At) (IsFile : List (List ℕ) → Type 0) (answers : List ℕ → Ending → Type 0) (text_of : List ℕ → Option (List ℕ)) (name : List ℕ)
+    → IsAdmitted text_of name IsFile → IsTextAdmitted (form_job gives IsFile answers) text_of name
+form_admitted gives IsFile answers text_of name a = record { text = a.text; told_is = a.told_is; fits = a.fits; file = a.file }
 
-cert_admitted : (text_job : TextJob) (told : List ℕ → Option (List ℕ)) (name : List ℕ) → IsCertAdmitted text_job.IsFile told name → IsTextAdmitted text_job told name
-cert_admitted text_job told name a = record { text = a.text; told_is = a.told_is; fits = a.fits; file = a.is }
+cert_admitted : (text_job : TextJob) (text_of : List ℕ → Option (List ℕ)) (name : List ℕ) → IsCertAdmitted text_job.IsFile text_of name → IsTextAdmitted text_job text_of name
+cert_admitted text_job text_of name a = record { text = a.text; told_is = a.told_is; fits = a.fits; file = a.is }
 
-pub still_readable : (j : Job) (told : List ℕ → Option (List ℕ)) → IsFormerReadable j told → present.IsReadable j told
-still_readable (job.Zero rows) told = form_admitted rows_of IsZeroFile EndsByRows told rows
-still_readable (job.List obs) told = form_admitted (any_of Gps) (HasObservation Gps) EndsByObs told obs
-still_readable (job.Orbit nav system sat tick) told = form_admitted (nav_of (system_of system)) (HasNavFile (system_of system)) (EndsByRecords system sat tick.0) told nav
-still_readable (job.Check cert) told = cert_admitted check_job told cert
-still_readable (job.Residuals cert) told = cert_admitted residuals_job told cert
-still_readable (job.Migrate cert) told = cert_admitted migrate_job told cert
-still_readable (job.Fix base rover nav options) told = λ readable. readable
-still_readable (job.Track base rover nav options) told = λ readable. readable
-still_readable (job.CheckTrack cert) told = cert_admitted check_track_job told cert
-still_readable (job.Arcs base rover nav options) told = λ readable. readable
-still_readable (job.Sim part seed epochs sats bands system) told = λ readable. readable
+pub still_readable : (j : Job) (text_of : List ℕ → Option (List ℕ)) → IsFormerReadable j text_of → present.IsReadable j text_of
+still_readable (job.Zero rows) text_of = form_admitted rows_of IsZeroFile EndsByRows text_of rows
+still_readable (job.List obs) text_of = form_admitted (any_of Gps) (HasObservation Gps) EndsByObs text_of obs
+still_readable (job.Orbit nav system sat tick) text_of = form_admitted (nav_of (system_of system)) (HasNavFile (system_of system)) (EndsByRecords system sat tick.0) text_of nav
+still_readable (job.Check cert) text_of = cert_admitted check_job text_of cert
+still_readable (job.Residuals cert) text_of = cert_admitted residuals_job text_of cert
+still_readable (job.Migrate cert) text_of = cert_admitted migrate_job text_of cert
+still_readable (job.Fix base rover nav options) text_of = λ readable. readable
+still_readable (job.Track base rover nav options) text_of = λ readable. readable
+still_readable (job.CheckTrack cert) text_of = cert_admitted check_track_job text_of cert
+still_readable (job.Arcs base rover nav options) text_of = λ readable. readable
+still_readable (job.Sim part seed epochs sats bands system) text_of = λ readable. readable
 
 -- ---- a run
-is_answer : (words : List (List ℕ)) (work : FileWork) (end : Ending) → present.IsAnswer words work end → IsAnswer words work.told end
-is_answer words work end (inl answers) = inl (record { job = answers.job; asked = answers.asked; ends = job_ends answers.job work.told end answers.ends.ends_so })
+is_answer : (words : List (List ℕ)) (work : FileWork) (end : Ending) → present.IsAnswer words work end → IsAnswer words work.text_of end
+is_answer words work end (inl answers) = inl (record { job = answers.job; asked = answers.asked; ends = job_ends answers.job work.text_of end answers.ends.ends_so })
 is_answer words work end (inr other) = inr other
 
-pub is_run : (words : List (List ℕ)) (work : FileWork) (result : Status) (out err : SinkChange) → runs.IsRun words work result out err → IsRun words work.told result out err
+pub is_run : (words : List (List ℕ)) (work : FileWork) (result : Status) (out err : SinkChange) → runs.IsRun words work result out err → IsRun words work.text_of result out err
 is_run words work result out err run = record { end = run.end; answer = is_answer words work run.end run.answer; written = run.written }
 
 -- a line about a job's files together is one about two observation files
@@ -194,9 +194,9 @@ is_pair_line (job.Sim part seed epochs sats bands system) line none = absurd non
 
 -- what its text names, err has gained unless it has a fault
 pub have_refused : (words : List (List ℕ)) (work : FileWork) (result : Status) (out err : SinkChange) → runs.IsRun words work result out err → (j : Job) → IsJob words j
-    → HaveRefused work.told work.left (file_words j) result (GainsUnlessFault err)
+    → HaveRefused work.text_of work.left (file_words j) result (GainsUnlessFault err)
 have_refused words work result out err run j asked = elim (asked_ends j words work run.end asked run.answer) [
-  | inl over ↦ refused_told work.told work.left (file_words j) run.end result out err run.written (λ is. elim (over.refused is) [ inl file ↦ inl file | inr line ↦ inr (is_pair_line j run.end.err line.0) ])
+  | inl over ↦ refused_told work.text_of work.left (file_words j) run.end result out err run.written (λ is. elim (over.refused is) [ inl file ↦ inl file | inr line ↦ inr (is_pair_line j run.end.err line.0) ])
   | inr none ↦ λ is. let status_is = delivered_status run.end result Refused out err run.written is (λ e. absurd (cc (e))) in absurd (cc (status_is, none))
 ]
 
@@ -216,13 +216,13 @@ have_fault words work result out err run j asked = elim (asked_ends j words work
   | inr none ↦ λ is. let status_is = delivered_status run.end result ReadFault out err run.written is (λ e. absurd (cc (e))) in absurd (cc (status_is, none))
 ]
 
-pub is_complete : (j : Job) (told : List ℕ → Option (List ℕ)) (result : Status) (out err : SinkChange) → runs.IsComplete j told result out err → IsComplete j told result out err
-is_complete j told result out err (inl well) = inl (record {
+pub is_complete : (j : Job) (text_of : List ℕ → Option (List ℕ)) (result : Status) (out err : SinkChange) → runs.IsComplete j text_of result out err → IsComplete j text_of result out err
+is_complete j text_of result out err (inl well) = inl (record {
   end = well.end;
-  ends = job_ends j told well.end well.ends;
+  ends = job_ends j text_of well.end well.ends;
   verdict = well.verdict;
   same = well.same;
   out_whole = well.out_whole.whole;
   err_whole = well.err_whole.whole;
 })
-is_complete j told result out err (inr other) = inr other
+is_complete j text_of result out err (inr other) = inr other

@@ -38,26 +38,26 @@ use Rattle.baseline_app.specs.Former.{Said, SaysOfZero, SaysOfList, SaysOfOrbit,
 
 -- what is said of a verdict alone is said of each status, since nothing is said of the others
 pub said_each : (P : Status → Type 0) (status : Status) → (IsVerdictStatus status → P status) → Said (P Done) (P Declined) status
-said_each P Done says = says tt
-said_each P Declined says = says tt
-said_each P Usage says = tt
-said_each P Refused says = tt
-said_each P ReadFault says = tt
-said_each P WriteFault says = tt
-said_each P NoMemory says = tt
+said_each P Done output = output tt
+said_each P Declined output = output tt
+said_each P Usage output = tt
+said_each P Refused output = tt
+said_each P ReadFault output = tt
+said_each P WriteFault output = tt
+said_each P NoMemory output = tt
 
 -- what is said at an ending's status is said at that of the run
 said_at : (P : Status → Type 0) (end t : Ending) (status : Status) → end ≡ t → end.status ≡ status → P t.status → P status
-said_at P end t status same is says = subst P (sym (ap (λ (e : Ending). e.status) same) ∙ is) says
+said_at P end t status same is output = subst P (sym (ap (λ (e : Ending). e.status) same) ∙ is) output
 
 -- the text of that ending is what out has gained
 gained : (end t : Ending) (out : SinkChange) → end ≡ t → Appends out.old out.new end.out → Appends out.old out.new t.out
 gained end t out same printed = subst (λ (e : Ending). Appends out.old out.new e.out) same printed
 
 -- ---- commands on one file
-pub zero_said : (told : List ℕ → Option (List ℕ)) (name : List ℕ) (status : Status) (out : SinkChange) → SaysOfText zero_job told name status out → SaysOfZero told name status out
-zero_said told name status out s = elim (s.answer.verdict) [
-  | inl optimal ↦ said_at (λ (st : Status). SaysOfZero told name st out) s.end _ status optimal.end_is s.status_is (record {
+pub zero_said : (text_of : List ℕ → Option (List ℕ)) (name : List ℕ) (status : Status) (out : SinkChange) → SaysOfText zero_job text_of name status out → SaysOfZero text_of name status out
+zero_said text_of name status out s = elim (s.answer.verdict) [
+  | inl optimal ↦ said_at (λ (st : Status). SaysOfZero text_of name st out) s.end _ status optimal.end_is s.status_is (record {
     text = s.text;
     is = s.is;
     z = s.answer.z;
@@ -66,7 +66,7 @@ zero_said told name status out s = elim (s.answer.verdict) [
     best = optimal.best;
     printed = gained s.end _ out optimal.end_is s.printed;
   })
-  | inr beaten ↦ said_at (λ (st : Status). SaysOfZero told name st out) s.end _ status beaten.end_is s.status_is (record {
+  | inr beaten ↦ said_at (λ (st : Status). SaysOfZero text_of name st out) s.end _ status beaten.end_is s.status_is (record {
     text = s.text;
     is = s.is;
     z = s.answer.z;
@@ -79,8 +79,8 @@ zero_said told name status out s = elim (s.answer.verdict) [
   })
 ]
 
-pub list_said : (told : List ℕ → Option (List ℕ)) (name : List ℕ) (status : Status) (out : SinkChange) → SaysOfText list_job told name status out → SaysOfList told name status out
-list_said told name status out s = said_at (λ (st : Status). SaysOfList told name st out) s.end _ status s.answer.end_is s.status_is (record {
+pub list_said : (text_of : List ℕ → Option (List ℕ)) (name : List ℕ) (status : Status) (out : SinkChange) → SaysOfText list_job text_of name status out → SaysOfList text_of name status out
+list_said text_of name status out s = said_at (λ (st : Status). SaysOfList text_of name st out) s.end _ status s.answer.end_is s.status_is (record {
   text = s.text;
   is = s.is;
   file = s.answer.file;
@@ -88,10 +88,10 @@ list_said told name status out s = said_at (λ (st : Status). SaysOfList told na
   printed = gained s.end _ out s.answer.end_is s.printed;
 })
 
-pub orbit_said : (told : List ℕ → Option (List ℕ)) (name : List ℕ) (system sat tag : ℕ) (status : Status) (out : SinkChange) → SaysOfText (orbit_job system sat tag) told name status out
-    → SaysOfOrbit told name system sat tag status out
-orbit_said told name system sat tag status out s = elim (s.answer.found) [
-  | inl placed ↦ said_at (λ (st : Status). SaysOfOrbit told name system sat tag st out) s.end _ status placed.placed.end_is s.status_is (record {
+pub orbit_said : (text_of : List ℕ → Option (List ℕ)) (name : List ℕ) (system sat tag : ℕ) (status : Status) (out : SinkChange) → SaysOfText (orbit_job system sat tag) text_of name status out
+    → SaysOfOrbit text_of name system sat tag status out
+orbit_said text_of name system sat tag status out s = elim (s.answer.found) [
+  | inl placed ↦ said_at (λ (st : Status). SaysOfOrbit text_of name system sat tag st out) s.end _ status placed.placed.end_is s.status_is (record {
     text = s.text;
     is = s.is;
     records = s.answer.records;
@@ -108,7 +108,7 @@ orbit_said told name system sat tag status out s = elim (s.answer.found) [
     narrow = placed.placed.narrow;
     printed = gained s.end _ out placed.placed.end_is s.printed;
   })
-  | inr without ↦ said_at (λ (st : Status). SaysOfOrbit told name system sat tag st out) s.end _ status without.end_is s.status_is (record {
+  | inr without ↦ said_at (λ (st : Status). SaysOfOrbit text_of name system sat tag st out) s.end _ status without.end_is s.status_is (record {
     text = s.text;
     is = s.is;
     records = s.answer.records;
@@ -121,11 +121,11 @@ orbit_said told name system sat tag status out s = elim (s.answer.found) [
 ]
 
 -- ---- commands on a certificate
-check_verdict : (told : List ℕ → Option (List ℕ)) (name text : List ℕ) (c : Cert) (v : Verdict) (out : SinkChange) → IsTextOf told name text → IsWhole c → text ≡ spelling c
+check_verdict : (text_of : List ℕ → Option (List ℕ)) (name text : List ℕ) (c : Cert) (v : Verdict) (out : SinkChange) → IsTextOf text_of name text → IsWhole c → text ≡ spelling c
     → IsVerdictOf c.session c.ratio c.budget c.tail v → ((w : Verdict) → IsVerdictOf c.session c.ratio c.budget c.tail w → IsSameVerdict w v)
     → (v ≡ Certified → IsBestIn c.session c.tail) → (v ≡ Certified → IsBestByRatioIn c.ratio c.session c.tail) → Appends out.old out.new (verdict_text v)
-    → SaysOfCheck told name (status_of v) out
-check_verdict told name text c Certified out is whole spelled verdict only best by_ratio written = record {
+    → SaysOfCheck text_of name (status_of v) out
+check_verdict text_of name text c Certified out is whole spelled verdict only best by_ratio written = record {
   text = text;
   is = is;
   cert = c;
@@ -138,7 +138,7 @@ check_verdict told name text c Certified out is whole spelled verdict only best 
   by_ratio = by_ratio refl;
   printed = written;
 }
-check_verdict told name text c (Not cause) out is whole spelled verdict only best by_ratio written = record {
+check_verdict text_of name text c (Not cause) out is whole spelled verdict only best by_ratio written = record {
   text = text;
   is = is;
   cert = c;
@@ -151,27 +151,27 @@ check_verdict told name text c (Not cause) out is whole spelled verdict only bes
   printed = written;
 }
 
-pub check_said : (told : List ℕ → Option (List ℕ)) (name : List ℕ) (status : Status) (out : SinkChange) → SaysOfText check_job told name status out → SaysOfCheck told name status out
-check_said told name status out s =
+pub check_said : (text_of : List ℕ → Option (List ℕ)) (name : List ℕ) (status : Status) (out : SinkChange) → SaysOfText check_job text_of name status out → SaysOfCheck text_of name status out
+check_said text_of name status out s =
     let answered = s.answer in
     let ended = answered.answer in
-    said_at (λ (st : Status). SaysOfCheck told name st out) s.end _ status ended.end_is s.status_is
-    (check_verdict told name s.text answered.cert ended.verdict out s.is answered.whole answered.spelled ended.is ended.only ended.best ended.by_ratio (gained s.end _ out ended.end_is s.printed))
+    said_at (λ (st : Status). SaysOfCheck text_of name st out) s.end _ status ended.end_is s.status_is
+    (check_verdict text_of name s.text answered.cert ended.verdict out s.is answered.whole answered.spelled ended.is ended.only ended.best ended.by_ratio (gained s.end _ out ended.end_is s.printed))
 
-left_shown : (told : List ℕ → Option (List ℕ)) (name text : List ℕ) (c : Cert) (shown : Bool) (out : SinkChange) → IsTextOf told name text → IsWhole c → text ≡ spelling c
-    → has_vectors c.tail ≡ shown → Appends out.old out.new (residuals_text c) → SaysOfResiduals told name (verdict_status shown) out
-left_shown told name text c true out is whole spelled vectors written = record { text = text; is = is; cert = c; whole = whole; spelled = spelled; vectors = vectors; printed = written }
-left_shown told name text c false out is whole spelled vectors written = record { text = text; is = is; cert = c; whole = whole; spelled = spelled; vectors = vectors; printed = written }
+left_shown : (text_of : List ℕ → Option (List ℕ)) (name text : List ℕ) (c : Cert) (shown : Bool) (out : SinkChange) → IsTextOf text_of name text → IsWhole c → text ≡ spelling c
+    → has_vectors c.tail ≡ shown → Appends out.old out.new (residuals_text c) → SaysOfResiduals text_of name (verdict_status shown) out
+left_shown text_of name text c true out is whole spelled vectors written = record { text = text; is = is; cert = c; whole = whole; spelled = spelled; vectors = vectors; printed = written }
+left_shown text_of name text c false out is whole spelled vectors written = record { text = text; is = is; cert = c; whole = whole; spelled = spelled; vectors = vectors; printed = written }
 
-pub residuals_said : (told : List ℕ → Option (List ℕ)) (name : List ℕ) (status : Status) (out : SinkChange) → SaysOfText residuals_job told name status out
-    → SaysOfResiduals told name status out
-residuals_said told name status out s =
+pub residuals_said : (text_of : List ℕ → Option (List ℕ)) (name : List ℕ) (status : Status) (out : SinkChange) → SaysOfText residuals_job text_of name status out
+    → SaysOfResiduals text_of name status out
+residuals_said text_of name status out s =
     let answered = s.answer in
-    said_at (λ (st : Status). SaysOfResiduals told name st out) s.end _ status answered.answer s.status_is
-    (left_shown told name s.text answered.cert (has_vectors answered.cert.tail) out s.is answered.whole answered.spelled refl (gained s.end _ out answered.answer s.printed))
+    said_at (λ (st : Status). SaysOfResiduals text_of name st out) s.end _ status answered.answer s.status_is
+    (left_shown text_of name s.text answered.cert (has_vectors answered.cert.tail) out s.is answered.whole answered.spelled refl (gained s.end _ out answered.answer s.printed))
 
-pub migrate_said : (told : List ℕ → Option (List ℕ)) (name : List ℕ) (status : Status) (out : SinkChange) → SaysOfText migrate_job told name status out → SaysMigrated told name status out
-migrate_said told name status out s =
+pub migrate_said : (text_of : List ℕ → Option (List ℕ)) (name : List ℕ) (status : Status) (out : SinkChange) → SaysOfText migrate_job text_of name status out → SaysMigrated text_of name status out
+migrate_said text_of name status out s =
     let answered = s.answer in
     let ended = answered.answer in
     record {
@@ -187,10 +187,10 @@ migrate_said told name status out s =
       printed = gained s.end _ out ended.end_is s.printed;
     }
 
-check_track_verdict : (told : List ℕ → Option (List ℕ)) (name text : List ℕ) (c : TrackCert) (v : Verdict) (out : SinkChange) → IsTextOf told name text → IsWholeTrackCert c
+check_track_verdict : (text_of : List ℕ → Option (List ℕ)) (name text : List ℕ) (c : TrackCert) (v : Verdict) (out : SinkChange) → IsTextOf text_of name text → IsWholeTrackCert c
     → text ≡ track_spelling c → IsVerdictOn c v → ((w : Verdict) → IsVerdictOn c w → IsSameVerdict w v) → (v ≡ Certified → IsBestFor c) → (v ≡ Certified → IsBestByItsRatio c)
-    → Appends out.old out.new (verdict_text v) → SaysOfCheckTrack told name (status_of v) out
-check_track_verdict told name text c Certified out is whole spelled verdict only best by_ratio written = record {
+    → Appends out.old out.new (verdict_text v) → SaysOfCheckTrack text_of name (status_of v) out
+check_track_verdict text_of name text c Certified out is whole spelled verdict only best by_ratio written = record {
   text = text;
   is = is;
   cert = c;
@@ -202,7 +202,7 @@ check_track_verdict told name text c Certified out is whole spelled verdict only
   by_ratio = by_ratio refl;
   printed = written;
 }
-check_track_verdict told name text c (Not cause) out is whole spelled verdict only best by_ratio written = record {
+check_track_verdict text_of name text c (Not cause) out is whole spelled verdict only best by_ratio written = record {
   text = text;
   is = is;
   cert = c;
@@ -214,20 +214,20 @@ check_track_verdict told name text c (Not cause) out is whole spelled verdict on
   printed = written;
 }
 
-pub check_track_said : (told : List ℕ → Option (List ℕ)) (name : List ℕ) (status : Status) (out : SinkChange) → SaysOfText check_track_job told name status out
-    → SaysOfCheckTrack told name status out
-check_track_said told name status out s =
+pub check_track_said : (text_of : List ℕ → Option (List ℕ)) (name : List ℕ) (status : Status) (out : SinkChange) → SaysOfText check_track_job text_of name status out
+    → SaysOfCheckTrack text_of name status out
+check_track_said text_of name status out s =
     let answered = s.answer in
     let ended = answered.answer in
-    said_at (λ (st : Status). SaysOfCheckTrack told name st out) s.end _ status ended.end_is s.status_is
-    (check_track_verdict told name s.text answered.cert ended.verdict out s.is answered.whole answered.spelled ended.is ended.only ended.best ended.by_ratio (gained s.end _ out ended.end_is s.printed))
+    said_at (λ (st : Status). SaysOfCheckTrack text_of name st out) s.end _ status ended.end_is s.status_is
+    (check_track_verdict text_of name s.text answered.cert ended.verdict out s.is answered.whole answered.spelled ended.is ended.only ended.best ended.by_ratio (gained s.end _ out ended.end_is s.printed))
 
 -- ---- commands on a session
-pub arcs_said : (told : List ℕ → Option (List ℕ)) (base rover nav : List ℕ) (o : Options) (status : Status) (out : SinkChange) → SaysOfSession AnswersArcs told base rover nav o status out
-    → SaysOfArcs told base rover nav o status out
-arcs_said told base rover nav o status out s =
+pub arcs_said : (text_of : List ℕ → Option (List ℕ)) (base rover nav : List ℕ) (o : Options) (status : Status) (out : SinkChange) → SaysOfSession AnswersArcs text_of base rover nav o status out
+    → SaysOfArcs text_of base rover nav o status out
+arcs_said text_of base rover nav o status out s =
     let answered = s.answer in
-    said_at (λ (st : Status). SaysOfArcs told base rover nav o st out) s.end _ status answered.end_is s.status_is (record {
+    said_at (λ (st : Status). SaysOfArcs text_of base rover nav o st out) s.end _ status answered.end_is s.status_is (record {
       base_file = s.base_file;
       rover_file = s.rover_file;
       records = s.records;
@@ -238,10 +238,10 @@ arcs_said told base rover nav o status out s =
       printed = gained s.end _ out answered.end_is s.printed;
     })
 
-fix_outcome : (told : List ℕ → Option (List ℕ)) (base rover nav : List ℕ) (o : Options) (status : Status) (out : SinkChange)
-    (s : SaysOfSession AnswersFix told base rover nav o status out) → Appends out.old out.new (answer_text s.answer.outcome.answer) → (fixed : Bool)
-    → is_fixed s.answer.outcome.answer ≡ fixed → SaysOfFix told base rover nav o (verdict_status fixed) out
-fix_outcome told base rover nav o status out s printed true fixed =
+fix_outcome : (text_of : List ℕ → Option (List ℕ)) (base rover nav : List ℕ) (o : Options) (status : Status) (out : SinkChange)
+    (s : SaysOfSession AnswersFix text_of base rover nav o status out) → Appends out.old out.new (answer_text s.answer.outcome.answer) → (fixed : Bool)
+    → is_fixed s.answer.outcome.answer ≡ fixed → SaysOfFix text_of base rover nav o (verdict_status fixed) out
+fix_outcome text_of base rover nav o status out s printed true fixed =
     let fixed_answer : IsFixedFor s.base_file s.rover_file s.records o s.answer.outcome.answer = s.answer.holds.fixed fixed in
     record {
       outcome = s.answer.outcome;
@@ -256,7 +256,7 @@ fix_outcome told base rover nav o status out s printed true fixed =
       stands = fixed_answer.stands;
       printed = subst (λ (t : Answer). Appends out.old out.new (answer_text t)) fixed_answer.answer_is printed;
     }
-fix_outcome told base rover nav o status out s printed false none = record {
+fix_outcome text_of base rover nav o status out s printed false none = record {
   outcome = s.answer.outcome;
   have = record { base_file = s.base_file; rover_file = s.rover_file; records = s.records; are_files = s.are_files; is = s.answer.holds.is };
   none = none;
@@ -264,16 +264,16 @@ fix_outcome told base rover nav o status out s printed false none = record {
   printed = printed;
 }
 
-pub fix_said : (told : List ℕ → Option (List ℕ)) (base rover nav : List ℕ) (o : Options) (status : Status) (out : SinkChange) → SaysOfSession AnswersFix told base rover nav o status out
-    → SaysOfFix told base rover nav o status out
-fix_said told base rover nav o status out s =
-    said_at (λ (st : Status). SaysOfFix told base rover nav o st out) s.end _ status s.answer.end_is s.status_is
-    (fix_outcome told base rover nav o status out s (gained s.end _ out s.answer.end_is s.printed) (is_fixed s.answer.outcome.answer) refl)
+pub fix_said : (text_of : List ℕ → Option (List ℕ)) (base rover nav : List ℕ) (o : Options) (status : Status) (out : SinkChange) → SaysOfSession AnswersFix text_of base rover nav o status out
+    → SaysOfFix text_of base rover nav o status out
+fix_said text_of base rover nav o status out s =
+    said_at (λ (st : Status). SaysOfFix text_of base rover nav o st out) s.end _ status s.answer.end_is s.status_is
+    (fix_outcome text_of base rover nav o status out s (gained s.end _ out s.answer.end_is s.printed) (is_fixed s.answer.outcome.answer) refl)
 
-track_outcome : (told : List ℕ → Option (List ℕ)) (base rover nav : List ℕ) (o : Options) (status : Status) (out : SinkChange)
-    (s : SaysOfSession AnswersTrack told base rover nav o status out) → Appends out.old out.new (track_answer_text s.answer.outcome.answer) → (fixed : Bool)
-    → is_track_fixed s.answer.outcome.answer ≡ fixed → SaysOfTrack told base rover nav o (verdict_status fixed) out
-track_outcome told base rover nav o status out s printed true fixed =
+track_outcome : (text_of : List ℕ → Option (List ℕ)) (base rover nav : List ℕ) (o : Options) (status : Status) (out : SinkChange)
+    (s : SaysOfSession AnswersTrack text_of base rover nav o status out) → Appends out.old out.new (track_answer_text s.answer.outcome.answer) → (fixed : Bool)
+    → is_track_fixed s.answer.outcome.answer ≡ fixed → SaysOfTrack text_of base rover nav o (verdict_status fixed) out
+track_outcome text_of base rover nav o status out s printed true fixed =
     let fixed_answer : IsTrackFixedFor s.base_file s.rover_file s.records o s.answer.outcome.answer = s.answer.fixed fixed in
     record {
       outcome = s.answer.outcome;
@@ -288,7 +288,7 @@ track_outcome told base rover nav o status out s printed true fixed =
       stands = fixed_answer.stands;
       printed = subst (λ (t : TrackAnswer). Appends out.old out.new (track_answer_text t)) fixed_answer.answer_is printed;
     }
-track_outcome told base rover nav o status out s printed false none = record {
+track_outcome text_of base rover nav o status out s printed false none = record {
   outcome = s.answer.outcome;
   have = record { base_file = s.base_file; rover_file = s.rover_file; records = s.records; are_files = s.are_files; is = s.answer.is };
   none = none;
@@ -296,8 +296,8 @@ track_outcome told base rover nav o status out s printed false none = record {
   printed = printed;
 }
 
-pub track_said : (told : List ℕ → Option (List ℕ)) (base rover nav : List ℕ) (o : Options) (status : Status) (out : SinkChange) → SaysOfSession AnswersTrack told base rover nav o status out
-    → SaysOfTrack told base rover nav o status out
-track_said told base rover nav o status out s =
-    said_at (λ (st : Status). SaysOfTrack told base rover nav o st out) s.end _ status s.answer.end_is s.status_is
-    (track_outcome told base rover nav o status out s (gained s.end _ out s.answer.end_is s.printed) (is_track_fixed s.answer.outcome.answer) refl)
+pub track_said : (text_of : List ℕ → Option (List ℕ)) (base rover nav : List ℕ) (o : Options) (status : Status) (out : SinkChange) → SaysOfSession AnswersTrack text_of base rover nav o status out
+    → SaysOfTrack text_of base rover nav o status out
+track_said text_of base rover nav o status out s =
+    said_at (λ (st : Status). SaysOfTrack text_of base rover nav o st out) s.end _ status s.answer.end_is s.status_is
+    (track_outcome text_of base rover nav o status out s (gained s.end _ out s.answer.end_is s.printed) (is_track_fixed s.answer.outcome.answer) refl)

@@ -28,29 +28,29 @@ use Rattle.baseline_app.specs.Jobs.{JobEnds, SaysOfJob}
 use Rattle.baseline_app.specs.Runs.{IsRun}
 
 -- what is written of a verdict
-job_says : (job : Job) (told : List ℕ → Option (List ℕ)) (end : Ending) (out : SinkChange) → JobEnds job told end → IsVerdictStatus end.status
-    → Appends out.old out.new end.out → SaysOfJob job told end.status out
-job_says (job.Zero rows) told end out = text_says zero_job told rows end out
-job_says (job.List obs) told end out = text_says list_job told obs end out
-job_says (job.Orbit nav system sat tick) told end out = text_says (orbit_job system sat tick.0) told nav end out
-job_says (job.Check cert) told end out = text_says check_job told cert end out
-job_says (job.Residuals cert) told end out = text_says residuals_job told cert end out
-job_says (job.Migrate cert) told end out = text_says migrate_job told cert end out
-job_says (job.Fix base rover nav options) told end out = session_says AnswersFix told base rover nav options end out
-job_says (job.Track base rover nav options) told end out = session_says AnswersTrack told base rover nav options end out
-job_says (job.CheckTrack cert) told end out = text_says check_track_job told cert end out
-job_says (job.Arcs base rover nav options) told end out = session_says AnswersArcs told base rover nav options end out
-job_says (job.Sim (part.File file) seed epochs sats bands system) told end out = λ ends verdict written. sim_says file seed epochs sats bands system end out ends written
-job_says (job.Sim part.Run seed epochs sats bands system) told end out = λ ends verdict written. sim_run_says seed epochs sats bands system end out ends written
+job_says : (job : Job) (text_of : List ℕ → Option (List ℕ)) (end : Ending) (out : SinkChange) → JobEnds job text_of end → IsVerdictStatus end.status
+    → Appends out.old out.new end.out → SaysOfJob job text_of end.status out
+job_says (job.Zero rows) text_of end out = text_says zero_job text_of rows end out
+job_says (job.List obs) text_of end out = text_says list_job text_of obs end out
+job_says (job.Orbit nav system sat tick) text_of end out = text_says (orbit_job system sat tick.0) text_of nav end out
+job_says (job.Check cert) text_of end out = text_says check_job text_of cert end out
+job_says (job.Residuals cert) text_of end out = text_says residuals_job text_of cert end out
+job_says (job.Migrate cert) text_of end out = text_says migrate_job text_of cert end out
+job_says (job.Fix base rover nav options) text_of end out = session_says AnswersFix text_of base rover nav options end out
+job_says (job.Track base rover nav options) text_of end out = session_says AnswersTrack text_of base rover nav options end out
+job_says (job.CheckTrack cert) text_of end out = text_says check_track_job text_of cert end out
+job_says (job.Arcs base rover nav options) text_of end out = session_says AnswersArcs text_of base rover nav options end out
+job_says (job.Sim (part.File file) seed epochs sats bands system) text_of end out = λ ends verdict written. sim_says file seed epochs sats bands system end out ends written
+job_says (job.Sim part.Run seed epochs sats bands system) text_of end out = λ ends verdict written. sim_run_says seed epochs sats bands system end out ends written
 
 -- a run with a verdict has an ending of the job, whose text for out was written
 pub run_says : (words : List (List ℕ)) (work : FileWork) (job : Job) (result : Status) (out err : SinkChange)
-    → IsRun words work result out err → IsJob words job → IsVerdictStatus result → SaysOfJob job work.told result out
+    → IsRun words work result out err → IsJob words job → IsVerdictStatus result → SaysOfJob job work.text_of result out
 run_says words work job result out err run asked verdict = elim (run.written) [
   | inl written ↦ elim (run.answer) [
     | inl answer ↦
-        let ends = subst (λ (j : Job). JobEnds j work.told run.end) (one_job words answer.job job answer.asked asked) answer.ends.ends_so in
-        subst (λ (s : Status). SaysOfJob job work.told s out) (sym written.same) (job_says job work.told run.end out ends (subst IsVerdictStatus written.same verdict) written.out_whole.whole)
+        let ends = subst (λ (j : Job). JobEnds j work.text_of run.end) (one_job words answer.job job answer.asked asked) answer.ends.ends_so in
+        subst (λ (s : Status). SaysOfJob job work.text_of s out) (sym written.same) (job_says job work.text_of run.end out ends (subst IsVerdictStatus written.same verdict) written.out_whole.whole)
     | inr (inl usage) ↦ absurd (usage.none job asked)
     | inr (inr none) ↦ absurd (subst IsVerdictStatus (written.same ∙ ap (λ (e : Ending). e.status) none) verdict)
   ]

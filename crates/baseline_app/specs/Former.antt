@@ -102,18 +102,18 @@ Said done declined Declined = declined
 Said done declined _ = Unit {0}
 
 -- ---- `zero`
-pub record SaysOptimal (told : List ℕ → Option (List ℕ)) (name : List ℕ) (out : SinkChange) : Type 0 where
+pub record SaysOptimal (text_of : List ℕ → Option (List ℕ)) (name : List ℕ) (out : SinkChange) : Type 0 where
   pub text : List ℕ
-  pub is : IsTextOf told name text
+  pub is : IsTextOf text_of name text
   pub z : ℤ
   pub ds : List ℤ
   pub are : AreRows (lines_of text) z ds
   pub best : IsBest ds z
   pub printed : Appends out.old out.new (optimal_line z (sum_at ds z))
 
-pub record SaysBeaten (told : List ℕ → Option (List ℕ)) (name : List ℕ) (out : SinkChange) : Type 0 where
+pub record SaysBeaten (text_of : List ℕ → Option (List ℕ)) (name : List ℕ) (out : SinkChange) : Type 0 where
   pub text : List ℕ
-  pub is : IsTextOf told name text
+  pub is : IsTextOf text_of name text
   pub z : ℤ
   pub ds : List ℤ
   pub are : AreRows (lines_of text) z ds
@@ -123,23 +123,23 @@ pub record SaysBeaten (told : List ℕ → Option (List ℕ)) (name : List ℕ) 
   pub printed : Appends out.old out.new (beaten_line z (sum_at ds z) by (sum_at ds by))
 
 abbrev pub SaysOfZero : (List ℕ → Option (List ℕ)) → List ℕ → Status → SinkChange → Type 0
-SaysOfZero told name status out = Said (SaysOptimal told name out) (SaysBeaten told name out) status
+SaysOfZero text_of name status out = Said (SaysOptimal text_of name out) (SaysBeaten text_of name out) status
 
 -- ---- `list`, which is never declined
-pub record SaysListed (told : List ℕ → Option (List ℕ)) (name : List ℕ) (out : SinkChange) : Type 0 where
+pub record SaysListed (text_of : List ℕ → Option (List ℕ)) (name : List ℕ) (out : SinkChange) : Type 0 where
   pub text : List ℕ
-  pub is : IsTextOf told name text
+  pub is : IsTextOf text_of name text
   pub file : ObsFile
   pub is_file : IsObservation Gps (lines_of text) file
   pub printed : Appends out.old out.new (list_text file)
 
 abbrev pub SaysOfList : (List ℕ → Option (List ℕ)) → List ℕ → Status → SinkChange → Type 0
-SaysOfList told name status out = Said (SaysListed told name out) ⊥ status
+SaysOfList text_of name status out = Said (SaysListed text_of name out) ⊥ status
 
 -- ---- `orbit`
-pub record SaysPlaced (told : List ℕ → Option (List ℕ)) (name : List ℕ) (system sat tag : ℕ) (out : SinkChange) : Type 0 where
+pub record SaysPlaced (text_of : List ℕ → Option (List ℕ)) (name : List ℕ) (system sat tag : ℕ) (out : SinkChange) : Type 0 where
   pub text : List ℕ
-  pub is : IsTextOf told name text
+  pub is : IsTextOf text_of name text
   pub records : List Raw
   pub is_file : IsNavFile (system_of system) (lines_of text) records
   pub fit : List Eph
@@ -154,9 +154,9 @@ pub record SaysPlaced (told : List ℕ → Option (List ℕ)) (name : List ℕ) 
   pub narrow : AreNarrow numbers
   pub printed : Appends out.old out.new (orbit_lines numbers)
 
-pub record SaysNoRecord (told : List ℕ → Option (List ℕ)) (name : List ℕ) (system sat tag : ℕ) (out : SinkChange) : Type 0 where
+pub record SaysNoRecord (text_of : List ℕ → Option (List ℕ)) (name : List ℕ) (system sat tag : ℕ) (out : SinkChange) : Type 0 where
   pub text : List ℕ
-  pub is : IsTextOf told name text
+  pub is : IsTextOf text_of name text
   pub records : List Raw
   pub is_file : IsNavFile (system_of system) (lines_of text) records
   pub fit : List Eph
@@ -165,12 +165,12 @@ pub record SaysNoRecord (told : List ℕ → Option (List ℕ)) (name : List ℕ
   pub printed : Appends out.old out.new no_record_line
 
 abbrev pub SaysOfOrbit : (List ℕ → Option (List ℕ)) → List ℕ → ℕ → ℕ → ℕ → Status → SinkChange → Type 0
-SaysOfOrbit told name system sat tag status out = Said (SaysPlaced told name system sat tag out) (SaysNoRecord told name system sat tag out) status
+SaysOfOrbit text_of name system sat tag status out = Said (SaysPlaced text_of name system sat tag out) (SaysNoRecord text_of name system sat tag out) status
 
 -- ---- `check`
-pub record SaysCertified (told : List ℕ → Option (List ℕ)) (name : List ℕ) (out : SinkChange) : Type 0 where
+pub record SaysCertified (text_of : List ℕ → Option (List ℕ)) (name : List ℕ) (out : SinkChange) : Type 0 where
   pub text : List ℕ
-  pub is : IsTextOf told name text
+  pub is : IsTextOf text_of name text
   pub cert : Cert
   pub whole : IsWhole cert
   pub spelled : text ≡ spelling cert
@@ -181,9 +181,9 @@ pub record SaysCertified (told : List ℕ → Option (List ℕ)) (name : List �
   pub by_ratio : IsBestByRatioIn cert.ratio cert.session cert.tail
   pub printed : Appends out.old out.new (codes "certified\n")
 
-pub record SaysNotCertified (told : List ℕ → Option (List ℕ)) (name : List ℕ) (out : SinkChange) : Type 0 where
+pub record SaysNotCertified (text_of : List ℕ → Option (List ℕ)) (name : List ℕ) (out : SinkChange) : Type 0 where
   pub text : List ℕ
-  pub is : IsTextOf told name text
+  pub is : IsTextOf text_of name text
   pub cert : Cert
   pub whole : IsWhole cert
   pub spelled : text ≡ spelling cert
@@ -194,12 +194,12 @@ pub record SaysNotCertified (told : List ℕ → Option (List ℕ)) (name : List
   pub printed : Appends out.old out.new (verdict_text (Not cause))
 
 abbrev pub SaysOfCheck : (List ℕ → Option (List ℕ)) → List ℕ → Status → SinkChange → Type 0
-SaysOfCheck told name status out = Said (SaysCertified told name out) (SaysNotCertified told name out) status
+SaysOfCheck text_of name status out = Said (SaysCertified text_of name out) (SaysNotCertified text_of name out) status
 
 -- ---- `residuals`
-pub record SaysLeft (told : List ℕ → Option (List ℕ)) (name : List ℕ) (shown : Bool) (out : SinkChange) : Type 0 where
+pub record SaysLeft (text_of : List ℕ → Option (List ℕ)) (name : List ℕ) (shown : Bool) (out : SinkChange) : Type 0 where
   pub text : List ℕ
-  pub is : IsTextOf told name text
+  pub is : IsTextOf text_of name text
   pub cert : Cert
   pub whole : IsWhole cert
   pub spelled : text ≡ spelling cert
@@ -207,12 +207,12 @@ pub record SaysLeft (told : List ℕ → Option (List ℕ)) (name : List ℕ) (s
   pub printed : Appends out.old out.new (residuals_text cert)
 
 abbrev pub SaysOfResiduals : (List ℕ → Option (List ℕ)) → List ℕ → Status → SinkChange → Type 0
-SaysOfResiduals told name status out = Said (SaysLeft told name true out) (SaysLeft told name false out) status
+SaysOfResiduals text_of name status out = Said (SaysLeft text_of name true out) (SaysLeft text_of name false out) status
 
 -- ---- `migrate`
-pub record SaysMigrated (told : List ℕ → Option (List ℕ)) (name : List ℕ) (status : Status) (out : SinkChange) : Type 0 where
+pub record SaysMigrated (text_of : List ℕ → Option (List ℕ)) (name : List ℕ) (status : Status) (out : SinkChange) : Type 0 where
   pub text : List ℕ
-  pub is : IsTextOf told name text
+  pub is : IsTextOf text_of name text
   pub old : OldCert
   pub old_whole : IsWholeOld old
   pub spelled : text ≡ old_spelling old
@@ -223,33 +223,33 @@ pub record SaysMigrated (told : List ℕ → Option (List ℕ)) (name : List ℕ
   pub printed : Appends out.old out.new (spelling cert)
 
 abbrev pub SaysOfMigrate : (List ℕ → Option (List ℕ)) → List ℕ → Status → SinkChange → Type 0
-SaysOfMigrate told name status out = Said (SaysMigrated told name Done out) (SaysMigrated told name Declined out) status
+SaysOfMigrate text_of name status out = Said (SaysMigrated text_of name Done out) (SaysMigrated text_of name Declined out) status
 
 -- ---- `arcs`, which is never declined
-pub record SaysArcs (told : List ℕ → Option (List ℕ)) (base rover nav : List ℕ) (o : Options) (out : SinkChange) : Type 0 where
+pub record SaysArcs (text_of : List ℕ → Option (List ℕ)) (base rover nav : List ℕ) (o : Options) (out : SinkChange) : Type 0 where
   pub base_file : ObsFile
   pub rover_file : ObsFile
   pub records : Records
-  pub are_files : AreFilesOf (system_of o.system) told base rover nav base_file rover_file records
+  pub are_files : AreFilesOf (system_of o.system) text_of base rover nav base_file rover_file records
   pub kept : List Arc
   pub short : ℕ
   pub are : AreArcsOf base_file rover_file records o kept short
   pub printed : Appends out.old out.new (arcs_text o.system kept short)
 
 abbrev pub SaysOfArcs : (List ℕ → Option (List ℕ)) → List ℕ → List ℕ → List ℕ → Options → Status → SinkChange → Type 0
-SaysOfArcs told base rover nav o status out = Said (SaysArcs told base rover nav o out) ⊥ status
+SaysOfArcs text_of base rover nav o status out = Said (SaysArcs text_of base rover nav o out) ⊥ status
 
 -- ---- `fix`
-pub record HaveOutcome (told : List ℕ → Option (List ℕ)) (base rover nav : List ℕ) (o : Options) (outcome : Outcome) : Type 0 where
+pub record HaveOutcome (text_of : List ℕ → Option (List ℕ)) (base rover nav : List ℕ) (o : Options) (outcome : Outcome) : Type 0 where
   pub base_file : ObsFile
   pub rover_file : ObsFile
   pub records : Records
-  pub are_files : AreFilesOf (system_of o.system) told base rover nav base_file rover_file records
+  pub are_files : AreFilesOf (system_of o.system) text_of base rover nav base_file rover_file records
   pub is : IsOutcome base_file rover_file records o outcome
 
-pub record SaysFixed (told : List ℕ → Option (List ℕ)) (base rover nav : List ℕ) (o : Options) (out : SinkChange) : Type 0 where
+pub record SaysFixed (text_of : List ℕ → Option (List ℕ)) (base rover nav : List ℕ) (o : Options) (out : SinkChange) : Type 0 where
   pub outcome : Outcome
-  pub have : HaveOutcome told base rover nav o outcome
+  pub have : HaveOutcome text_of base rover nav o outcome
   pub cert : Cert
   pub answer_is : outcome.answer ≡ answer.Full cert
   pub whole : IsWhole cert
@@ -260,36 +260,36 @@ pub record SaysFixed (told : List ℕ → Option (List ℕ)) (base rover nav : L
   pub stands : StandsForIts have.base_file have.rover_file have.records o cert
   pub printed : Appends out.old out.new (spelling cert)
 
-pub record SaysDeclined (told : List ℕ → Option (List ℕ)) (base rover nav : List ℕ) (o : Options) (out : SinkChange) : Type 0 where
+pub record SaysDeclined (text_of : List ℕ → Option (List ℕ)) (base rover nav : List ℕ) (o : Options) (out : SinkChange) : Type 0 where
   pub outcome : Outcome
-  pub have : HaveOutcome told base rover nav o outcome
+  pub have : HaveOutcome text_of base rover nav o outcome
   pub none : is_fixed outcome.answer ≡ false
   pub whole : IsWholeAnswer outcome.answer
   pub printed : Appends out.old out.new (answer_text outcome.answer)
 
 abbrev pub SaysOfFix : (List ℕ → Option (List ℕ)) → List ℕ → List ℕ → List ℕ → Options → Status → SinkChange → Type 0
-SaysOfFix told base rover nav o status out = Said (SaysFixed told base rover nav o out) (SaysDeclined told base rover nav o out) status
+SaysOfFix text_of base rover nav o status out = Said (SaysFixed text_of base rover nav o out) (SaysDeclined text_of base rover nav o out) status
 
 -- ---- `sim run`: what it says now, and that a fix with its move is strictly best
 pub record SaysMatchOfBest (seed epochs sats bands system : ℕ) (fixed : Bool) (out : SinkChange) : Type 0 where
-  pub says : SaysMatch seed epochs sats bands system fixed out
-  pub best : IsBestAnswer says.outcome.answer
+  pub output : SaysMatch seed epochs sats bands system fixed out
+  pub best : IsBestAnswer output.outcome.answer
 
 abbrev pub SaysOfSimRun : ℕ → ℕ → ℕ → ℕ → ℕ → Status → SinkChange → Type 0
 SaysOfSimRun seed epochs sats bands system status out =
     Said (SaysMatchOfBest seed epochs sats bands system true out) (SaysMatchOfBest seed epochs sats bands system false out) status
 
 -- ---- `track`
-pub record HaveTrackOutcome (told : List ℕ → Option (List ℕ)) (base rover nav : List ℕ) (o : Options) (outcome : TrackOutcome) : Type 0 where
+pub record HaveTrackOutcome (text_of : List ℕ → Option (List ℕ)) (base rover nav : List ℕ) (o : Options) (outcome : TrackOutcome) : Type 0 where
   pub base_file : ObsFile
   pub rover_file : ObsFile
   pub records : Records
-  pub are_files : AreFilesOf (system_of o.system) told base rover nav base_file rover_file records
+  pub are_files : AreFilesOf (system_of o.system) text_of base rover nav base_file rover_file records
   pub is : IsTrackOutcome base_file rover_file records o outcome
 
-pub record SaysTrackFixed (told : List ℕ → Option (List ℕ)) (base rover nav : List ℕ) (o : Options) (out : SinkChange) : Type 0 where
+pub record SaysTrackFixed (text_of : List ℕ → Option (List ℕ)) (base rover nav : List ℕ) (o : Options) (out : SinkChange) : Type 0 where
   pub outcome : TrackOutcome
-  pub have : HaveTrackOutcome told base rover nav o outcome
+  pub have : HaveTrackOutcome text_of base rover nav o outcome
   pub cert : TrackCert
   pub answer_is : outcome.answer ≡ track_answer.Full cert
   pub whole : IsWholeTrackCert cert
@@ -300,20 +300,20 @@ pub record SaysTrackFixed (told : List ℕ → Option (List ℕ)) (base rover na
   pub stands : TrackStandsForIts have.base_file have.rover_file have.records o cert
   pub printed : Appends out.old out.new (track_spelling cert)
 
-pub record SaysTrackDeclined (told : List ℕ → Option (List ℕ)) (base rover nav : List ℕ) (o : Options) (out : SinkChange) : Type 0 where
+pub record SaysTrackDeclined (text_of : List ℕ → Option (List ℕ)) (base rover nav : List ℕ) (o : Options) (out : SinkChange) : Type 0 where
   pub outcome : TrackOutcome
-  pub have : HaveTrackOutcome told base rover nav o outcome
+  pub have : HaveTrackOutcome text_of base rover nav o outcome
   pub none : is_track_fixed outcome.answer ≡ false
   pub whole : IsWholeTrackAnswer outcome.answer
   pub printed : Appends out.old out.new (track_answer_text outcome.answer)
 
 abbrev pub SaysOfTrack : (List ℕ → Option (List ℕ)) → List ℕ → List ℕ → List ℕ → Options → Status → SinkChange → Type 0
-SaysOfTrack told base rover nav o status out = Said (SaysTrackFixed told base rover nav o out) (SaysTrackDeclined told base rover nav o out) status
+SaysOfTrack text_of base rover nav o status out = Said (SaysTrackFixed text_of base rover nav o out) (SaysTrackDeclined text_of base rover nav o out) status
 
 -- ---- `check-track`
-pub record SaysTrackCertified (told : List ℕ → Option (List ℕ)) (name : List ℕ) (out : SinkChange) : Type 0 where
+pub record SaysTrackCertified (text_of : List ℕ → Option (List ℕ)) (name : List ℕ) (out : SinkChange) : Type 0 where
   pub text : List ℕ
-  pub is : IsTextOf told name text
+  pub is : IsTextOf text_of name text
   pub cert : TrackCert
   pub whole : IsWholeTrackCert cert
   pub spelled : text ≡ track_spelling cert
@@ -323,9 +323,9 @@ pub record SaysTrackCertified (told : List ℕ → Option (List ℕ)) (name : Li
   pub by_ratio : IsBestByItsRatio cert
   pub printed : Appends out.old out.new (codes "certified\n")
 
-pub record SaysTrackNotCertified (told : List ℕ → Option (List ℕ)) (name : List ℕ) (out : SinkChange) : Type 0 where
+pub record SaysTrackNotCertified (text_of : List ℕ → Option (List ℕ)) (name : List ℕ) (out : SinkChange) : Type 0 where
   pub text : List ℕ
-  pub is : IsTextOf told name text
+  pub is : IsTextOf text_of name text
   pub cert : TrackCert
   pub whole : IsWholeTrackCert cert
   pub spelled : text ≡ track_spelling cert
@@ -335,7 +335,7 @@ pub record SaysTrackNotCertified (told : List ℕ → Option (List ℕ)) (name :
   pub printed : Appends out.old out.new (verdict_text (Not cause))
 
 abbrev pub SaysOfCheckTrack : (List ℕ → Option (List ℕ)) → List ℕ → Status → SinkChange → Type 0
-SaysOfCheckTrack told name status out = Said (SaysTrackCertified told name out) (SaysTrackNotCertified told name out) status
+SaysOfCheckTrack text_of name status out = Said (SaysTrackCertified text_of name out) (SaysTrackNotCertified text_of name out) status
 
 -- ---- what each job ends with
 -- a text that is no certificate is refused at the first place at which the rules fail; none begins with its lines up to that one
@@ -375,102 +375,102 @@ PartEnds (part.File file) seed epochs sats bands system end = SimEnds file seed 
 PartEnds part.Run seed epochs sats bands system end = SimRunEnds seed epochs sats bands system end
 
 abbrev pub JobEnds : Job → (List ℕ → Option (List ℕ)) → Ending → Type 0
-JobEnds (job.Zero rows) told end = EndsByFile told rows (FormEnds rows_of IsZeroFile EndsByRows rows) end
-JobEnds (job.List obs) told end = EndsByFile told obs (FormEnds (any_of Gps) (HasObservation Gps) EndsByObs obs) end
-JobEnds (job.Orbit nav system sat tick) told end = EndsByFile told nav (FormEnds (nav_of (system_of system)) (HasNavFile (system_of system)) (EndsByRecords system sat tick.0) nav) end
-JobEnds (job.Check cert) told end = EndsByFile told cert (CertEnds reading_of IsCertificate (AnswersCert CheckEnd) cert) end
-JobEnds (job.Residuals cert) told end = EndsByFile told cert (CertEnds reading_of IsCertificate (AnswersCert ResidualsEnd) cert) end
-JobEnds (job.Migrate cert) told end = EndsByFile told cert (CertEnds (reading_as One) IsOldCertificate AnswersOld cert) end
-JobEnds (job.Fix base rover nav o) told end = EndsBySession (system_of o.system) told base rover nav (λ b r n e. EndsWithOutcome b r n o e ⊎ IsPairRefused b r o e) end
-JobEnds (job.Track base rover nav o) told end = EndsBySession (system_of o.system) told base rover nav (λ b r n e. EndsWithTrack b r n o e ⊎ IsPairRefused b r o e) end
-JobEnds (job.CheckTrack cert) told end = EndsByFile told cert (CertEnds track_reading IsTrackCertificate AnswersTrackCert cert) end
-JobEnds (job.Arcs base rover nav o) told end = EndsBySession (system_of o.system) told base rover nav (λ b r n e. AnswersArcs o b r n e ⊎ IsPairRefused b r o e) end
-JobEnds (job.Sim part seed epochs sats bands system) told end = PartEnds part seed epochs sats bands system end
+JobEnds (job.Zero rows) text_of end = EndsByFile text_of rows (FormEnds rows_of IsZeroFile EndsByRows rows) end
+JobEnds (job.List obs) text_of end = EndsByFile text_of obs (FormEnds (any_of Gps) (HasObservation Gps) EndsByObs obs) end
+JobEnds (job.Orbit nav system sat tick) text_of end = EndsByFile text_of nav (FormEnds (nav_of (system_of system)) (HasNavFile (system_of system)) (EndsByRecords system sat tick.0) nav) end
+JobEnds (job.Check cert) text_of end = EndsByFile text_of cert (CertEnds reading_of IsCertificate (AnswersCert CheckEnd) cert) end
+JobEnds (job.Residuals cert) text_of end = EndsByFile text_of cert (CertEnds reading_of IsCertificate (AnswersCert ResidualsEnd) cert) end
+JobEnds (job.Migrate cert) text_of end = EndsByFile text_of cert (CertEnds (reading_as One) IsOldCertificate AnswersOld cert) end
+JobEnds (job.Fix base rover nav o) text_of end = EndsBySession (system_of o.system) text_of base rover nav (λ b r n e. EndsWithOutcome b r n o e ⊎ IsPairRefused b r o e) end
+JobEnds (job.Track base rover nav o) text_of end = EndsBySession (system_of o.system) text_of base rover nav (λ b r n e. EndsWithTrack b r n o e ⊎ IsPairRefused b r o e) end
+JobEnds (job.CheckTrack cert) text_of end = EndsByFile text_of cert (CertEnds track_reading IsTrackCertificate AnswersTrackCert cert) end
+JobEnds (job.Arcs base rover nav o) text_of end = EndsBySession (system_of o.system) text_of base rover nav (λ b r n e. AnswersArcs o b r n e ⊎ IsPairRefused b r o e) end
+JobEnds (job.Sim part seed epochs sats bands system) text_of end = PartEnds part seed epochs sats bands system end
 
 -- ---- which files are admitted
-pub record IsCertAdmitted (IsFile : List ℕ → Type 0) (told : List ℕ → Option (List ℕ)) (name : List ℕ) : Type 0 where
+pub record IsCertAdmitted (IsFile : List ℕ → Type 0) (text_of : List ℕ → Option (List ℕ)) (name : List ℕ) : Type 0 where
   pub text : List ℕ
-  pub told_is : told name ≡ Some text
+  pub told_is : text_of name ≡ Some text
   pub fits : length text ≤ 67108864
   pub is : IsFile text
 
 abbrev pub IsFormerReadable : Job → (List ℕ → Option (List ℕ)) → Type 0
-IsFormerReadable (job.Zero rows) told = IsAdmitted told rows IsZeroFile
-IsFormerReadable (job.List obs) told = IsAdmitted told obs (HasObservation Gps)
-IsFormerReadable (job.Orbit nav system sat tick) told = IsAdmitted told nav (HasNavFile (system_of system))
-IsFormerReadable (job.Check cert) told = IsCertAdmitted IsCertificate told cert
-IsFormerReadable (job.Residuals cert) told = IsCertAdmitted IsCertificate told cert
-IsFormerReadable (job.Migrate cert) told = IsCertAdmitted IsOldCertificate told cert
-IsFormerReadable (job.Fix base rover nav options) told = AreAdmitted told base rover nav options
-IsFormerReadable (job.Track base rover nav options) told = AreAdmitted told base rover nav options
-IsFormerReadable (job.CheckTrack cert) told = IsCertAdmitted IsTrackCertificate told cert
-IsFormerReadable (job.Arcs base rover nav options) told = AreAdmitted told base rover nav options
-IsFormerReadable (job.Sim part seed epochs sats bands system) told = Unit {0}
+IsFormerReadable (job.Zero rows) text_of = IsAdmitted text_of rows IsZeroFile
+IsFormerReadable (job.List obs) text_of = IsAdmitted text_of obs (HasObservation Gps)
+IsFormerReadable (job.Orbit nav system sat tick) text_of = IsAdmitted text_of nav (HasNavFile (system_of system))
+IsFormerReadable (job.Check cert) text_of = IsCertAdmitted IsCertificate text_of cert
+IsFormerReadable (job.Residuals cert) text_of = IsCertAdmitted IsCertificate text_of cert
+IsFormerReadable (job.Migrate cert) text_of = IsCertAdmitted IsOldCertificate text_of cert
+IsFormerReadable (job.Fix base rover nav options) text_of = AreAdmitted text_of base rover nav options
+IsFormerReadable (job.Track base rover nav options) text_of = AreAdmitted text_of base rover nav options
+IsFormerReadable (job.CheckTrack cert) text_of = IsCertAdmitted IsTrackCertificate text_of cert
+IsFormerReadable (job.Arcs base rover nav options) text_of = AreAdmitted text_of base rover nav options
+IsFormerReadable (job.Sim part seed epochs sats bands system) text_of = Unit {0}
 
 -- ---- a run
-pub record AnswersJob (words : List (List ℕ)) (told : List ℕ → Option (List ℕ)) (end : Ending) : Type 0 where
+pub record AnswersJob (words : List (List ℕ)) (text_of : List ℕ → Option (List ℕ)) (end : Ending) : Type 0 where
   pub job : Job
   pub asked : IsJob words job
-  pub ends : JobEnds job told end
+  pub ends : JobEnds job text_of end
 
 abbrev pub IsAnswer : List (List ℕ) → (List ℕ → Option (List ℕ)) → Ending → Type 0
-IsAnswer words told end = AnswersJob words told end ⊎ (AnswersUsage words end ⊎ (end ≡ ending NoMemory [] no_memory_line))
+IsAnswer words text_of end = AnswersJob words text_of end ⊎ (AnswersUsage words end ⊎ (end ≡ ending NoMemory [] no_memory_line))
 
-pub record IsRun (words : List (List ℕ)) (told : List ℕ → Option (List ℕ)) (result : Status) (out err : SinkChange) : Type 0 where
+pub record IsRun (words : List (List ℕ)) (text_of : List ℕ → Option (List ℕ)) (result : Status) (out err : SinkChange) : Type 0 where
   pub end : Ending
-  pub answer : IsAnswer words told end
+  pub answer : IsAnswer words text_of end
   pub written : IsDelivered end result out err
 
-pub record EndsWell (job : Job) (told : List ℕ → Option (List ℕ)) (result : Status) (out err : SinkChange) : Type 0 where
+pub record EndsWell (job : Job) (text_of : List ℕ → Option (List ℕ)) (result : Status) (out err : SinkChange) : Type 0 where
   pub end : Ending
-  pub ends : JobEnds job told end
+  pub ends : JobEnds job text_of end
   pub verdict : IsVerdictStatus result
   pub same : result ≡ end.status
   pub out_whole : Appends out.old out.new end.out
   pub err_whole : Appends err.old err.new end.err
 
 abbrev pub IsComplete : Job → (List ℕ → Option (List ℕ)) → Status → SinkChange → SinkChange → Type 0
-IsComplete job told result out err = EndsWell job told result out err ⊎ ((result ≡ NoMemory) ⊎ ((result ≡ WriteFault) × (Rose out.before out.now ⊎ Rose err.before err.now)))
+IsComplete job text_of result out err = EndsWell job text_of result out err ⊎ ((result ≡ NoMemory) ⊎ ((result ≡ WriteFault) × (Rose out.before out.now ⊎ Rose err.before err.now)))
 
 -- all names are sure, or no count of faults rose
 abbrev pub IsSure : FileWork → List (List ℕ) → Type 0
 IsSure work names = All work.sure names ⊎ (Rose work.faults work.faults_now → ⊥)
 
 -- a fault names this file, and the name isn't one that can't fail
-pub record IsTold (sure : List ℕ → Type 0) (tells : List ℕ → Type 0) (name : List ℕ) : Type 0 where
-  pub line : tells (read_fault_line name)
+pub record IsTold (sure : List ℕ → Type 0) (reports : List ℕ → Type 0) (name : List ℕ) : Type 0 where
+  pub line : reports (read_fault_line name)
   pub unsure : sure name → ⊥
 
 -- A read fault names one of these files, and none that can't fail.
 abbrev pub HaveFault : (List ℕ → Type 0) → List (List ℕ) → Status → (List ℕ → Type 0) → Type 0
-HaveFault sure names status tells = status ≡ ReadFault → Any (IsTold sure tells) names
+HaveFault sure names status reports = status ≡ ReadFault → Any (IsTold sure reports) names
 
 -- ---- the clauses
 -- what `run` says now
 pub record SaysNow (words : List (List ℕ)) (work : FileWork) (result : Status) (out err : SinkChange) : Type 0 where
   pub run : runs.IsRun words work result out err
   pub files : (job : Job) → IsJob words job → runs.UsesFiles work (file_words job) result
-  pub says : (job : Job) → IsJob words job → IsVerdictStatus result → SaysOfJob job work.told result out
-  pub complete : (job : Job) → IsJob words job → IsReadable job work.told → IsSure work (file_words job) → runs.IsComplete job work.told result out err
+  pub output : (job : Job) → IsJob words job → IsVerdictStatus result → SaysOfJob job work.text_of result out
+  pub complete : (job : Job) → IsJob words job → IsReadable job work.text_of → IsSure work (file_words job) → runs.IsComplete job work.text_of result out err
 
 -- what it said
 pub record SaidBefore (words : List (List ℕ)) (work : FileWork) (result : Status) (out err : SinkChange) : Type 0 where
-  pub run : IsRun words work.told result out err
-  pub refused : (job : Job) → IsJob words job → HaveRefused work.told work.left (file_words job) result (GainsUnlessFault err)
+  pub run : IsRun words work.text_of result out err
+  pub refused : (job : Job) → IsJob words job → HaveRefused work.text_of work.left (file_words job) result (GainsUnlessFault err)
   pub opened : (job : Job) → IsJob words job → OpensFirst (file_words job) work.openings work.left.openings
   pub sure : (job : Job) → IsJob words job → All work.sure (file_words job) → result ≢ ReadFault
   pub named : (job : Job) → IsJob words job → HaveFault work.sure (file_words job) result (GainsUnlessFault err)
-  pub zero : (rows : List ℕ) → IsJob words (job.Zero rows) → SaysOfZero work.told rows result out
-  pub list : (obs : List ℕ) → IsJob words (job.List obs) → SaysOfList work.told obs result out
-  pub orbit : (nav : List ℕ) (system sat : ℕ) (tick : Tick) → IsJob words (job.Orbit nav system sat tick) → SaysOfOrbit work.told nav system sat tick.0 result out
+  pub zero : (rows : List ℕ) → IsJob words (job.Zero rows) → SaysOfZero work.text_of rows result out
+  pub list : (obs : List ℕ) → IsJob words (job.List obs) → SaysOfList work.text_of obs result out
+  pub orbit : (nav : List ℕ) (system sat : ℕ) (tick : Tick) → IsJob words (job.Orbit nav system sat tick) → SaysOfOrbit work.text_of nav system sat tick.0 result out
   pub sim : (file : File) (seed epochs sats bands system : ℕ) → IsJob words (job.Sim (part.File file) seed epochs sats bands system)
       → SaysOfSim file seed epochs sats bands system result out
   pub sim_run : (seed epochs sats bands system : ℕ) → IsJob words (job.Sim part.Run seed epochs sats bands system) → SaysOfSimRun seed epochs sats bands system result out
-  pub check : (cert : List ℕ) → IsJob words (job.Check cert) → SaysOfCheck work.told cert result out
-  pub residuals : (cert : List ℕ) → IsJob words (job.Residuals cert) → SaysOfResiduals work.told cert result out
-  pub migrate : (cert : List ℕ) → IsJob words (job.Migrate cert) → SaysOfMigrate work.told cert result out
-  pub arcs : (base rover nav : List ℕ) (options : Options) → IsJob words (job.Arcs base rover nav options) → SaysOfArcs work.told base rover nav options result out
-  pub fix : (base rover nav : List ℕ) (options : Options) → IsJob words (job.Fix base rover nav options) → SaysOfFix work.told base rover nav options result out
-  pub track : (base rover nav : List ℕ) (options : Options) → IsJob words (job.Track base rover nav options) → SaysOfTrack work.told base rover nav options result out
-  pub check_track : (cert : List ℕ) → IsJob words (job.CheckTrack cert) → SaysOfCheckTrack work.told cert result out
-  pub complete : (job : Job) → IsJob words job → IsFormerReadable job work.told → IsSure work (file_words job) → IsComplete job work.told result out err
+  pub check : (cert : List ℕ) → IsJob words (job.Check cert) → SaysOfCheck work.text_of cert result out
+  pub residuals : (cert : List ℕ) → IsJob words (job.Residuals cert) → SaysOfResiduals work.text_of cert result out
+  pub migrate : (cert : List ℕ) → IsJob words (job.Migrate cert) → SaysOfMigrate work.text_of cert result out
+  pub arcs : (base rover nav : List ℕ) (options : Options) → IsJob words (job.Arcs base rover nav options) → SaysOfArcs work.text_of base rover nav options result out
+  pub fix : (base rover nav : List ℕ) (options : Options) → IsJob words (job.Fix base rover nav options) → SaysOfFix work.text_of base rover nav options result out
+  pub track : (base rover nav : List ℕ) (options : Options) → IsJob words (job.Track base rover nav options) → SaysOfTrack work.text_of base rover nav options result out
+  pub check_track : (cert : List ℕ) → IsJob words (job.CheckTrack cert) → SaysOfCheckTrack work.text_of cert result out
+  pub complete : (job : Job) → IsJob words job → IsFormerReadable job work.text_of → IsSure work (file_words job) → IsComplete job work.text_of result out err

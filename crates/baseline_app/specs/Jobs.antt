@@ -39,17 +39,17 @@ PartEnds (part.File file) seed epochs sats bands system end = SimEnds file seed 
 PartEnds part.Run seed epochs sats bands system end = SimRunEnds seed epochs sats bands system end
 
 abbrev pub JobEnds : Job → (List ℕ → Option (List ℕ)) → Ending → Type 0
-JobEnds (job.Zero rows) told end = TextEnds zero_job told rows end
-JobEnds (job.List obs) told end = TextEnds list_job told obs end
-JobEnds (job.Orbit nav system sat tick) told end = TextEnds (orbit_job system sat tick.0) told nav end
-JobEnds (job.Check cert) told end = TextEnds check_job told cert end
-JobEnds (job.Residuals cert) told end = TextEnds residuals_job told cert end
-JobEnds (job.Migrate cert) told end = TextEnds migrate_job told cert end
-JobEnds (job.Fix base rover nav options) told end = SessionEnds AnswersFix told base rover nav options end
-JobEnds (job.Track base rover nav options) told end = SessionEnds AnswersTrack told base rover nav options end
-JobEnds (job.CheckTrack cert) told end = TextEnds check_track_job told cert end
-JobEnds (job.Arcs base rover nav options) told end = SessionEnds AnswersArcs told base rover nav options end
-JobEnds (job.Sim part seed epochs sats bands system) told end = PartEnds part seed epochs sats bands system end
+JobEnds (job.Zero rows) text_of end = TextEnds zero_job text_of rows end
+JobEnds (job.List obs) text_of end = TextEnds list_job text_of obs end
+JobEnds (job.Orbit nav system sat tick) text_of end = TextEnds (orbit_job system sat tick.0) text_of nav end
+JobEnds (job.Check cert) text_of end = TextEnds check_job text_of cert end
+JobEnds (job.Residuals cert) text_of end = TextEnds residuals_job text_of cert end
+JobEnds (job.Migrate cert) text_of end = TextEnds migrate_job text_of cert end
+JobEnds (job.Fix base rover nav options) text_of end = SessionEnds AnswersFix text_of base rover nav options end
+JobEnds (job.Track base rover nav options) text_of end = SessionEnds AnswersTrack text_of base rover nav options end
+JobEnds (job.CheckTrack cert) text_of end = TextEnds check_track_job text_of cert end
+JobEnds (job.Arcs base rover nav options) text_of end = SessionEnds AnswersArcs text_of base rover nav options end
+JobEnds (job.Sim part seed epochs sats bands system) text_of end = PartEnds part seed epochs sats bands system end
 
 -- a line about the job's files together: of a session alone there is one
 abbrev pub IsLineOf : Job → List ℕ → Type 0
@@ -61,39 +61,39 @@ IsLineOf _ = NoLine
 -- All files of the job are there and admitted, and those of a session aren't refused together. Observations may be in either
 -- format of RINEX, where the system has both; `list` reads those of GPS.
 abbrev pub IsReadable : Job → (List ℕ → Option (List ℕ)) → Type 0
-IsReadable (job.Zero rows) told = IsTextAdmitted zero_job told rows
-IsReadable (job.List obs) told = IsTextAdmitted list_job told obs
-IsReadable (job.Orbit nav system sat tick) told = IsTextAdmitted (orbit_job system sat tick.0) told nav
-IsReadable (job.Check cert) told = IsTextAdmitted check_job told cert
-IsReadable (job.Residuals cert) told = IsTextAdmitted residuals_job told cert
-IsReadable (job.Migrate cert) told = IsTextAdmitted migrate_job told cert
-IsReadable (job.Fix base rover nav options) told = AreAdmitted told base rover nav options
-IsReadable (job.Track base rover nav options) told = AreAdmitted told base rover nav options
-IsReadable (job.CheckTrack cert) told = IsTextAdmitted check_track_job told cert
-IsReadable (job.Arcs base rover nav options) told = AreAdmitted told base rover nav options
-IsReadable (job.Sim part seed epochs sats bands system) told = Unit {0}
+IsReadable (job.Zero rows) text_of = IsTextAdmitted zero_job text_of rows
+IsReadable (job.List obs) text_of = IsTextAdmitted list_job text_of obs
+IsReadable (job.Orbit nav system sat tick) text_of = IsTextAdmitted (orbit_job system sat tick.0) text_of nav
+IsReadable (job.Check cert) text_of = IsTextAdmitted check_job text_of cert
+IsReadable (job.Residuals cert) text_of = IsTextAdmitted residuals_job text_of cert
+IsReadable (job.Migrate cert) text_of = IsTextAdmitted migrate_job text_of cert
+IsReadable (job.Fix base rover nav options) text_of = AreAdmitted text_of base rover nav options
+IsReadable (job.Track base rover nav options) text_of = AreAdmitted text_of base rover nav options
+IsReadable (job.CheckTrack cert) text_of = IsTextAdmitted check_track_job text_of cert
+IsReadable (job.Arcs base rover nav options) text_of = AreAdmitted text_of base rover nav options
+IsReadable (job.Sim part seed epochs sats bands system) text_of = Unit {0}
 
 -- what a run of the job with status 0 or 1 says
 abbrev pub SaysOfJob : Job → (List ℕ → Option (List ℕ)) → Status → SinkChange → Type 0
-SaysOfJob (job.Zero rows) told status out = SaysOfText zero_job told rows status out
-SaysOfJob (job.List obs) told status out = SaysOfText list_job told obs status out
-SaysOfJob (job.Orbit nav system sat tick) told status out = SaysOfText (orbit_job system sat tick.0) told nav status out
-SaysOfJob (job.Check cert) told status out = SaysOfText check_job told cert status out
-SaysOfJob (job.Residuals cert) told status out = SaysOfText residuals_job told cert status out
-SaysOfJob (job.Migrate cert) told status out = SaysOfText migrate_job told cert status out
-SaysOfJob (job.Fix base rover nav options) told status out = SaysOfSession AnswersFix told base rover nav options status out
-SaysOfJob (job.Track base rover nav options) told status out = SaysOfSession AnswersTrack told base rover nav options status out
-SaysOfJob (job.CheckTrack cert) told status out = SaysOfText check_track_job told cert status out
-SaysOfJob (job.Arcs base rover nav options) told status out = SaysOfSession AnswersArcs told base rover nav options status out
-SaysOfJob (job.Sim (part.File file) seed epochs sats bands system) told status out = SaysOfSim file seed epochs sats bands system status out
-SaysOfJob (job.Sim part.Run seed epochs sats bands system) told status out = SaysOfSimRun seed epochs sats bands system status out
+SaysOfJob (job.Zero rows) text_of status out = SaysOfText zero_job text_of rows status out
+SaysOfJob (job.List obs) text_of status out = SaysOfText list_job text_of obs status out
+SaysOfJob (job.Orbit nav system sat tick) text_of status out = SaysOfText (orbit_job system sat tick.0) text_of nav status out
+SaysOfJob (job.Check cert) text_of status out = SaysOfText check_job text_of cert status out
+SaysOfJob (job.Residuals cert) text_of status out = SaysOfText residuals_job text_of cert status out
+SaysOfJob (job.Migrate cert) text_of status out = SaysOfText migrate_job text_of cert status out
+SaysOfJob (job.Fix base rover nav options) text_of status out = SaysOfSession AnswersFix text_of base rover nav options status out
+SaysOfJob (job.Track base rover nav options) text_of status out = SaysOfSession AnswersTrack text_of base rover nav options status out
+SaysOfJob (job.CheckTrack cert) text_of status out = SaysOfText check_track_job text_of cert status out
+SaysOfJob (job.Arcs base rover nav options) text_of status out = SaysOfSession AnswersArcs text_of base rover nav options status out
+SaysOfJob (job.Sim (part.File file) seed epochs sats bands system) text_of status out = SaysOfSim file seed epochs sats bands system status out
+SaysOfJob (job.Sim part.Run seed epochs sats bands system) text_of status out = SaysOfSimRun seed epochs sats bands system status out
 
 -- The words ask for a job, which ends so over its files. What a refusal or a read fault names stands in this end's text, whether or
 -- not standard error takes it.
 pub record AnswersJob (words : List (List ℕ)) (work : FileWork) (end : Ending) : Type 0 where
   pub job : Job
   pub asked : IsJob words job
-  pub ends : EndsOver work (file_words job) (IsLineOf job) (JobEnds job work.told) end
+  pub ends : EndsOver work (file_words job) (IsLineOf job) (JobEnds job work.text_of) end
 
 -- the words ask for none
 pub record AnswersUsage (words : List (List ℕ)) (end : Ending) : Type 0 where

@@ -21,9 +21,9 @@ pub record IsRun (words : List (List ℕ)) (work : FileWork) (result : Status) (
   pub written : IsDelivered end result out err
 
 -- the job's two texts were written whole, with status 0 or 1
-pub record EndsWell (job : Job) (told : List ℕ → Option (List ℕ)) (result : Status) (out err : SinkChange) : Type 0 where
+pub record EndsWell (job : Job) (text_of : List ℕ → Option (List ℕ)) (result : Status) (out err : SinkChange) : Type 0 where
   pub end : Ending
-  pub ends : JobEnds job told end
+  pub ends : JobEnds job text_of end
   pub verdict : IsVerdictStatus result
   pub same : result ≡ end.status
   pub out_whole : GainsWhole out end.out
@@ -31,7 +31,7 @@ pub record EndsWell (job : Job) (told : List ℕ → Option (List ℕ)) (result 
 
 -- that, or out of memory, or a sink's count rose
 abbrev pub IsComplete : Job → (List ℕ → Option (List ℕ)) → Status → SinkChange → SinkChange → Type 0
-IsComplete job told result out err = EndsWell job told result out err ⊎ ((result ≡ NoMemory) ⊎ ((result ≡ WriteFault) × (Rose out.before out.now ⊎ Rose err.before err.now)))
+IsComplete job text_of result out err = EndsWell job text_of result out err ⊎ ((result ≡ NoMemory) ⊎ ((result ≡ WriteFault) × (Rose out.before out.now ⊎ Rose err.before err.now)))
 
 -- What a run of a job does with its files: a first part of them is opened, each once and in this order, and there is no read fault
 -- where all are sure. What an answer, a refusal and a read fault say of them is a part of how the job ends (`EndsOver`).
@@ -50,9 +50,9 @@ pub record IsStarted (words : List (List ℕ)) (work : FileWork) (same : Type 0)
   pub write : status ≡ WriteFault → Rose out.before out.now ⊎ Rose err.before err.now
   pub steady : IsVerdictStatus status → (out.now ≡ out.before) × (err.now ≡ err.before)
   pub usage : status ≡ Usage → (job : Job) → IsJob words job → ⊥
-  pub says : (job : Job) → IsJob words job → IsVerdictStatus status → SaysOfJob job work.told status out
-  pub complete : (job : Job) → IsJob words job → IsReadable job work.told → All work.sure (file_words job) ⊎ (Rose work.faults work.faults_now → ⊥)
-      → IsComplete job work.told status out err
+  pub output : (job : Job) → IsJob words job → IsVerdictStatus status → SaysOfJob job work.text_of status out
+  pub complete : (job : Job) → IsJob words job → IsReadable job work.text_of → All work.sure (file_words job) ⊎ (Rose work.faults work.faults_now → ⊥)
+      → IsComplete job work.text_of status out err
 
 -- where the words couldn't be had, memory is out
 pub record HasNoWords (result : ℕ) (out err : SinkChange) : Type 0 where

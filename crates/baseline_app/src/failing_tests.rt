@@ -40,7 +40,7 @@ fn each_call_on_the_files_fails(rt: HostRuntime) -> Result<(), Fail> {
     let made = make(alloc, 1, 60, 8, 12, b'G')?;
     let whole = run_fix(alloc, &made, ROOM, Fails::none(alloc))?;
     assert_eq!(rt; whole.status, Status::Done);
-    let mut told = [0u32; 4];
+    let mut faults = [0u32; 4];
     let mut last = 0;
     let mut finished = false;
     for call in 0..200 {
@@ -58,13 +58,13 @@ fn each_call_on_the_files_fails(rt: HostRuntime) -> Result<(), Fail> {
         let name = name_told(ran.err.bytes());
         assert!(rt; last <= name);
         last = name;
-        let calls = &mut told[name.min(3)];
+        let calls = &mut faults[name.min(3)];
         *calls = calls.saturating_add(1);
     }
     assert!(rt; finished);
     // a name stands there once at least for its opening, for its bytes and for its end
-    assert!(rt; told[0] >= 3 && told[1] >= 3 && told[2] >= 3);
-    assert_eq!(rt; told[3], 0);
+    assert!(rt; faults[0] >= 3 && faults[1] >= 3 && faults[2] >= 3);
+    assert_eq!(rt; faults[3], 0);
     Ok(())
 }
 

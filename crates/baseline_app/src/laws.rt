@@ -25,11 +25,11 @@ pub fn former_law<F: Files>(before: &F, after: &F)
 /// `sim run` of these words has processed this navigation file, byte for byte, and observation files that differ from these in
 /// codes and phases alone.
 pub fn one_session_law()
-    ensures session { (seed epochs sats bands system : ℕ) (one other third : SinkChange) (told : List ℕ → Option (List ℕ))
+    ensures session { (seed epochs sats bands system : ℕ) (one other third : SinkChange) (text_of : List ℕ → Option (List ℕ))
         → (base : SaysMade Base seed epochs sats bands system one) → (rover : SaysMade Rover seed epochs sats bands system other) → (nav : SaysMade Nav seed epochs sats bands system third)
-        → told (codes "base") ≡ Some base.text → told (codes "rover") ≡ Some rover.text → told (codes "nav") ≡ Some nav.text → AreMadeFiles seed epochs sats bands system told }
+        → text_of (codes "base") ≡ Some base.text → text_of (codes "rover") ≡ Some rover.text → text_of (codes "nav") ≡ Some nav.text → AreMadeFiles seed epochs sats bands system text_of }
     ensures nav { (seed epochs sats bands system : ℕ) (fixed : Bool) (one other : SinkChange)
-        → (nav : SaysMade Nav seed epochs sats bands system one) → (run : SaysMatch seed epochs sats bands system fixed other) → run.told (codes "nav") ≡ Some nav.text }
+        → (nav : SaysMade Nav seed epochs sats bands system one) → (run : SaysMatch seed epochs sats bands system fixed other) → run.text_of (codes "nav") ≡ Some nav.text }
     ensures base { (seed epochs sats bands system : ℕ) (fixed : Bool) (one other : SinkChange)
         → (base : SaysMade Base seed epochs sats bands system one) → (run : SaysMatch seed epochs sats bands system fixed other)
         → DifferInSignals epochs sats (tracking_of bands system) base.text run.made.session.base.items }

@@ -21,7 +21,7 @@
 //!
 //! # Jobs
 //!
-//! What is said of each command is one clause (`says`, of `SaysOfJob`).
+//! What is said of each command is one clause (`output`, of `SaysOfJob`).
 //!
 //! | Command | Written with status 0 | Written with status 1 |
 //! |---|---|---|

@@ -171,7 +171,7 @@ pub fn run<F: Files, O: Sink, E: Sink>(
     ensures write { result ≡ Status.WriteFault → Rose (O.faults out.old) (O.faults out.new) ⊎ Rose (E.faults err.old) (E.faults err.new) }
     ensures steady { IsVerdictStatus result → (O.faults out.new ≡ O.faults out.old) × (E.faults err.new ≡ E.faults err.old) }
     ensures usage { result ≡ Status.Usage → (job : Job) → IsJob (texts_of words.now) job → ⊥ }
-    ensures says { (job : Job) → IsJob (texts_of words.now) job → IsVerdictStatus result → SaysOfJob job (F.text_of files.old) result (sink_change O.Sink out.old out.new) }
+    ensures output { (job : Job) → IsJob (texts_of words.now) job → IsVerdictStatus result → SaysOfJob job (F.text_of files.old) result (sink_change O.Sink out.old out.new) }
     ensures complete { (job : Job) → IsJob (texts_of words.now) job → IsReadable job (F.text_of files.old)
         → All (F.is_sure_name files.old) (file_words job) ⊎ (Rose (F.faults files.old) (F.faults files.new) → ⊥)
         → IsComplete job (F.text_of files.old) result (sink_change O.Sink out.old out.new) (sink_change E.Sink err.old err.new) }

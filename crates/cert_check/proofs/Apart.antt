@@ -18,14 +18,14 @@ use Rattle.cert_check.proofs.SameForms.{Found, same_form, same_best, same_move, 
 pub same_refusal : (s : Session) (why too : LowerFault) → IsRefused s why → IsRefused s too → why ≡ too
 same_refusal s why too a b =
     let whole = one_elimination s.arcs (counted s.signals s.scale) s.pairs a.normal b.normal a.h b.h a.of_rows b.of_rows a.exponent b.exponent in
-    let same : a.told.0 ≡ b.told.0 = cc (a.told.1.0, b.told.1.0, whole) in
-    a.told.1.1 ∙ ap told same ∙ sym b.told.1.1
+    let same : a.reported.0 ≡ b.reported.0 = cc (a.reported.1.0, b.reported.1.0, whole) in
+    a.reported.1.1 ∙ ap told same ∙ sym b.reported.1.1
 
 -- a form that is refused is none
 pub no_form : (s : Session) (why : LowerFault) (f : Form) → IsRefused s why → IsFormOf s f → ⊥
 no_form s why f a b =
     let whole = one_elimination s.arcs (counted s.signals s.scale) s.pairs b.normal a.normal f.h a.h b.of_rows a.of_rows b.lowered.exponent a.exponent in
-    absurd (cc (a.told.1.0, whole, b.lowered.taken))
+    absurd (cc (a.reported.1.0, whole, b.lowered.taken))
 
 -- a move that is too large isn't another time narrow
 pub no_move : (s : Session) (f g : Form) (budget : ℕ) (b : TwoBest) → IsFormOf s f → IsBaselineWide f budget → IsFormOf s g → IsTwoBest g b → (HasWide (move_of g (first_of b)) → ⊥) → ⊥

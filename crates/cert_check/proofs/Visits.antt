@@ -38,7 +38,7 @@ other_place place wide_factor e f g = f cc
 other_place place wide_entry e f g = g cc
 
 refused_place : (s : Session) (place : Place) → IsRefused s (fault.Overwidth place) → (place ≡ Factor → ⊥) → (place ≡ Entry → ⊥) → ⊥
-refused_place s place a f g = other_place place a.told.0 a.told.1.1 f g
+refused_place s place a f g = other_place place a.reported.0 a.reported.1.1 f g
 
 refusal_rests : (s : Session) (budget : ℕ) (why : LowerFault) → IsRefused s why → RestsWithin s budget (verdict_of why)
 refusal_rests s budget (fault.Weak column pivot) a = tt

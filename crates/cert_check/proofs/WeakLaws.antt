@@ -84,7 +84,7 @@ told_weak column pivot wide_entry e = absurd cc
 pub weak_fits : (s : Session) (column : ℕ) (pivot : ℤ) → IsRefused s (Weak column pivot) → IsWeak column pivot
 weak_fits s column pivot h =
     let normal : Normal = h.normal in
-    let is_told : IsToldAs (Weak column pivot) (elimination_of h.h normal) = h.told in
+    let is_told : IsToldAs (Weak column pivot) (elimination_of h.h normal) = h.reported in
     let is_pivot : IsPivot 0 (normal.columns - 1) column pivot = weak_of (form_small (first_form h.h normal)) (normal.columns - 1) (first_form h.h normal) column pivot refl (is_told.1.0 ∙ ap Err (told_weak column pivot is_told.0 is_told.1.1)) in
     record { column_to = small normal.columns column normal.columns_to is_pivot.column; pivot_in = is_pivot.size }
   where

@@ -29,7 +29,7 @@ pub record IsRefused (s : Session) (fault : LowerFault) : Type 0 where
   pub of_rows : IsNormalOf s.arcs (counted s.signals s.scale) s.pairs normal
   pub h : ℕ
   pub exponent : IsExponent h (form_of normal)
-  pub told : IsToldAs fault (elimination_of h normal)
+  pub reported : IsToldAs fault (elimination_of h normal)
 
 -- a refusal of the elimination as a tail
 abbrev pub tail_of : LowerFault → Tail

@@ -81,11 +81,11 @@ fn tells_outcomes(rt: HostRuntime) -> Result<(), Fail> {
     let budget = "budget 1000000";
     let fixed = cert_of(&rt, alloc, budget, &SESSION, &[VALUES, "fixed"])?;
     let text = text_of(alloc, budget, &SESSION, &[VALUES, "fixed"])?;
-    let told = "pairs 6 of 11\narcs 5\nbaseline -165.6800 943.6070 -659.5000\nverdict fixed\n";
-    outcome_is(&rt, alloc, fixed, true, text.as_bytes(), told)?;
+    let expected = "pairs 6 of 11\narcs 5\nbaseline -165.6800 943.6070 -659.5000\nverdict fixed\n";
+    outcome_is(&rt, alloc, fixed, true, text.as_bytes(), expected)?;
     let nothing = cert_of(&rt, alloc, budget, &SMALL, &NOTHING)?;
     let text = text_of(alloc, budget, &SMALL, &NOTHING)?;
-    let told = "pairs 6 of 11\narcs 5\nverdict declined\n";
-    outcome_is(&rt, alloc, nothing, false, text.as_bytes(), told)?;
+    let expected = "pairs 6 of 11\narcs 5\nverdict declined\n";
+    outcome_is(&rt, alloc, nothing, false, text.as_bytes(), expected)?;
     Ok(())
 }

@@ -20,32 +20,32 @@ use Rattle.session_files.proofs.SessionLaws.{stop_no_verdict}
 use Rattle.file_jobs.specs.Listing.{list_job}
 
 -- a file that was read is listed
-pub listed : (text : List ℕ) (name : List ℕ) (file : ObsFile) (told : List ℕ → Option (List ℕ)) (end : Ending) → (is : IsObsOf Gps told name file)
+pub listed : (text : List ℕ) (name : List ℕ) (file : ObsFile) (text_of : List ℕ → Option (List ℕ)) (end : Ending) → (is : IsObsOf Gps text_of name file)
     → end ≡ ending Done (list_text file) [] → EndsOnText list_job name is.text end
-listed text name file told end is end_is = inl (record { verdict = verdict_at end _ end_is tt; answer = record { file = file; is = is.is_file; end_is = end_is } })
+listed text name file text_of end is end_is = inl (record { verdict = verdict_at end _ end_is tt; answer = record { file = file; is = is.is_file; end_is = end_is } })
 
 -- a file that isn't
-stops : (told : List ℕ → Option (List ℕ)) (name : List ℕ) (end : Ending) → StopsAtObs Gps told name end → TextEnds list_job told name end
-stops told name end (inl by_text) =
+stops : (text_of : List ℕ → Option (List ℕ)) (name : List ℕ) (end : Ending) → StopsAtObs Gps text_of name end → TextEnds list_job text_of name end
+stops text_of name end (inl by_text) =
     let reason = by_text.ends_so in
     inl (record {
       text = by_text.text;
       is = by_text.is;
       ends_so = inr (record { at = reason.at; refused = record { none = reason.none; place = record { first = reason.first; gives_is = reason.gives_is } }; end_is = reason.end_is });
     })
-stops told name end (inr unloaded) = inr unloaded
+stops text_of name end (inr unloaded) = inr unloaded
 
-pub list_stop : (work : FileWork) (name : List ℕ) (why : JobStop) → OpensFirst (name ∷ []) work.openings work.left.openings → IfEnds why (StopsAtObs Gps work.told name)
-    → IfEnds why (IsRefusedWhole work.told work.left (name ∷ [])) → IfEnds why (λ end. end.status ≡ ReadFault → Rose work.faults work.faults_now)
-    → (work.sure name → IfEnds why (λ end. end.status ≢ ReadFault)) → IsDoneOver work (name ∷ []) NoLine (TextEnds list_job work.told name) (Err why)
+pub list_stop : (work : FileWork) (name : List ℕ) (why : JobStop) → OpensFirst (name ∷ []) work.openings work.left.openings → IfEnds why (StopsAtObs Gps work.text_of name)
+    → IfEnds why (IsRefusedWhole work.text_of work.left (name ∷ [])) → IfEnds why (λ end. end.status ≡ ReadFault → Rose work.faults work.faults_now)
+    → (work.sure name → IfEnds why (λ end. end.status ≢ ReadFault)) → IsDoneOver work (name ∷ []) NoLine (TextEnds list_job work.text_of name) (Err why)
 list_stop work name (stop.Ended a) opens stopped refused rose never = record {
   opened = opens;
   ended = record {
-    ends_so = stops work.told name (ending_of a) stopped;
-    answered = λ verdict. absurd (stop_no_verdict Gps work.told name (ending_of a) stopped verdict);
+    ends_so = stops work.text_of name (ending_of a) stopped;
+    answered = λ verdict. absurd (stop_no_verdict Gps work.text_of name (ending_of a) stopped verdict);
     refused = λ is. inl (refused is);
     fault = rose;
-    named = only_fault work name (ending_of a) opens (obs_fault_line Gps work.told name (ending_of a) stopped) never;
+    named = only_fault work name (ending_of a) opens (obs_fault_line Gps work.text_of name (ending_of a) stopped) never;
   };
 }
 list_stop work name stop.NoMemory opens stopped refused rose never = record { opened = opens; ended = tt }

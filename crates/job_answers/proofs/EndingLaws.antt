@@ -13,19 +13,19 @@ use Rattle.job_answers.specs.Texts.{refusal_line}
 use Rattle.job_answers.specs.Endings.{Ending, ending, EndsByFile, IsTooLarge, IsRefusal, IsAdmitted, IsRefusedWhole}
 use Rattle.job_answers.specs.Delivered.{SinkChange, IsDelivered}
 
-told_at : (told : List ℕ → Option (List ℕ)) (name bytes : List ℕ) (P : List ℕ → Type 0) → told name ≡ Some bytes → IfSome (told name) P → P bytes
-told_at told name bytes P is holds = subst (λ (o : Option (List ℕ)). IfSome o P) is holds
+told_at : (text_of : List ℕ → Option (List ℕ)) (name bytes : List ℕ) (P : List ℕ → Type 0) → text_of name ≡ Some bytes → IfSome (text_of name) P → P bytes
+told_at text_of name bytes P is holds = subst (λ (o : Option (List ℕ)). IfSome o P) is holds
 
 -- A file whose text is known and admitted ends with what its text ends with, or with a read fault.
-pub admitted_ends : (told : List ℕ → Option (List ℕ)) (name : List ℕ) (IsFile : List (List ℕ) → Type 0) (ends : List ℕ → Ending → Type 0) (end : Ending)
-    → (file : IsAdmitted told name IsFile) → end.status ≢ ReadFault → EndsByFile told name ends end → ends file.text end
-admitted_ends told name IsFile ends end file no_fault (inl by_text) =
-    let same = told_at told name file.text (λ (bytes : List ℕ). by_text.text ≡ bytes) file.told_is by_text.is.told_is in
+pub admitted_ends : (text_of : List ℕ → Option (List ℕ)) (name : List ℕ) (IsFile : List (List ℕ) → Type 0) (ends : List ℕ → Ending → Type 0) (end : Ending)
+    → (file : IsAdmitted text_of name IsFile) → end.status ≢ ReadFault → EndsByFile text_of name ends end → ends file.text end
+admitted_ends text_of name IsFile ends end file no_fault (inl by_text) =
+    let same = told_at text_of name file.text (λ (bytes : List ℕ). by_text.text ≡ bytes) file.told_is by_text.is.told_is in
     subst (λ (t : List ℕ). ends t end) same by_text.ends_so
-admitted_ends told name IsFile ends end file no_fault (inr (inl large)) =
-    let too = told_at told name file.text (λ (bytes : List ℕ). 67108864 < length bytes) file.told_is large.large in
+admitted_ends text_of name IsFile ends end file no_fault (inr (inl large)) =
+    let too = told_at text_of name file.text (λ (bytes : List ℕ). 67108864 < length bytes) file.told_is large.large in
     absurd (omega (arith, too, file.fits))
-admitted_ends told name IsFile ends end file no_fault (inr (inr fault)) = absurd (no_fault (ap (λ (e : Ending). e.status) fault))
+admitted_ends text_of name IsFile ends end file no_fault (inr (inr fault)) = absurd (no_fault (ap (λ (e : Ending). e.status) fault))
 
 pub verdict_at : (end : Ending) (t : Ending) → end ≡ t → IsVerdictStatus t.status → IsVerdictStatus end.status
 verdict_at end t same is = subst (λ (e : Ending). IsVerdictStatus e.status) (sym same) is
@@ -34,11 +34,11 @@ pub job_status_at : (end : Ending) (t : Ending) → end ≡ t → IsJobStatus t.
 job_status_at end t same is = subst (λ (e : Ending). IsJobStatus e.status) (sym same) is
 
 -- a file ends with a job's status, where its text does
-pub file_status : (told : List ℕ → Option (List ℕ)) (name : List ℕ) (ends : List ℕ → Ending → Type 0) (end : Ending)
-    → ((text : List ℕ) → ends text end → IsJobStatus end.status) → EndsByFile told name ends end → IsJobStatus end.status
-file_status told name ends end by_text (inl text) = by_text text.text text.ends_so
-file_status told name ends end by_text (inr (inl large)) = job_status_at end _ large.end_is tt
-file_status told name ends end by_text (inr (inr fault)) = job_status_at end _ fault tt
+pub file_status : (text_of : List ℕ → Option (List ℕ)) (name : List ℕ) (ends : List ℕ → Ending → Type 0) (end : Ending)
+    → ((text : List ℕ) → ends text end → IsJobStatus end.status) → EndsByFile text_of name ends end → IsJobStatus end.status
+file_status text_of name ends end by_text (inl text) = by_text text.text text.ends_so
+file_status text_of name ends end by_text (inr (inl large)) = job_status_at end _ large.end_is tt
+file_status text_of name ends end by_text (inr (inr fault)) = job_status_at end _ fault tt
 
 -- a status that is no write fault is that of the ending
 pub delivered_status : (end : Ending) (result status : Status) (out err : SinkChange) → IsDelivered end result out err → result ≡ status → status ≢ WriteFault → end.status ≡ status
@@ -48,18 +48,18 @@ delivered_status end result status out err (inr (inr by_err)) is other = absurd 
 
 -- ---- refusals
 -- that of a file that was read to its end
-pub read_whole : (told : List ℕ → Option (List ℕ)) (left : Unread) (name : List ℕ) (at : At) (end : Ending) → IsReadToEnd told left name
-    → end ≡ ending Refused [] (refusal_line name at) → IsRefusedWhole told left (name ∷ []) end
-read_whole told left name at end read is = λ refused. (0, name, omega arith, refl, inl (record { at = at; line = ap (λ (e : Ending). e.err) is; read = read }))
+pub read_whole : (text_of : List ℕ → Option (List ℕ)) (left : Unread) (name : List ℕ) (at : At) (end : Ending) → IsReadToEnd text_of left name
+    → end ≡ ending Refused [] (refusal_line name at) → IsRefusedWhole text_of left (name ∷ []) end
+read_whole text_of left name at end read is = λ refused. (0, name, omega arith, refl, inl (record { at = at; line = ap (λ (e : Ending). e.err) is; read = read }))
 
 -- that of a file that is too large
-pub large_whole : (told : List ℕ → Option (List ℕ)) (left : Unread) (name : List ℕ) (end : Ending) → IsTooLarge told name end → IsRefusedWhole told left (name ∷ []) end
-large_whole told left name end large = λ refused. (0, name, omega arith, refl, inr (record { line = ap (λ (e : Ending). e.err) large.end_is; large = large.large }))
+pub large_whole : (text_of : List ℕ → Option (List ℕ)) (left : Unread) (name : List ℕ) (end : Ending) → IsTooLarge text_of name end → IsRefusedWhole text_of left (name ∷ []) end
+large_whole text_of left name end large = λ refused. (0, name, omega arith, refl, inr (record { line = ap (λ (e : Ending). e.err) large.end_is; large = large.large }))
 
 -- that of a file whose text is none of the form
-pub refusal_whole : {X : Type 0} {gives : List (List ℕ) → Result X At} {IsFile : List (List ℕ) → Type 0} (told : List ℕ → Option (List ℕ)) (left : Unread) (name text : List ℕ) (end : Ending) → IsReadToEnd told left name → IsRefusal gives IsFile name text end
-    → IsRefusedWhole told left (name ∷ []) end
-refusal_whole told left name text end read refusal = read_whole told left name refusal.at end read refusal.end_is
+pub refusal_whole : {X : Type 0} {gives : List (List ℕ) → Result X At} {IsFile : List (List ℕ) → Type 0} (text_of : List ℕ → Option (List ℕ)) (left : Unread) (name text : List ℕ) (end : Ending) → IsReadToEnd text_of left name → IsRefusal gives IsFile name text end
+    → IsRefusedWhole text_of left (name ∷ []) end
+refusal_whole text_of left name text end read refusal = read_whole text_of left name refusal.at end read refusal.end_is
 
 -- ---- what is weaker holds too
 pub ends_weaker : (stop : JobStop) (P Q : Ending → Type 0) → ((end : Ending) → P end → Q end) → IfEnds stop P → IfEnds stop Q

@@ -23,24 +23,24 @@ on_text_status : (job : TextJob) (name text : List ℕ) (end : Ending) → EndsO
 on_text_status job name text end (inl answered) = job_of_verdict end.status answered.verdict
 on_text_status job name text end (inr refused) = job_status_at end _ refused.end_is tt
 
-pub text_status : (job : TextJob) (told : List ℕ → Option (List ℕ)) (name : List ℕ) (end : Ending) → TextEnds job told name end → IsJobStatus end.status
-text_status job told name end ends = file_status told name (EndsOnText job name) end (λ text. on_text_status job name text end) ends
+pub text_status : (job : TextJob) (text_of : List ℕ → Option (List ℕ)) (name : List ℕ) (end : Ending) → TextEnds job text_of name end → IsJobStatus end.status
+text_status job text_of name end ends = file_status text_of name (EndsOnText job name) end (λ text. on_text_status job name text end) ends
 
 -- a file that is there and taken has a verdict
-pub text_verdict : (job : TextJob) (told : List ℕ → Option (List ℕ)) (name : List ℕ) (end : Ending) → IsTextAdmitted job told name → end.status ≢ ReadFault
-    → TextEnds job told name end → IsVerdictStatus end.status
-text_verdict job told name end file no_fault ends =
-    elim (admitted_ends told name (λ lines. Unit {0}) (EndsOnText job name) end (record { text = file.text; told_is = file.told_is; fits = file.fits; file = tt }) no_fault ends) [
+pub text_verdict : (job : TextJob) (text_of : List ℕ → Option (List ℕ)) (name : List ℕ) (end : Ending) → IsTextAdmitted job text_of name → end.status ≢ ReadFault
+    → TextEnds job text_of name end → IsVerdictStatus end.status
+text_verdict job text_of name end file no_fault ends =
+    elim (admitted_ends text_of name (λ lines. Unit {0}) (EndsOnText job name) end (record { text = file.text; told_is = file.told_is; fits = file.fits; file = tt }) no_fault ends) [
       | inl answered ↦ answered.verdict
       | inr refused ↦ absurd (refused.refused.none file.file)
     ]
 
 -- what is written of a verdict is its answer on the file's text
-pub text_says : (job : TextJob) (told : List ℕ → Option (List ℕ)) (name : List ℕ) (end : Ending) (out : SinkChange) → TextEnds job told name end
-    → IsVerdictStatus end.status → Appends out.old out.new end.out → SaysOfText job told name end.status out
-text_says job told name end out (inl by_text) verdict written = elim (by_text.ends_so) [
+pub text_says : (job : TextJob) (text_of : List ℕ → Option (List ℕ)) (name : List ℕ) (end : Ending) (out : SinkChange) → TextEnds job text_of name end
+    → IsVerdictStatus end.status → Appends out.old out.new end.out → SaysOfText job text_of name end.status out
+text_says job text_of name end out (inl by_text) verdict written = elim (by_text.ends_so) [
   | inl answered ↦ record { text = by_text.text; is = by_text.is; end = end; answer = answered.answer; status_is = refl; printed = written }
   | inr refused ↦ absurd (subst IsVerdictStatus (ap (λ (e : Ending). e.status) refused.end_is) verdict)
 ]
-text_says job told name end out (inr (inl large)) verdict written = absurd (subst IsVerdictStatus (ap (λ (e : Ending). e.status) large.end_is) verdict)
-text_says job told name end out (inr (inr fault)) verdict written = absurd (subst IsVerdictStatus (ap (λ (e : Ending). e.status) fault) verdict)
+text_says job text_of name end out (inr (inl large)) verdict written = absurd (subst IsVerdictStatus (ap (λ (e : Ending). e.status) large.end_is) verdict)
+text_says job text_of name end out (inr (inr fault)) verdict written = absurd (subst IsVerdictStatus (ap (λ (e : Ending). e.status) fault) verdict)

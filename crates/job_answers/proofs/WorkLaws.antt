@@ -35,7 +35,7 @@ at_most_one_more earlier name before mid now opened (suc n, same) = inr (
     same ∙ ap (λ (rest : List (List ℕ)). names_of mid ++ name ∷ rest) (take-nil n)
     ∙ ap (λ (names : List (List ℕ)). names ++ name ∷ []) opened ∙ append_assoc (names_of before) earlier (name ∷ []))
 
-one_read : (work : FileWork) (name : List ℕ) → OpensIt name work.openings work.left.openings → IsReadToEnd work.told work.left name → AreAllRead work (name ∷ [])
+one_read : (work : FileWork) (name : List ℕ) → OpensIt name work.openings work.left.openings → IsReadToEnd work.text_of work.left name → AreAllRead work (name ∷ [])
 one_read work name opens read = record { opened = one_more [] name work.openings work.openings work.left.openings (none_opened work.openings) opens; last = read }
 
 -- ---- how a job ends
@@ -50,25 +50,25 @@ verdict_over work names IsLine ends end read verdict so = record {
 }
 
 -- a text of a file that was read to its end
-text_over : (work : FileWork) (name text : List ℕ) (job : TextJob) (end : Ending) → IsTextOf work.told name text → AreAllRead work (name ∷ [])
-    → EndsOnText job name text end → EndsOver work (name ∷ []) NoLine (TextEnds job work.told name) end
+text_over : (work : FileWork) (name text : List ℕ) (job : TextJob) (end : Ending) → IsTextOf work.text_of name text → AreAllRead work (name ∷ [])
+    → EndsOnText job name text end → EndsOver work (name ∷ []) NoLine (TextEnds job work.text_of name) end
 text_over work name text job end is read (inl answered) =
-    verdict_over work (name ∷ []) NoLine (TextEnds job work.told name) end read answered.verdict (inl (record { text = text; is = is; ends_so = inl answered }))
+    verdict_over work (name ∷ []) NoLine (TextEnds job work.text_of name) end read answered.verdict (inl (record { text = text; is = is; ends_so = inl answered }))
 text_over work name text job end is read (inr refused) =
     let status_is = ap (λ (e : Ending). e.status) refused.end_is in
     record {
       ends_so = inl (record { text = text; is = is; ends_so = inr refused });
       answered = λ verdict. read;
-      refused = λ is_refused. inl (read_whole work.told work.left name refused.at end read.last refused.end_is is_refused);
+      refused = λ is_refused. inl (read_whole work.text_of work.left name refused.at end read.last refused.end_is is_refused);
       fault = λ fault. absurd (cc (status_is, fault));
       named = λ fault. absurd (cc (status_is, fault));
     }
 
-pub text_done : (work : FileWork) (name text : List ℕ) (job : TextJob) (r : Result JobOutput JobStop) → IsTextOf work.told name text → IsReadToEnd work.told work.left name
-    → OpensIt name work.openings work.left.openings → IfEnded r (EndsOnText job name text) → IsDoneOver work (name ∷ []) NoLine (TextEnds job work.told name) r
+pub text_done : (work : FileWork) (name text : List ℕ) (job : TextJob) (r : Result JobOutput JobStop) → IsTextOf work.text_of name text → IsReadToEnd work.text_of work.left name
+    → OpensIt name work.openings work.left.openings → IfEnded r (EndsOnText job name text) → IsDoneOver work (name ∷ []) NoLine (TextEnds job work.text_of name) r
 text_done work name text job r is read opens ends = record {
   opened = one_first name [] work.openings work.left.openings opens;
-  ended = ended_weaker r (EndsOnText job name text) (EndsOver work (name ∷ []) NoLine (TextEnds job work.told name))
+  ended = ended_weaker r (EndsOnText job name text) (EndsOver work (name ∷ []) NoLine (TextEnds job work.text_of name))
       (λ end so. text_over work name text job end is (one_read work name opens read) so) ends;
 }
 
@@ -86,14 +86,14 @@ only_fault work name end opens line never = λ is. record {
 }
 
 -- a file that can't be had
-unloaded_over : (work : FileWork) (name : List ℕ) (job : TextJob) (end : Ending) → OpensFirst (name ∷ []) work.openings work.left.openings → EndsUnloaded work.told name end
-    → (end.status ≡ ReadFault → Rose work.faults work.faults_now) → (work.sure name → end.status ≢ ReadFault) → EndsOver work (name ∷ []) NoLine (TextEnds job work.told name) end
+unloaded_over : (work : FileWork) (name : List ℕ) (job : TextJob) (end : Ending) → OpensFirst (name ∷ []) work.openings work.left.openings → EndsUnloaded work.text_of name end
+    → (end.status ≡ ReadFault → Rose work.faults work.faults_now) → (work.sure name → end.status ≢ ReadFault) → EndsOver work (name ∷ []) NoLine (TextEnds job work.text_of name) end
 unloaded_over work name job end opens (inl large) rose never =
     let status_is = ap (λ (e : Ending). e.status) large.end_is in
     record {
       ends_so = inr (inl large);
       answered = λ verdict. absurd (subst IsVerdictStatus status_is verdict);
-      refused = λ is. inl (large_whole work.told work.left name end large is);
+      refused = λ is. inl (large_whole work.text_of work.left name end large is);
       fault = rose;
       named = λ fault. absurd (cc (status_is, fault));
     }
@@ -107,8 +107,8 @@ unloaded_over work name job end opens (inr fault) rose never =
       named = only_fault work name end opens (λ is. ap (λ (e : Ending). e.err) fault) never;
     }
 
-pub stop_done : (work : FileWork) (name : List ℕ) (job : TextJob) (why : JobStop) → OpensFirst (name ∷ []) work.openings work.left.openings → IfEnds why (EndsUnloaded work.told name)
+pub stop_done : (work : FileWork) (name : List ℕ) (job : TextJob) (why : JobStop) → OpensFirst (name ∷ []) work.openings work.left.openings → IfEnds why (EndsUnloaded work.text_of name)
     → IfEnds why (λ end. end.status ≡ ReadFault → Rose work.faults work.faults_now) → (work.sure name → IfEnds why (λ end. end.status ≢ ReadFault))
-    → IsDoneOver work (name ∷ []) NoLine (TextEnds job work.told name) (Err why)
+    → IsDoneOver work (name ∷ []) NoLine (TextEnds job work.text_of name) (Err why)
 stop_done work name job (stop.Ended a) opens ends rose never = record { opened = opens; ended = unloaded_over work name job (ending_of a) opens ends rose never }
 stop_done work name job stop.NoMemory opens ends rose never = record { opened = opens; ended = tt }

@@ -18,23 +18,23 @@ abbrev pub ending : Status → List ℕ → List ℕ → Ending
 ending status out err = record { status = status; out = out; err = err }
 
 -- the text of the file, which is what is known of it where something is
-pub record IsTextOf (told : List ℕ → Option (List ℕ)) (name text : List ℕ) : Type 0 where
-  pub told_is : IfSome (told name) (λ bytes. text ≡ bytes)
+pub record IsTextOf (text_of : List ℕ → Option (List ℕ)) (name text : List ℕ) : Type 0 where
+  pub told_is : IfSome (text_of name) (λ bytes. text ≡ bytes)
   pub fits : length text ≤ 67108864
 
 abbrev pub HasTooManyBytes : (List ℕ → Option (List ℕ)) → List ℕ → Type 0
-HasTooManyBytes told name = IfSome (told name) (λ bytes. 67108864 < length bytes)
+HasTooManyBytes text_of name = IfSome (text_of name) (λ bytes. 67108864 < length bytes)
 
 -- the file has more bytes than a file may have
-pub record IsTooLarge (told : List ℕ → Option (List ℕ)) (name : List ℕ) (end : Ending) : Type 0 where
-  pub large : HasTooManyBytes told name
+pub record IsTooLarge (text_of : List ℕ → Option (List ℕ)) (name : List ℕ) (end : Ending) : Type 0 where
+  pub large : HasTooManyBytes text_of name
   pub end_is : end ≡ ending Refused [] (too_large_line name)
 
 abbrev pub IsReadFault : List ℕ → Ending → Type 0
 IsReadFault name end = end ≡ ending ReadFault [] (read_fault_line name)
 
 abbrev pub EndsUnloaded : (List ℕ → Option (List ℕ)) → List ℕ → Ending → Type 0
-EndsUnloaded told name end = IsTooLarge told name end ⊎ IsReadFault name end
+EndsUnloaded text_of name end = IsTooLarge text_of name end ⊎ IsReadFault name end
 
 -- The text is no file of this form. It is refused at the first line at which that shows, at the column and for the
 -- reason that the rules of the form give.
@@ -46,36 +46,36 @@ pub record IsRefusal {F : Type 0} (gives : List (List ℕ) → Result F At) (IsF
   pub end_is : end ≡ ending Refused [] (refusal_line name at)
 
 -- the job ends with what the file's text ends with
-pub record EndsByText (told : List ℕ → Option (List ℕ)) (name : List ℕ) (ends : List ℕ → Ending → Type 0) (end : Ending) : Type 0 where
+pub record EndsByText (text_of : List ℕ → Option (List ℕ)) (name : List ℕ) (ends : List ℕ → Ending → Type 0) (end : Ending) : Type 0 where
   pub text : List ℕ
-  pub is : IsTextOf told name text
+  pub is : IsTextOf text_of name text
   pub ends_so : ends text end
 
 -- that, or the file can't be had
 abbrev pub EndsByFile : (List ℕ → Option (List ℕ)) → List ℕ → (List ℕ → Ending → Type 0) → Ending → Type 0
-EndsByFile told name ends end = EndsByText told name ends end ⊎ EndsUnloaded told name end
+EndsByFile text_of name ends end = EndsByText text_of name ends end ⊎ EndsUnloaded text_of name end
 
 -- the text of the file is known, and is one of this form
-pub record IsAdmitted (told : List ℕ → Option (List ℕ)) (name : List ℕ) (IsFile : List (List ℕ) → Type 0) : Type 0 where
+pub record IsAdmitted (text_of : List ℕ → Option (List ℕ)) (name : List ℕ) (IsFile : List (List ℕ) → Type 0) : Type 0 where
   pub text : List ℕ
-  pub told_is : told name ≡ Some text
+  pub told_is : text_of name ≡ Some text
   pub fits : length text ≤ 67108864
   pub file : IsFile (lines_of text)
 
 -- The file's refusal is reported, and the file was read to its end: a read fault would have come before.
-pub record IsReadAndRefused (told : List ℕ → Option (List ℕ)) (left : Unread) (tells : List ℕ → Type 0) (name : List ℕ) : Type 0 where
+pub record IsReadAndRefused (text_of : List ℕ → Option (List ℕ)) (left : Unread) (reports : List ℕ → Type 0) (name : List ℕ) : Type 0 where
   pub at : At
-  pub line : tells (refusal_line name at)
-  pub read : IsReadToEnd told left name
+  pub line : reports (refusal_line name at)
+  pub read : IsReadToEnd text_of left name
 
 -- It is reported that the file is too large, and it is.
-pub record IsRefusedAsLarge (told : List ℕ → Option (List ℕ)) (tells : List ℕ → Type 0) (name : List ℕ) : Type 0 where
-  pub line : tells (too_large_line name)
-  pub large : HasTooManyBytes told name
+pub record IsRefusedAsLarge (text_of : List ℕ → Option (List ℕ)) (reports : List ℕ → Type 0) (name : List ℕ) : Type 0 where
+  pub line : reports (too_large_line name)
+  pub large : HasTooManyBytes text_of name
 
 abbrev pub IsRefusedFile : (List ℕ → Option (List ℕ)) → Unread → (List ℕ → Type 0) → List ℕ → Type 0
-IsRefusedFile told left tells name = IsReadAndRefused told left tells name ⊎ IsRefusedAsLarge told tells name
+IsRefusedFile text_of left reports name = IsReadAndRefused text_of left reports name ⊎ IsRefusedAsLarge text_of reports name
 
 -- a refusal is that of one of the files
 abbrev pub IsRefusedWhole : (List ℕ → Option (List ℕ)) → Unread → List (List ℕ) → Ending → Type 0
-IsRefusedWhole told left names end = end.status ≡ Refused → Any (IsRefusedFile told left (λ text. end.err ≡ text)) names
+IsRefusedWhole text_of left names end = end.status ≡ Refused → Any (IsRefusedFile text_of left (λ text. end.err ≡ text)) names

@@ -47,19 +47,19 @@ EndsOnText job name text end = IsAnswered job text end ⊎ IsTextRefused job nam
 
 -- what it ends with, by what is reported of its file
 abbrev pub TextEnds : TextJob → (List ℕ → Option (List ℕ)) → List ℕ → Ending → Type 0
-TextEnds job told name end = EndsByFile told name (EndsOnText job name) end
+TextEnds job text_of name end = EndsByFile text_of name (EndsOnText job name) end
 
 -- the text of its file is known, and is taken
-pub record IsTextAdmitted (job : TextJob) (told : List ℕ → Option (List ℕ)) (name : List ℕ) : Type 0 where
+pub record IsTextAdmitted (job : TextJob) (text_of : List ℕ → Option (List ℕ)) (name : List ℕ) : Type 0 where
   pub text : List ℕ
-  pub told_is : told name ≡ Some text
+  pub told_is : text_of name ≡ Some text
   pub fits : length text ≤ 67108864
   pub file : job.IsFile text
 
 -- what a run of it with status 0 or 1 says: out has gained its answer on the file's text
-pub record SaysOfText (job : TextJob) (told : List ℕ → Option (List ℕ)) (name : List ℕ) (status : Status) (out : SinkChange) : Type 0 where
+pub record SaysOfText (job : TextJob) (text_of : List ℕ → Option (List ℕ)) (name : List ℕ) (status : Status) (out : SinkChange) : Type 0 where
   pub text : List ℕ
-  pub is : IsTextOf told name text
+  pub is : IsTextOf text_of name text
   pub end : Ending
   pub answer : job.answers text end
   pub status_is : end.status ≡ status

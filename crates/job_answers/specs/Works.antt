@@ -16,7 +16,7 @@ use Rattle.job_answers.specs.Endings.{Ending, IsRefusedFile}
 -- What is reported of files before a job: the bytes under each name, the names that can't fail, the count of faults and what
 -- was opened; and after it: what was opened and is left of it, and the count.
 pub record FileWork : Type 1 where
-  pub told : List ℕ → Option (List ℕ)
+  pub text_of : List ℕ → Option (List ℕ)
   pub sure : List ℕ → Type 0
   pub openings : List (List ℕ × ℕ)
   pub left : Unread
@@ -25,7 +25,7 @@ pub record FileWork : Type 1 where
 
 abbrev pub file_work : {F : Type 0} → Ghosts F → F → F → FileWork
 file_work files before after = record {
-  told = files.text_of before;
+  text_of = files.text_of before;
   sure = files.is_sure_name before;
   openings = files.openings before;
   left = unread (files.openings after) (files.unread after);
@@ -40,7 +40,7 @@ AreOpened names before now = names_of now ≡ names_of before ++ names
 -- All of these files were opened, each name once and in this order, and no other; and the last was read to its end.
 pub record AreAllRead (work : FileWork) (names : List (List ℕ)) : Type 0 where
   pub opened : AreOpened names work.openings work.left.openings
-  pub last : IfSome (last_or None names) (IsReadToEnd work.told work.left)
+  pub last : IfSome (last_or None names) (IsReadToEnd work.text_of work.left)
 
 -- The line is that of a read fault of one of these files, which isn't one that can't fail. All files before it were opened, and it
 -- too unless its opening failed, and no other.
@@ -66,7 +66,7 @@ NoLine line = ⊥
 pub record EndsOver (work : FileWork) (names : List (List ℕ)) (IsLine : List ℕ → Type 0) (ends : Ending → Type 0) (end : Ending) : Type 0 where
   pub ends_so : ends end
   pub answered : IsVerdictStatus end.status → AreAllRead work names
-  pub refused : end.status ≡ Refused → Any (IsRefusedFile work.told work.left (λ text. end.err ≡ text)) names ⊎ (IsLine end.err × AreAllRead work names)
+  pub refused : end.status ≡ Refused → Any (IsRefusedFile work.text_of work.left (λ text. end.err ≡ text)) names ⊎ (IsLine end.err × AreAllRead work names)
   pub fault : end.status ≡ ReadFault → Rose work.faults work.faults_now
   pub named : IsFaultOf work names end
 

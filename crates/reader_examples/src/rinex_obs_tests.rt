@@ -50,8 +50,8 @@ fn value_of(file: &ObsFile, kind: ObsType) -> Option<Option<Value>> {
 // The number of epochs; then the tag of the first one, whether power failed before it, and how many satellites it has.
 fn epochs_of(file: &ObsFile) -> (usize, Option<(Tick, bool, usize)>) {
     let first = file.epochs.as_slice().first();
-    let told = first.map(|epoch| (epoch.tag, epoch.power, epoch.sats.len()));
-    (file.epochs.len(), told)
+    let summary = first.map(|epoch| (epoch.tag, epoch.power, epoch.sats.len()));
+    (file.epochs.len(), summary)
 }
 
 const CODE: Value = Value {

@@ -80,7 +80,7 @@ same_front : (n : ℕ) (d : List ℤ) (l p : List (List ℤ)) → n ≡ 4 → an
 same_front n d l p e = refl
 
 pub told_of_front : (n : Normal) (e : LowerFault) → n.columns ≡ 4 → ((h : ℕ) → IsExponent h (form_of n) → IsToldAs e (front_of h n)) → (h : ℕ) → IsExponent h (form_of n) → IsToldAs e (elimination_of h n)
-told_of_front n e four told h k = subst (IsToldAs e) (sym (same_steps h n four)) (told h k)
+told_of_front n e four reported h k = subst (IsToldAs e) (sym (same_steps h n four)) (reported h k)
 
 -- a form of a matrix, whose float point is the baseline of its front
 pub record HasNumbers (n : Normal) (x : List ℤ) : Type 0 where

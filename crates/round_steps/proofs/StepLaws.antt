@@ -54,11 +54,11 @@ settled_form s x float settled = (
 pub record IsRefusedOver (s : Session) (fault : LowerFault) : Type 0 where
   pub normal : Normal
   pub of_rows : IsNormalOf s.arcs (counted s.signals s.scale) s.pairs normal
-  pub told : (h : ℕ) → IsExponent h (form_of normal) → IsToldAs fault (elimination_of h normal)
+  pub reported : (h : ℕ) → IsExponent h (form_of normal) → IsToldAs fault (elimination_of h normal)
 
 -- is so over the one that there is
 over_one : (s : Session) (f : LowerFault) → IsRefusedOver s f → IsRefused s f
-over_one s f a = let some = has_exponent (form_of a.normal) in record { normal = a.normal; of_rows = a.of_rows; h = some.0; exponent = some.1; told = a.told some.0 some.1 }
+over_one s f a = let some = has_exponent (form_of a.normal) in record { normal = a.normal; of_rows = a.of_rows; h = some.0; exponent = some.1; reported = a.reported some.0 some.1 }
 
 -- and ends the round
 pub refused_elimination : (last : Bool) (s : Session) (f : LowerFault) (t : Tail) → t ≡ tail_of f → IsRefusedOver s f → IsRoundDeclined last s t

@@ -17,19 +17,19 @@ pub refused_no_fault : (end : Ending) (line : List ℕ) → end ≡ ending Refus
 refused_no_fault end line same = λ is. let status_is = ap (λ (e : Ending). e.status) same in absurd (cc (status_is, is))
 
 -- ---- the line of a fault
-pub fault_line : (told : List ℕ → Option (List ℕ)) (name : List ℕ) (ends : List ℕ → Ending → Type 0) (end : Ending) → ((text : List ℕ) → ends text end → end.status ≢ ReadFault)
-    → EndsByFile told name ends end → end.status ≡ ReadFault → end.err ≡ read_fault_line name
-fault_line told name ends end none (inl by_text) is = absurd (none by_text.text by_text.ends_so is)
-fault_line told name ends end none (inr (inl large)) is = absurd (refused_no_fault end _ large.end_is is)
-fault_line told name ends end none (inr (inr fault)) is = ap (λ (e : Ending). e.err) fault
+pub fault_line : (text_of : List ℕ → Option (List ℕ)) (name : List ℕ) (ends : List ℕ → Ending → Type 0) (end : Ending) → ((text : List ℕ) → ends text end → end.status ≢ ReadFault)
+    → EndsByFile text_of name ends end → end.status ≡ ReadFault → end.err ≡ read_fault_line name
+fault_line text_of name ends end none (inl by_text) is = absurd (none by_text.text by_text.ends_so is)
+fault_line text_of name ends end none (inr (inl large)) is = absurd (refused_no_fault end _ large.end_is is)
+fault_line text_of name ends end none (inr (inr fault)) is = ap (λ (e : Ending). e.err) fault
 
-pub obs_fault_line : (system : System) (told : List ℕ → Option (List ℕ)) (name : List ℕ) (end : Ending) → StopsAtObs system told name end → end.status ≡ ReadFault → end.err ≡ read_fault_line name
-obs_fault_line system told name end stops is =
-    fault_line told name (IsRefusal (any_of system) (HasObservation system) name) end (λ text refusal. refused_no_fault end _ refusal.end_is) stops is
+pub obs_fault_line : (system : System) (text_of : List ℕ → Option (List ℕ)) (name : List ℕ) (end : Ending) → StopsAtObs system text_of name end → end.status ≡ ReadFault → end.err ≡ read_fault_line name
+obs_fault_line system text_of name end stops is =
+    fault_line text_of name (IsRefusal (any_of system) (HasObservation system) name) end (λ text refusal. refused_no_fault end _ refusal.end_is) stops is
 
-pub nav_fault_line : (system : System) (told : List ℕ → Option (List ℕ)) (name : List ℕ) (end : Ending) → StopsAtNav system told name end → end.status ≡ ReadFault → end.err ≡ read_fault_line name
-nav_fault_line system told name end stops is =
-    fault_line told name (IsRefusal (nav_of system) (HasNavFile system) name) end (λ text refusal. refused_no_fault end _ refusal.end_is) stops is
+pub nav_fault_line : (system : System) (text_of : List ℕ → Option (List ℕ)) (name : List ℕ) (end : Ending) → StopsAtNav system text_of name end → end.status ≡ ReadFault → end.err ≡ read_fault_line name
+nav_fault_line system text_of name end stops is =
+    fault_line text_of name (IsRefusal (nav_of system) (HasNavFile system) name) end (λ text refusal. refused_no_fault end _ refusal.end_is) stops is
 
 -- a fault of a file names it
 pub fault_at : (why : JobStop) (work : FileWork) (names earlier : List (List ℕ)) (name : List ℕ) (later : List (List ℕ)) (stops : Ending → Type 0) → names ≡ earlier ++ name ∷ later

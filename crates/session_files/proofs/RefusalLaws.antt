@@ -37,7 +37,7 @@ not_refused b r o NoBasePosition position signals sparse why = why position
 not_refused b r o NoSignal position signals sparse why = no_lack (bands_of o.bands) b r signals why.1
 not_refused b r o (Dense in_rover epoch) position signals sparse why = not_dense o.gap (tags_of b.epochs) (tags_of r.epochs) in_rover epoch sparse.0 sparse.1 why.1.1
 
-pub never_refused : (told : List ℕ → Option (List ℕ)) (base rover nav : List ℕ) (o : Options) (b r : ObsFile) (n : Records) (end : Ending)
-    → AreAdmitted told base rover nav o → AreFilesOf (system_of o.system) told base rover nav b r n → IsPairRefused b r o end → ⊥
-never_refused told base rover nav o b r n end admitted are refused =
+pub never_refused : (text_of : List ℕ → Option (List ℕ)) (base rover nav : List ℕ) (o : Options) (b r : ObsFile) (n : Records) (end : Ending)
+    → AreAdmitted text_of base rover nav o → AreFilesOf (system_of o.system) text_of base rover nav b r n → IsPairRefused b r o end → ⊥
+never_refused text_of base rover nav o b r n end admitted are refused =
     not_refused b r o refused.what (admitted.position b are.base_is) (admitted.signals b r are.base_is are.rover_is) (admitted.sparse b r are.base_is are.rover_is) refused.why

@@ -12,10 +12,10 @@ use Rattle.job_answers.specs.Endings.{IsAdmitted}
 use Rattle.session_files.specs.SessionFiles.{IsObsOf}
 
 -- all files are there and admitted, and the two aren't refused
-pub record AreAdmitted (told : List ℕ → Option (List ℕ)) (base rover nav : List ℕ) (o : Options) : Type 0 where
-  pub base_is : IsAdmitted told base (HasObservation (system_of o.system))
-  pub rover_is : IsAdmitted told rover (HasObservation (system_of o.system))
-  pub nav_is : IsAdmitted told nav (HasNavFile (system_of o.system))
-  pub position : (b : ObsFile) → IsObsOf (system_of o.system) told base b → HasPosition b
-  pub signals : (b r : ObsFile) → IsObsOf (system_of o.system) told base b → IsObsOf (system_of o.system) told rover r → HaveSignals (bands_of o.bands) b r
-  pub sparse : (b r : ObsFile) → IsObsOf (system_of o.system) told base b → IsObsOf (system_of o.system) told rover r → AreSparse o.gap b r
+pub record AreAdmitted (text_of : List ℕ → Option (List ℕ)) (base rover nav : List ℕ) (o : Options) : Type 0 where
+  pub base_is : IsAdmitted text_of base (HasObservation (system_of o.system))
+  pub rover_is : IsAdmitted text_of rover (HasObservation (system_of o.system))
+  pub nav_is : IsAdmitted text_of nav (HasNavFile (system_of o.system))
+  pub position : (b : ObsFile) → IsObsOf (system_of o.system) text_of base b → HasPosition b
+  pub signals : (b r : ObsFile) → IsObsOf (system_of o.system) text_of base b → IsObsOf (system_of o.system) text_of rover r → HaveSignals (bands_of o.bands) b r
+  pub sparse : (b r : ObsFile) → IsObsOf (system_of o.system) text_of base b → IsObsOf (system_of o.system) text_of rover r → AreSparse o.gap b r

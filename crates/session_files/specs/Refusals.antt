@@ -31,7 +31,7 @@ pub record IsPairRefused (b r : ObsFile) (o : Options) (end : Ending) : Type 0 w
 
 -- A refusal is that of one of the files, or of the two together.
 abbrev pub HaveRefused : (List ℕ → Option (List ℕ)) → Unread → List (List ℕ) → Status → (List ℕ → Type 0) → Type 0
-HaveRefused told left names status tells = status ≡ Refused → Any (IsRefusedFile told left tells) names ⊎ ((what : PairWhat) × tells (pair_line what))
+HaveRefused text_of left names status reports = status ≡ Refused → Any (IsRefusedFile text_of left reports) names ⊎ ((what : PairWhat) × reports (pair_line what))
 
 abbrev pub AreRefusedWhole : (List ℕ → Option (List ℕ)) → Unread → List (List ℕ) → Ending → Type 0
-AreRefusedWhole told left names end = HaveRefused told left names end.status (λ text. end.err ≡ text)
+AreRefusedWhole text_of left names end = HaveRefused text_of left names end.status (λ text. end.err ≡ text)

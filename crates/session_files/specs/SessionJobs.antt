@@ -30,7 +30,7 @@ EndsOnFiles answers o b r n end = AreAnswered answers o b r n end ⊎ IsPairRefu
 
 -- what it ends with, by what is reported of its files
 abbrev pub SessionEnds : SessionAnswers → (List ℕ → Option (List ℕ)) → List ℕ → List ℕ → List ℕ → Options → Ending → Type 0
-SessionEnds answers told base rover nav o end = EndsBySession (system_of o.system) told base rover nav (EndsOnFiles answers o) end
+SessionEnds answers text_of base rover nav o end = EndsBySession (system_of o.system) text_of base rover nav (EndsOnFiles answers o) end
 
 -- a line about the two observation files together
 abbrev pub IsPairLine : List ℕ → Type 0
@@ -42,11 +42,11 @@ IfPairRefused (Err (Refused what)) P = P what
 IfPairRefused _ P = Unit {0}
 
 -- what a run of it with status 0 or 1 says: out has gained its answer on the files
-pub record SaysOfSession (answers : SessionAnswers) (told : List ℕ → Option (List ℕ)) (base rover nav : List ℕ) (o : Options) (status : Status) (out : SinkChange) : Type 0 where
+pub record SaysOfSession (answers : SessionAnswers) (text_of : List ℕ → Option (List ℕ)) (base rover nav : List ℕ) (o : Options) (status : Status) (out : SinkChange) : Type 0 where
   pub base_file : ObsFile
   pub rover_file : ObsFile
   pub records : Records
-  pub are_files : AreFilesOf (system_of o.system) told base rover nav base_file rover_file records
+  pub are_files : AreFilesOf (system_of o.system) text_of base rover nav base_file rover_file records
   pub end : Ending
   pub answer : answers o base_file rover_file records end
   pub status_is : end.status ≡ status

@@ -1,4 +1,3 @@
-ghost use Rattle.std.specs.Prelude.{◌≡◌, ◌++◌};
 ghost use Rattle.outcome_report.specs.OutcomeText.{answer_text, outcome_text, IsWholeAnswer, is_fixed};
 ghost use Rattle.session_jobs.specs.FixJobs.{AnswersFix};
 

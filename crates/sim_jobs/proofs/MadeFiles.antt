@@ -53,10 +53,10 @@ observation_as one other lines file same is = subst (λ (system : System). IsObs
 one_file : (system : System) (lines : List (List ℕ)) (f g : ObsFile) → IsObservation system lines f → IsObservation system lines g → f ≡ g
 one_file system lines f g is also = let same = sym (file_given system lines f is) ∙ file_given system lines g also in cc (same)
 
-file_read : (system : System) (told : List ℕ → Option (List ℕ)) (name text : List ℕ) (f b : ObsFile) → told name ≡ Some text → IsObservation system (lines_of text) f
-    → IsObsOf system told name b → b ≡ f
-file_read system told name text f b is reads of =
-    one_file system (lines_of text) b f (subst (λ (t : List ℕ). IsObservation system (lines_of t) b) (text_told told name text of.text is of.is) of.is_file) reads
+file_read : (system : System) (text_of : List ℕ → Option (List ℕ)) (name text : List ℕ) (f b : ObsFile) → text_of name ≡ Some text → IsObservation system (lines_of text) f
+    → IsObsOf system text_of name b → b ≡ f
+file_read system text_of name text f b is reads of =
+    one_file system (lines_of text) b f (subst (λ (t : List ℕ). IsObservation system (lines_of t) b) (text_told text_of name text of.text is of.is) of.is_file) reads
 
 -- what holds of two simulated files holds of those that are read
 two_as : (t : Tracking) (step : ℕ) (base rover : List (List made.Signals)) (b r : ObsFile) (P : ObsFile → ObsFile → Type 0) → b ≡ file_of t step base → r ≡ file_of t step rover →
@@ -174,12 +174,12 @@ gap_on : (bands system : ℕ) (o : Options) → AreOptionsOn bands system o → 
 gap_on bands system o on = ap (λ (n : Numbers). n.gap) on.numbers ∙ on.are_defaults.gap
 
 -- the three texts, where none has too many bytes
-pub made_admitted : (seed epochs sats bands system : ℕ) (told : List ℕ → Option (List ℕ)) (base rover nav : List ℕ) (o : Options) → epochs ≤ MOST_PAIRS → sats ≤ 15 → IsBandsNumber bands → IsSystem system
-    → (system ≡ 69 → bands ≡ BANDS_L1_L5) → AreOptionsOn bands system o → told (codes "base") ≡ Some base → told (codes "rover") ≡ Some rover → told (codes "nav") ≡ Some nav
+pub made_admitted : (seed epochs sats bands system : ℕ) (text_of : List ℕ → Option (List ℕ)) (base rover nav : List ℕ) (o : Options) → epochs ≤ MOST_PAIRS → sats ≤ 15 → IsBandsNumber bands → IsSystem system
+    → (system ≡ 69 → bands ≡ BANDS_L1_L5) → AreOptionsOn bands system o → text_of (codes "base") ≡ Some base → text_of (codes "rover") ≡ Some rover → text_of (codes "nav") ≡ Some nav
     → IsBaseText seed epochs sats bands system base → IsRoverText seed epochs sats bands system rover → IsNavigationText sats system nav → length base < 2 ^ 23
     → length rover < 2 ^ 23 → length nav < 2 ^ 23
-    → AreAdmitted told (codes "base") (codes "rover") (codes "nav") o
-made_admitted seed epochs sats bands system told base rover nav o few small number is_system galileo on base_told rover_told nav_told base_is rover_is nav_is base_fits rover_fits nav_fits =
+    → AreAdmitted text_of (codes "base") (codes "rover") (codes "nav") o
+made_admitted seed epochs sats bands system text_of base rover nav o few small number is_system galileo on base_told rover_told nav_told base_is rover_is nav_is base_fits rover_fits nav_fits =
     let base_file = (base_reads seed epochs sats bands system base few small base_is).has in
     let rover_file = (rover_reads seed epochs sats bands system rover few small rover_is).has in
     let records = navigation_reads sats system nav small is_system nav_is in
@@ -192,8 +192,8 @@ made_admitted seed epochs sats bands system told base rover nav o few small numb
     let base_obs : IsObservation named_system (lines_of base) (file_of tracking step base_values) = observation_as (system_of system) named_system (lines_of base) (file_of tracking step base_values) same base_file.reads in
     let rover_obs : IsObservation named_system (lines_of rover) (file_of tracking step rover_values) = observation_as (system_of system) named_system (lines_of rover) (file_of tracking step rover_values) same rover_file.reads in
     let nav_file : IsNavFile named_system (lines_of nav) (raws_of records.records) = subst (λ (named_system : System). IsNavFile named_system (lines_of nav) (raws_of records.records)) same records.has in
-    let base_as = λ (b : ObsFile) (of : IsObsOf named_system told (codes "base") b). file_read named_system told (codes "base") base (file_of tracking step base_values) b base_told base_obs of in
-    let rover_as = λ (r : ObsFile) (of : IsObsOf named_system told (codes "rover") r). file_read named_system told (codes "rover") rover (file_of tracking step rover_values) r rover_told rover_obs of in
+    let base_as = λ (b : ObsFile) (of : IsObsOf named_system text_of (codes "base") b). file_read named_system text_of (codes "base") base (file_of tracking step base_values) b base_told base_obs of in
+    let rover_as = λ (r : ObsFile) (of : IsObsOf named_system text_of (codes "rover") r). file_read named_system text_of (codes "rover") rover (file_of tracking step rover_values) r rover_told rover_obs of in
     let share : HaveSignals (bands_of bands) (file_of tracking step base_values) (file_of tracking step rover_values) = shared bands system number galileo step base_values rover_values in
     let signals : HaveSignals (bands_of o.bands) (file_of tracking step base_values) (file_of tracking step rover_values) =
     subst (λ (n : ℕ). HaveSignals (bands_of n) (file_of tracking step base_values) (file_of tracking step rover_values)) (sym (bands_on bands system o on)) share in

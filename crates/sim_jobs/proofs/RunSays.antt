@@ -24,12 +24,12 @@ sim_run_status seed epochs sats bands system end run = job_of_verdict end.status
 -- ---- what is said
 says_at : (seed epochs sats bands system : ℕ) (end t : Ending) (out : SinkChange) → end ≡ t → SaysOfSimRun seed epochs sats bands system t.status out
     → SaysOfSimRun seed epochs sats bands system end.status out
-says_at seed epochs sats bands system end t out same says = subst (λ (e : Ending). SaysOfSimRun seed epochs sats bands system e.status out) (sym same) says
+says_at seed epochs sats bands system end t out same output = subst (λ (e : Ending). SaysOfSimRun seed epochs sats bands system e.status out) (sym same) output
 
 by_verdict : (seed epochs sats bands system : ℕ) (out : SinkChange) (fixed : Bool) → SaysMatch seed epochs sats bands system fixed out
     → SaysOfSimRun seed epochs sats bands system (verdict_status fixed) out
-by_verdict seed epochs sats bands system out true says = says
-by_verdict seed epochs sats bands system out false says = says
+by_verdict seed epochs sats bands system out true output = output
+by_verdict seed epochs sats bands system out false output = output
 
 -- what is written of an ending is what it says of the session
 pub sim_run_says : (seed epochs sats bands system : ℕ) (end : Ending) (out : SinkChange) → SimRunEnds seed epochs sats bands system end
@@ -38,10 +38,10 @@ sim_run_says seed epochs sats bands system end out run written =
     let found = run.ends in
     let answer = found.outcome.answer in
     let printed : Appends out.old out.new (run_text seed epochs sats answer found.matched) = subst (λ (e : Ending). Appends out.old out.new e.out) found.end_is written in
-    let have : HaveOutcome run.told (codes "base") (codes "rover") (codes "nav") run.options found.outcome =
+    let have : HaveOutcome run.text_of (codes "base") (codes "rover") (codes "nav") run.options found.outcome =
     record { base_file = run.base_file; rover_file = run.rover_file; records = run.records; are_files = run.are_files; holds = found.holds } in
     says_at seed epochs sats bands system end _ out found.end_is (by_verdict seed epochs sats bands system out (is_fixed answer) (record {
-      told = run.told;
+      text_of = run.text_of;
       made = run.made;
       options = run.options;
       options_are = run.options_are;

@@ -23,12 +23,12 @@ use Rattle.session_jobs.specs.FixJobs.{IsOutcomeFor, status_of}
 use Rattle.sim_jobs.specs.Matches.{IsMatched}
 
 -- under these three names the files of a session of the seed stand, with these bands of the system with that letter
-pub record AreMadeFiles (seed epochs sats bands system : ℕ) (told : List ℕ → Option (List ℕ)) : Type 0 where
+pub record AreMadeFiles (seed epochs sats bands system : ℕ) (text_of : List ℕ → Option (List ℕ)) : Type 0 where
   pub session : Made
   pub made : IsMade seed epochs sats bands system session
-  pub base_told : told (codes "base") ≡ Some session.base.items
-  pub rover_told : told (codes "rover") ≡ Some session.rover.items
-  pub nav_told : told (codes "nav") ≡ Some session.nav.items
+  pub base_told : text_of (codes "base") ≡ Some session.base.items
+  pub rover_told : text_of (codes "rover") ≡ Some session.rover.items
+  pub nav_told : text_of (codes "nav") ≡ Some session.nav.items
 
 -- the options of a run on these bands of that system which is asked for nothing else
 pub record AreOptionsOn (bands system : ℕ) (o : Options) : Type 0 where
@@ -77,12 +77,12 @@ SimRunEnd o seed epochs sats bands b r n end = EndsWithMatch o seed epochs sats 
 -- what the texts of the session end with, processed on the same bands of the same system with no other option given: they stand for
 -- a session, and aren't refused together
 pub record SimRunEnds (seed epochs sats bands system : ℕ) (end : Ending) : Type 0 where
-  pub told : List ℕ → Option (List ℕ)
-  pub made : AreMadeFiles seed epochs sats bands system told
+  pub text_of : List ℕ → Option (List ℕ)
+  pub made : AreMadeFiles seed epochs sats bands system text_of
   pub options : Options
   pub options_are : AreOptionsOn bands system options
   pub base_file : ObsFile
   pub rover_file : ObsFile
   pub records : Records
-  pub are_files : AreFilesOf (system_of options.system) told (codes "base") (codes "rover") (codes "nav") base_file rover_file records
+  pub are_files : AreFilesOf (system_of options.system) text_of (codes "base") (codes "rover") (codes "nav") base_file rover_file records
   pub ends : EndsWithMatch options seed epochs sats bands base_file rover_file records end

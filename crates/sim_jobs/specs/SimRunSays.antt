@@ -17,22 +17,22 @@ use Rattle.sim_jobs.specs.Matches.{IsMatched}
 use Rattle.sim_jobs.specs.SimRunJobs.{AreMadeFiles, AreOptionsOn, truth_in, run_text}
 
 -- the three texts stand for a session of the options' system, whose outcome is this, with all that `fix` says of one
-pub record HaveOutcome (told : List ℕ → Option (List ℕ)) (base rover nav : List ℕ) (o : Options) (outcome : Outcome) : Type 0 where
+pub record HaveOutcome (text_of : List ℕ → Option (List ℕ)) (base rover nav : List ℕ) (o : Options) (outcome : Outcome) : Type 0 where
   pub base_file : ObsFile
   pub rover_file : ObsFile
   pub records : Records
-  pub are_files : AreFilesOf (system_of o.system) told base rover nav base_file rover_file records
+  pub are_files : AreFilesOf (system_of o.system) text_of base rover nav base_file rover_file records
   pub holds : IsOutcomeFor base_file rover_file records o outcome
 
 -- the made texts stand for a session, whose outcome is a fix or not; out has gained what it is, and `match yes` exactly where it is
 -- a fix with the integers of the truth
 pub record SaysMatch (seed epochs sats bands system : ℕ) (fixed : Bool) (out : SinkChange) : Type 0 where
-  pub told : List ℕ → Option (List ℕ)
-  pub made : AreMadeFiles seed epochs sats bands system told
+  pub text_of : List ℕ → Option (List ℕ)
+  pub made : AreMadeFiles seed epochs sats bands system text_of
   pub options : Options
   pub options_are : AreOptionsOn bands system options
   pub outcome : Outcome
-  pub have : HaveOutcome told (codes "base") (codes "rover") (codes "nav") options outcome
+  pub have : HaveOutcome text_of (codes "base") (codes "rover") (codes "nav") options outcome
   pub fixed_is : is_fixed outcome.answer ≡ fixed
   pub matched : Bool
   pub matched_is : IsTrue matched ↔ IsMatched (truth_in seed sats bands) outcome.answer

@@ -43,11 +43,11 @@ some_pair [] k l = absurd (omega (arith, l))
 some_pair (p ∷ ps) k l = p
 
 pair_told : (arcs : List Arc) (ss : List ℕ) (p : PairRows) (place : Place) → IsRefusedPair arcs ss p (fault.Overwidth place) → (place ≡ FactorPlace) ⊎ (place ≡ Entry)
-pair_told arcs ss p place a = two_places place a.told.0 a.told.1.1
+pair_told arcs ss p place a = two_places place a.reported.0 a.reported.1.1
 
 refused_place : (arcs : List Arc) (ss : List ℕ) (pairs : List PairRows) (place : Place) → IsFormRefused arcs ss pairs (fault.Overwidth place) → (place ≡ FactorPlace) ⊎ (place ≡ Entry)
 refused_place arcs ss pairs place (inl a) = pair_told arcs ss _ place (a.refused (some_pair pairs a.place a.inside))
-refused_place arcs ss pairs place (inr a) = two_places place a.told.0 a.told.1.1
+refused_place arcs ss pairs place (inr a) = two_places place a.reported.0 a.reported.1.1
 
 other_place : (place : Place) → (place ≡ FactorPlace → ⊥) → (place ≡ Entry → ⊥) → (place ≡ FactorPlace) ⊎ (place ≡ Entry) → ⊥
 other_place place f g (inl e) = f e

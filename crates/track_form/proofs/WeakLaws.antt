@@ -27,7 +27,7 @@ use Rattle.track_form.proofs.OneDecision.{some_pair}
 pair_weak : (arcs : List Arc) (ss : List ℕ) (p : PairRows) (column : ℕ) (pivot : ℤ) → IsRefusedPair arcs ss p (fault.Weak column pivot) → IsWeak column pivot
 pair_weak arcs ss p column pivot a =
     let normal : Normal = a.normal in
-    let is_told : IsToldAs (fault.Weak column pivot) (front_of a.h normal) = a.told in
+    let is_told : IsToldAs (fault.Weak column pivot) (front_of a.h normal) = a.reported in
     let is_pivot : IsPivot 0 3 column pivot = weak_of (form_small (first_form a.h normal)) 3 (first_form a.h normal) column pivot refl (is_told.1.0 ∙ ap Err (told_weak column pivot is_told.0 is_told.1.1)) in
     record { column_to = small column is_pivot.column; pivot_in = is_pivot.size }
   where
@@ -52,5 +52,5 @@ sum_weak sum column pivot refusal e f =
 -- ---- so a refusal is a tail of a certificate
 pub refused_fits : (arcs : List Arc) (ss : List ℕ) (pairs : List PairRows) (budget : ℕ) (why : LowerFault) → IsFormRefused arcs ss pairs why → IsTrackTailOf ss arcs pairs budget (track_tail_of why)
 refused_fits arcs ss pairs budget (fault.Weak column pivot) (inl a) = pair_weak arcs ss _ column pivot (a.refused (some_pair pairs a.place a.inside))
-refused_fits arcs ss pairs budget (fault.Weak column pivot) (inr a) = sum_weak a.sum column pivot a.told.0 a.told.1.0 a.told.1.1
+refused_fits arcs ss pairs budget (fault.Weak column pivot) (inr a) = sum_weak a.sum column pivot a.reported.0 a.reported.1.0 a.reported.1.1
 refused_fits arcs ss pairs budget (fault.Overwidth place) a = tt

@@ -155,7 +155,7 @@ same_finish s t same = ap₂ (λ (k : ℕ) (a : List Column). steps 3 (k - 4) a)
 pub no_form : (arcs : List Arc) (ss : List ℕ) (pairs : List PairRows) (why : LowerFault) (fs : List FrontForm) (f : Form) → IsFinishRefused arcs ss pairs why → IsTrackForm arcs ss pairs fs f → ⊥
 no_form arcs ss pairs why fs f a b =
     let same = same_finish a.sum b.sum (one_sum arcs ss pairs a.fronts fs a.sum b.sum a.of_fronts b.of_fronts) in
-    absurd (cc (a.told.1.0, same, b.finished.taken))
+    absurd (cc (a.reported.1.0, same, b.finished.taken))
 
 abbrev refused : Refusal → StepsAnswer
 refused x = Err x
@@ -170,7 +170,7 @@ one_pair : (arcs : List Arc) (ss : List ℕ) (p : PairRows) (a b : LowerFault) �
 one_pair arcs ss p a b s t =
     let same = same_normal arcs ss (p ∷ []) s.normal t.normal s.of_rows t.of_rows in
     let same_exponent : s.h ≡ t.h = exponent_unique s.h t.h (form_of t.normal) (one_exponent arcs ss (p ∷ []) s.normal t.normal s.h s.of_rows t.of_rows s.exponent) t.exponent in
-    one_told a b (front_of s.h s.normal) (front_of t.h t.normal) (same_front s.h s.normal t.normal same ∙ ap (λ (e : ℕ). front_of e t.normal) same_exponent) s.told t.told
+    one_told a b (front_of s.h s.normal) (front_of t.h t.normal) (same_front s.h s.normal t.normal same ∙ ap (λ (e : ℕ). front_of e t.normal) same_exponent) s.reported t.reported
 
 pub one_first : (arcs : List Arc) (ss : List ℕ) (pairs : List PairRows) (a b : LowerFault) → IsFirstRefused arcs ss pairs a → IsFirstRefused arcs ss pairs b → a ≡ b
 one_first arcs ss [] a b s t = absurd (omega (arith, s.inside))
@@ -192,4 +192,4 @@ one_first arcs ss (q ∷ rest) a b s t = by_order (less_or s.place t.place)
 
 pub one_finish : (arcs : List Arc) (ss : List ℕ) (pairs : List PairRows) (a b : LowerFault) → IsFinishRefused arcs ss pairs a → IsFinishRefused arcs ss pairs b → a ≡ b
 one_finish arcs ss pairs a b s t =
-    one_told a b (finish_of s.sum) (finish_of t.sum) (same_finish s.sum t.sum (one_sum arcs ss pairs s.fronts t.fronts s.sum t.sum s.of_fronts t.of_fronts)) s.told t.told
+    one_told a b (finish_of s.sum) (finish_of t.sum) (same_finish s.sum t.sum (one_sum arcs ss pairs s.fronts t.fronts s.sum t.sum s.of_fronts t.of_fronts)) s.reported t.reported

@@ -43,4 +43,4 @@ no_front arcs ss p why f a b =
     let same = same_normal arcs ss (p ∷ []) b.normal a.normal b.of_rows a.of_rows in
     let same_exponent : f.h ≡ a.h = exponent_unique f.h a.h (form_of a.normal) (one_exponent arcs ss (p ∷ []) b.normal a.normal f.h b.of_rows a.of_rows b.front.exponent) a.exponent in
     let whole = same_front f.h b.normal a.normal same ∙ ap (λ (e : ℕ). front_of e a.normal) same_exponent in
-    absurd (cc (a.told.1.0, whole, b.front.taken))
+    absurd (cc (a.reported.1.0, whole, b.front.taken))

@@ -49,7 +49,7 @@ pub record IsFinishRefused (arcs : List Arc) (ss : List ℕ) (pairs : List PairR
   pub fronts : List FrontForm
   pub sum : FrontForm
   pub of_fronts : IsSumOfFronts arcs ss pairs fronts sum
-  pub told : IsToldAs fault (finish_of sum)
+  pub reported : IsToldAs fault (finish_of sum)
 
 -- the upper sum of each pair, at its own move
 abbrev pub pair_uppers : List Arc → List ℕ → List ℤ → List PairRows → List (List ℤ) → List ℤ

@@ -28,7 +28,7 @@ pub record IsRefusedPair (arcs : List Arc) (ss : List ℕ) (p : PairRows) (fault
   pub of_rows : IsNormalOf arcs ss (p ∷ []) normal
   pub h : ℕ
   pub exponent : IsExponent h (form_of normal)
-  pub told : IsToldAs fault (front_of h normal)
+  pub reported : IsToldAs fault (front_of h normal)
 
 abbrev pub HasFront : List Arc → List ℕ → PairRows → Type 0
 HasFront arcs ss p = (f : FrontForm) × IsFrontOfPair arcs ss p f

@@ -23,8 +23,8 @@ fn prints(rt: &impl Abort, alloc: Global, answer: Answer, want: &str) -> Result<
     let mut err = Vec::new(alloc);
     write_outcome(alloc, &mut out, &mut err, &outcome)?;
     assert!(rt; out.as_slice() == want.as_bytes());
-    let told = "pairs 20 of 60\narcs 22\nnote antenna delta not applied\nverdict declined\n";
-    assert!(rt; err.as_slice() == told.as_bytes());
+    let expected = "pairs 20 of 60\narcs 22\nnote antenna delta not applied\nverdict declined\n";
+    assert!(rt; err.as_slice() == expected.as_bytes());
     Ok(())
 }
 

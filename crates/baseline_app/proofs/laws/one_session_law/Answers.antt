@@ -4,7 +4,7 @@ use Rattle.sim_jobs.proofs.SameWords.{one_navigation, base_differs, rover_differ
 use Rattle.baseline_app.proofs.laws.one_session_law.Goals as goal
 
 pub returns-clause-session : goal.returns-clause-session
-returns-clause-session c = λ seed epochs sats bands system one other third told base rover nav base_told rover_told nav_told. record {
+returns-clause-session c = λ seed epochs sats bands system one other third text_of base rover nav base_told rover_told nav_told. record {
   session = record (base.session) { rover = rover.session.rover; nav = nav.session.nav };
   made = record { base = base.made.base; rover = rover.made.rover; nav = nav.made.nav; truth = base.made.truth; offset = base.made.offset };
   base_told = base_told ∙ ap Some base.is_file;

@@ -14,7 +14,7 @@ returns-in-Ok-clause-answer g c =
 pub returns-in-Ok-clause-done : goal.returns-in-Ok-clause-done
 returns-in-Ok-clause-done g c = λ job asked.
     let work = file_work g.F.Files c.args.files.now c.do_job.new.files in
-    subst (λ (j : Job). IsDoneOver work (file_words j) (IsLineOf j) (JobEnds j work.told) c.do_job.result) (one_job (texts_of c.args.words.now) c.in-Ok.job job c.in-Ok.ensures.job asked)
+    subst (λ (j : Job). IsDoneOver work (file_words j) (IsLineOf j) (JobEnds j work.text_of) c.do_job.result) (one_job (texts_of c.args.words.now) c.in-Ok.job job c.in-Ok.ensures.job asked)
     c.do_job.ensures.done
 
 pub returns-in_ok-usage-in-Err-Usage-clause-answer : goal.returns-in_ok-usage-in-Err-Usage-clause-answer

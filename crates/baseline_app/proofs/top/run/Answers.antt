@@ -12,8 +12,8 @@ returns-clause-steady g c = run_steady _ _ _ _ _ c.write_answer.ensures.run
 pub returns-clause-usage : goal.returns-clause-usage
 returns-clause-usage g c = run_usage _ _ _ _ _ c.write_answer.ensures.run
 
-pub returns-clause-says : goal.returns-clause-says
-returns-clause-says g c = λ job asked verdict. run_says _ _ job _ _ _ c.write_answer.ensures.run asked verdict
+pub returns-clause-output : goal.returns-clause-output
+returns-clause-output g c = λ job asked verdict. run_says _ _ job _ _ _ c.write_answer.ensures.run asked verdict
 
 pub returns-clause-complete : goal.returns-clause-complete
 returns-clause-complete g c = λ job asked readable quiet.

@@ -25,7 +25,7 @@ returns-in-Ok-clause-started g c =
       write = c.run.ensures.write;
       steady = c.run.ensures.steady;
       usage = c.run.ensures.usage;
-      says = c.run.ensures.says;
+      output = c.run.ensures.output;
       complete = c.run.ensures.complete;
     }) in
     rw c.in-Ok.is started

@@ -11,5 +11,5 @@ pub returns-clause-refused : goal.returns-clause-refused
 returns-clause-refused c =
     let some = has_exponent (form_of c.sum-normal.result) in
     IfErr-weaker c.lower.result _ _
-    (λ fault told. record { normal = c.sum-normal.result; of_rows = c.sum-normal.ensures.normal; h = some.0; exponent = some.1; told = told some.0 some.1 })
+    (λ fault reported. record { normal = c.sum-normal.result; of_rows = c.sum-normal.ensures.normal; h = some.0; exponent = some.1; reported = reported some.0 some.1 })
     c.lower.ensures.refused

@@ -5,7 +5,7 @@ use Rattle.round_steps.proofs.coarse.numbers_by_form.Goals as goal
 
 pub returns-in-Err-clause-refused : goal.returns-in-Err-clause-refused
 returns-in-Err-clause-refused c = λ last. refused_elimination last c.args.session.now c.in-Err.fault c.tail_of.result c.tail_of.ensures
-    (record { normal = c.args.normal.now; of_rows = c.requires.of_rows; told = c.in-Err.ensures.refused })
+    (record { normal = c.args.normal.now; of_rows = c.requires.of_rows; reported = c.in-Err.ensures.refused })
 
 pub returns-in-Err-float_of-clause-refused : goal.returns-in-Err-float_of-clause-refused
 returns-in-Err-float_of-clause-refused c = λ last. inr (inl (

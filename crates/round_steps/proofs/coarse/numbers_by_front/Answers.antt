@@ -20,7 +20,7 @@ invariant_of-tables c = record {
 
 pub returns-in-Err-clause-refused : goal.returns-in-Err-clause-refused
 returns-in-Err-clause-refused c = λ last. refused_elimination last c.args.session.now c.in-Err.fault c.tail_of.result c.tail_of.ensures
-    (record { normal = c.args.tables.now.normal; of_rows = c.requires.of_rows; told = told_of_front c.args.tables.now.normal c.in-Err.fault c.requires.no_integers c.in-Err.ensures.refused })
+    (record { normal = c.args.tables.now.normal; of_rows = c.requires.of_rows; reported = told_of_front c.args.tables.now.normal c.in-Err.fault c.requires.no_integers c.in-Err.ensures.refused })
 
 pub returns-in-Err-baseline_of-clause-refused : goal.returns-in-Err-baseline_of-clause-refused
 returns-in-Err-baseline_of-clause-refused c =

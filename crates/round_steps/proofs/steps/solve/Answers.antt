@@ -5,7 +5,7 @@ use Rattle.round_steps.proofs.steps.solve.Goals as goal
 
 pub returns-in-Err-clause-refused : goal.returns-in-Err-clause-refused
 returns-in-Err-clause-refused c = λ last. refused_elimination last c.args.session.now c.in-Err.fault c.tail_of.result c.tail_of.ensures
-    (record { normal = c.sum-normal.result; of_rows = c.sum-normal.ensures.normal; told = c.in-Err.ensures.refused })
+    (record { normal = c.sum-normal.result; of_rows = c.sum-normal.ensures.normal; reported = c.in-Err.ensures.refused })
 
 pub returns-in-Err-float_of-clause-refused : goal.returns-in-Err-float_of-clause-refused
 returns-in-Err-float_of-clause-refused c = λ last. inr (inl (

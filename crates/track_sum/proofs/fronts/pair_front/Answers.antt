@@ -18,4 +18,4 @@ pub returns-clause-refused : goal.returns-clause-refused
 returns-clause-refused c =
     let some = has_exponent (form_of c.sum_pair.result) in
     IfErr-weaker c.front.result (λ e. (h : ℕ) → IsExponent h (form_of c.sum_pair.result) → IsToldAs e (front_of h c.sum_pair.result)) (IsRefusedPair c.args.arcs.now (fine_signals c.args.signals) c.args.pair.now)
-    (λ e told. record { normal = c.sum_pair.result; of_rows = c.sum_pair.ensures.normal; h = some.0; exponent = some.1; told = told some.0 some.1 }) c.front.ensures.refused
+    (λ e reported. record { normal = c.sum_pair.result; of_rows = c.sum_pair.ensures.normal; h = some.0; exponent = some.1; reported = reported some.0 some.1 }) c.front.ensures.refused

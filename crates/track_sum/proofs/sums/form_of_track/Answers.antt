@@ -38,7 +38,7 @@ returns-in-Ok-clause-refused c =
     let sum : (fs : List FrontForm) × IsSumOfFronts arcs fine c.args.pairs.now fs c.in-Ok.summed.sum =
     IfOk-at_ok (λ s. (fs : List FrontForm) × IsSumOfFronts arcs fine c.args.pairs.now fs s.sum) c.in-Ok.is c.in_ok-summed.ensures.sum in
     IfErr-weaker c.finished.result (λ e. IsToldAs e (finish_of c.in-Ok.summed.sum)) (λ e. IsFirstRefused arcs fine c.args.pairs.now e ⊎ IsFinishRefused arcs fine c.args.pairs.now e)
-    (λ e told. inr (record { fronts = sum.0; sum = c.in-Ok.summed.sum; of_fronts = sum.1; told = told })) c.finished.ensures.refused
+    (λ e reported. inr (record { fronts = sum.0; sum = c.in-Ok.summed.sum; of_fronts = sum.1; reported = reported })) c.finished.ensures.refused
 
 pub returns-in-Err-clause-refused : goal.returns-in-Err-clause-refused
 returns-in-Err-clause-refused c = inl (IfErr-at_err (IsFirstRefused c.args.arcs.now (fine_signals c.args.signals) c.args.pairs.now) c.in-Err.is c.in_ok-summed.ensures.refused)

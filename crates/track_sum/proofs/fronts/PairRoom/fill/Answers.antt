@@ -27,7 +27,7 @@ pub returns-clause-refused : goal.returns-clause-refused
 returns-clause-refused c =
     let some = has_exponent (form_of c.refill_pair.new.normal) in
     IfErr-weaker c.refill_front.result (λ e. (h : ℕ) → IsExponent h (form_of c.refill_pair.new.normal) → IsToldAs e (front_of h c.refill_pair.new.normal)) (IsRefusedPair c.args.arcs.now (fine_signals c.args.signals) c.args.pair.now)
-    (λ e told. record { normal = c.refill_pair.new.normal; of_rows = c.refill_pair.ensures; h = some.0; exponent = some.1; told = told some.0 some.1 }) c.refill_front.ensures.refused
+    (λ e reported. record { normal = c.refill_pair.new.normal; of_rows = c.refill_pair.ensures; h = some.0; exponent = some.1; reported = reported some.0 some.1 }) c.refill_front.ensures.refused
 
 pub returns-clause-columns : goal.returns-clause-columns
 returns-clause-columns c = c.refill_front.ensures.columns ∙ c.refill_pair.ensures.columns ∙ sym c.requires.columns
