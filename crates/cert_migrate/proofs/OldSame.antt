@@ -8,6 +8,7 @@ use Rattle.obs_rows.specs.declared.rows.Row.{Row}
 use Rattle.obs_rows.specs.declared.pair_rows.PairRows.{PairRows}
 use Rattle.obs_rows.specs.declared.sessions.Session.{Session}
 use Rattle.obs_rows.specs.Ranges.{IsWithin}
+use Rattle.obs_rows.specs.declared.limits.TheConstants.{MOST_RATIO, MOST_BUDGET}
 use Rattle.int_search.specs.declared.answer.TwoBest.{TwoBest}
 use Rattle.integer_form.specs.Kept.{IsZeroFrom}
 use Rattle.cert_data.specs.declared.tails.Tail.{Tail}
@@ -120,9 +121,9 @@ certs_same c d ratio budget session tail = λ i. record {
   session = session i;
   tail = tail i;
   ratio_from = is_prop→PathP (λ j. 1000 ≤ ratio j) (λ j. le_prop) c.ratio_from d.ratio_from i;
-  ratio_to = is_prop→PathP (λ j. ratio j ≤ 100_000) (λ j. le_prop) c.ratio_to d.ratio_to i;
+  ratio_to = is_prop→PathP (λ j. ratio j ≤ MOST_RATIO) (λ j. le_prop) c.ratio_to d.ratio_to i;
   budget_from = is_prop→PathP (λ j. 1 ≤ budget j) (λ j. le_prop) c.budget_from d.budget_from i;
-  budget_to = is_prop→PathP (λ j. budget j ≤ 100_000_000) (λ j. le_prop) c.budget_to d.budget_to i;
+  budget_to = is_prop→PathP (λ j. budget j ≤ MOST_BUDGET) (λ j. le_prop) c.budget_to d.budget_to i;
   tail_fits =
       is_prop→PathP (λ j. IsOldTailOf (session j).arcs (budget j) (tail j)) (λ j. IsOldTailOf-prop (session j).arcs (budget j) (tail j)) c.tail_fits d.tail_fits i;
 }

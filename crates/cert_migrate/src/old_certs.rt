@@ -1,5 +1,6 @@
 //! Certificates of the first version.
 ghost use Rattle.std.specs.Prelude.{◌≤◌};
+ghost use Rattle.obs_rows.specs.declared.limits.TheConstants.{MOST_RATIO, MOST_BUDGET};
 ghost use Rattle.cert_migrate.specs.OldTails.{IsOldTailOf, IsOldTailOf-prop};
 
 use crate::{OldSession, OldTail};
@@ -14,8 +15,8 @@ pub struct OldCert {
     pub session: OldSession,
     pub tail: OldTail,
     pub ghost ratio_from: { 1000 ≤ ratio },
-    pub ghost ratio_to: { ratio ≤ 100_000 },
+    pub ghost ratio_to: { ratio ≤ MOST_RATIO },
     pub ghost budget_from: { 1 ≤ budget },
-    pub ghost budget_to: { budget ≤ 100_000_000 },
+    pub ghost budget_to: { budget ≤ MOST_BUDGET },
     pub ghost tail_fits: { IsOldTailOf session.arcs budget tail } by { IsOldTailOf-prop session.arcs budget tail },
 }

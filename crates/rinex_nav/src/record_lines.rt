@@ -69,7 +69,14 @@ fn moment(year: u16, month: u8, day: u8, hour: u8, minute: u8, second: u8) -> Re
     requires { second ≤ 99 }
     ensures { result ≡ moment_of year month day hour minute second }
 {
-    match tick_of(year, month, day, hour, minute, second as u32 * TICKS_IN_SECOND as u32) {
+    match tick_of(
+        year,
+        month,
+        day,
+        hour,
+        minute,
+        second as u32 * TICKS_IN_SECOND as u32,
+    ) {
         Ok(tick) => Ok(tick),
         Err(_) => Err(Flaw {
             column: 5,

@@ -1,17 +1,18 @@
 -- What the draws of a session stand for, in their order.
 use Rattle.std.specs.Prelude.{Bool, ℕ, ℤ, pos, zero, suc, if◌then◌else◌, ◌+◌, ◌*◌, ◌≤◌, ◌-ℤ◌, unsigned_abs, List, [], ◌∷◌, ◌++◌, All}
 use Rattle.sim_session.specs.Sequence.{drawn_within}
+use Rattle.sim_session.specs.declared.drawn.TheConstants.{MOST_CLOCK}
 
 -- what the rover lies off the base in x, y and z, in mm: at most 1 km each
 abbrev pub offset_of : ℕ → List ℤ
 offset_of seed = drawn_within 1000000 seed 0 ∷ drawn_within 1000000 seed 1 ∷ drawn_within 1000000 seed 2 ∷ []
 
--- the receivers' clock terms in mm: at most 100 m each
+-- the receivers' clock terms in mm
 abbrev pub base_clock_of : ℕ → ℤ
-base_clock_of seed = drawn_within 100000 seed 3
+base_clock_of seed = drawn_within MOST_CLOCK seed 3
 
 abbrev pub rover_clock_of : ℕ → ℤ
-rover_clock_of seed = drawn_within 100000 seed 4
+rover_clock_of seed = drawn_within MOST_CLOCK seed 4
 
 -- the whole cycles on L5 in draw number n, 0 where L5 isn't drawn
 abbrev pub l5_cycles : Bool → ℕ → ℕ → ℤ

@@ -5,6 +5,7 @@ ghost use Rattle.iv_core.specs.Intervals.{Holds, width_of, IsWithin};
 ghost use Rattle.whole_math.specs.Rounding.{IsFloor, IsNearest};
 ghost use Rattle.obs_rows.specs.declared.units.TheConstants.{LIGHT_SPEED};
 ghost use Rattle.sim_session.specs.Observed.{IsDistance, measured, thousandths};
+ghost use Rattle.sim_session.specs.declared.drawn.TheConstants.{MOST_CLOCK};
 
 use iv_core::Iv;
 use obs_rows::LIGHT_SPEED;
@@ -52,7 +53,7 @@ fn whole_units(distance: &Distance) -> i64
 
 /// What is measured of a distance with a clock term in mm, in mm.
 pub fn code_of(distance: &Distance, clock: i64) -> i64
-    requires { unsigned_abs clock ≤ 100000 }
+    requires { unsigned_abs clock ≤ MOST_CLOCK }
     ensures near { (v : Rational) → IsDistance distance.now.units v →
         AreWithin (of_whole (pos 2)) (of_whole result) (measured clock v) }
     ensures low { pos 0 ≤ℤ result }
@@ -63,7 +64,7 @@ pub fn code_of(distance: &Distance, clock: i64) -> i64
 
 // A distance and a clock term in units of 2^-36 mm
 fn with_clock(distance: &Distance, clock: i64) -> i128
-    requires { unsigned_abs clock ≤ 100000 }
+    requires { unsigned_abs clock ≤ MOST_CLOCK }
     ensures value { result ≡ (pos 1000 *ℤ distance.now.units) +ℤ (clock *ℤ pos (2 ^ 36)) }
     ensures low { pos (4900000000 * 2 ^ 36) ≤ℤ result }
     ensures high { result ≤ℤ pos (73000000000 * 2 ^ 36) }
@@ -98,7 +99,7 @@ fn whole_thousandths(scaled: i128) -> i64
 /// What is measured of a distance with a clock term in mm, over the wavelength of a carrier of `frequency` Hz and with `cycles`
 /// whole cycles, in thousandths of a cycle.
 pub fn phase_of(distance: &Distance, clock: i64, frequency: u32, cycles: i64) -> i64
-    requires clock { unsigned_abs clock ≤ 100000 }
+    requires clock { unsigned_abs clock ≤ MOST_CLOCK }
     requires least { 1000000000 ≤ frequency }
     requires most { frequency ≤ 2000000000 }
     requires cycles { unsigned_abs cycles ≤ 1000000 }

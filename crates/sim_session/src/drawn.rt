@@ -10,7 +10,7 @@ use std::alloc::{AllocError, Global};
 const MOST_OFFSET: u32 = 1_000_000;
 
 /// The most in size of a receiver's clock term, in mm.
-const MOST_CLOCK: u32 = 100_000;
+pub(crate) const MOST_CLOCK: u32 = 100_000;
 
 const MOST_CYCLES: u32 = 1_000_000;
 
@@ -124,8 +124,8 @@ pub fn draw_all(alloc: Global, seed: u32, sats: u32, l5: bool) -> Result<Drawn, 
     ensures rover_cycles { IfOk result (λ d. d.cycles.rover.items ≡ first_of (rover_cycles seed sats l5) sats) }
     ensures truth { IfOk result (λ d. d.cycles.truth.items ≡ first_of (truth_of seed sats l5) sats) }
     ensures offset_size { IfOk result (λ d. All (λ z. unsigned_abs z ≤ 1000000) d.offset) }
-    ensures base_clock_size { IfOk result (λ d. unsigned_abs d.base_clock ≤ 100000) }
-    ensures rover_clock_size { IfOk result (λ d. unsigned_abs d.rover_clock ≤ 100000) }
+    ensures base_clock_size { IfOk result (λ d. unsigned_abs d.base_clock ≤ MOST_CLOCK) }
+    ensures rover_clock_size { IfOk result (λ d. unsigned_abs d.rover_clock ≤ MOST_CLOCK) }
     ensures base_cycles_size { IfOk result (λ d. All AreSmall d.cycles.base.items) }
     ensures rover_cycles_size { IfOk result (λ d. All AreSmall d.cycles.rover.items) }
 {

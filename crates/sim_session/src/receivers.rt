@@ -1,6 +1,7 @@
 //! The base and the rover.
 ghost use Rattle.std.specs.Prelude.{◌≡◌, ◌≤◌, pos, ◌+ℤ◌, ◌*ℤ◌, [], ◌∷◌, unsigned_abs};
 ghost use Rattle.sim_session.specs.Texts.{base_point};
+ghost use Rattle.sim_session.specs.declared.drawn.TheConstants.{MOST_CLOCK};
 
 use crate::receiver::Receiver;
 
@@ -8,7 +9,7 @@ use crate::receiver::Receiver;
 const EQUATOR: i64 = 63_781_370_000;
 
 pub fn base_receiver(clock: i64) -> Receiver
-    requires { unsigned_abs clock ≤ 100000 }
+    requires { unsigned_abs clock ≤ MOST_CLOCK }
     ensures point { result.point ≡ base_point }
     ensures clock { result.clock ≡ clock }
 {
@@ -23,7 +24,7 @@ pub fn rover_receiver(x: i64, y: i64, z: i64, clock: i64) -> Receiver
     requires x { unsigned_abs x ≤ 1000000 }
     requires y { unsigned_abs y ≤ 1000000 }
     requires z { unsigned_abs z ≤ 1000000 }
-    requires clock { unsigned_abs clock ≤ 100000 }
+    requires clock { unsigned_abs clock ≤ MOST_CLOCK }
     ensures point { result.point ≡ (pos 63781370000 +ℤ (pos 10 *ℤ x)) ∷ (pos 10 *ℤ y) ∷ (pos 10 *ℤ z) ∷ [] }
     ensures clock { result.clock ≡ clock }
 {

@@ -6,6 +6,7 @@ ghost use Rattle.sim_session.specs.Tracked.{amounts_of};
 use crate::columns::push_fixed;
 use crate::signals::{Signals, Tracking};
 use decimal_text::push_digits;
+use gps_time::TICKS_IN_SECOND;
 use std::alloc::{AllocError, Global};
 
 fn write_version(out: &mut Vec<u8>, tracking: Tracking) -> Result<(), AllocError>
@@ -69,7 +70,13 @@ fn write_epoch_line(
     push_digits(out, (seconds / 3_600) as u64, 2)?;
     out.extend_from_slice(b" ")?;
     push_digits(out, (seconds / 60 % 60) as u64, 2)?;
-    push_fixed(alloc, out, 11, (seconds % 60) as i64 * 10_000_000, 7)?;
+    push_fixed(
+        alloc,
+        out,
+        11,
+        (seconds % 60) as i64 * TICKS_IN_SECOND as i64,
+        7,
+    )?;
     out.extend_from_slice(b"  0")?;
     push_fixed(alloc, out, 3, sats as i64, 0)?;
     out.extend_from_slice(b"\n")?;

@@ -13,7 +13,7 @@ loop-place-preserved c =
     let here : (v : SvPair) → slice_get c.args.boxes.now (length c.loop-place.sights.items) ≡ Some v → IsRoverSight v c.args.point.now c.rover_sight.result = λ v at.
     subst (λ (w : SvPair). IsRoverSight w c.args.point.now c.rover_sight.result)
     (c.index-boxes-place.is ∙ get_or_from_slice_get c.args.boxes.now c.loop-place.place v _ (subst (λ (n : ℕ). slice_get c.args.boxes.now n ≡ Some v) c.loop-place.invariant.count at))
-    (subst (λ (p : List ℤ). IsRoverSight _ p c.rover_sight.result) (sym c.point_at-receiver.ensures) c.rover_sight.ensures) in
+    (subst (λ (p : List ℤ). IsRoverSight c.index-boxes-place.result p c.rover_sight.result) (sym c.point_at-receiver.ensures) c.rover_sight.ensures) in
     record {
       sights = subst (λ (hs : List Sight). AreRoverSights c.args.boxes.now c.args.point.now hs) (sym pushed)
           (sights_pushed c.args.boxes.now c.args.point.now c.loop-place.sights.items c.rover_sight.result c.loop-place.invariant.sights here);

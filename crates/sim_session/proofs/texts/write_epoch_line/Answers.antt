@@ -1,9 +1,10 @@
 use Rattle.std.proofs.Common.{◌≡◌, ◌*◌, ◌%◌, ◌<◌, ◌^◌, ℕ, pos, ◌*ℤ◌, w64, to_z, of_z, arith, append_assoc}
 use Rattle.std.proofs.lemmas.Int.{ints}
+use Rattle.gps_time.specs.declared.TheConstants.{TICKS_IN_SECOND}
 use Rattle.sim_session.specs.ObservationText.{epoch_line}
 use Rattle.sim_session.proofs.texts.write_epoch_line.Goals as goal
 
-second : (s : ℕ) → to_z w64 (of_z w64 (to_z w64 (s % 60) *ℤ pos 10000000)) ≡ pos (s % 60 * 10000000)
+second : (s : ℕ) → to_z w64 (of_z w64 (to_z w64 (s % 60) *ℤ to_z w64 TICKS_IN_SECOND)) ≡ pos (s % 60 * 10000000)
 second s = omega (arith, ints)
 
 count : (n : ℕ) → n < 2 ^ 32 → to_z w64 n ≡ pos n
