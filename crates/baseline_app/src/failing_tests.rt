@@ -4,7 +4,6 @@ use job_answers::Status;
 use line_source::MemFiles;
 use sim_session::{Made, make};
 use std::alloc::{AllocError, Global};
-use std::process::Abort;
 use std::test::Fail;
 
 const ROOM: usize = 8_000_000;
@@ -33,72 +32,98 @@ fn name_told(err: &[u8]) -> usize {
     .unwrap_or(3)
 }
 
+// The run of which that call on the files fails.
+fn run_failing_at(alloc: Global, made: &Made, call: u64) -> Result<Ran, AllocError> {
+    run_fix(alloc, made, ROOM, Fails::at(alloc, Some(call), None, None)?)
+}
+
+// Of the calls on the files, which name is told as the first fails, and so on, up to the run in which none does.
+fn names_told(alloc: Global, made: &Made) -> Result<Vec<usize>, AllocError> {
+    let mut told = Vec::new(alloc);
+    for call in 0..200 {
+        let ran = run_failing_at(alloc, made, call)?;
+        if ran.status == Status::Done {
+            break;
+        }
+        let is_fault = ran.status == Status::ReadFault && ran.out.bytes().is_empty();
+        told.push(if is_fault {
+            name_told(ran.err.bytes())
+        } else {
+            3
+        })?;
+    }
+    Ok(told)
+}
+
+// How often a name is told.
+fn times(told: &[usize], name: usize) -> usize {
+    told.iter().filter(|at| **at == name).count()
+}
+
+// Whether they are in the order of the words, and each stands there once at least for its opening, for its bytes and for its end.
+fn are_in_turn(told: &[usize]) -> bool {
+    told.is_sorted()
+        && (0..3).all(|name| times(told, name) >= 3)
+        && told.iter().all(|name| *name < 3)
+}
+
 // Each file is opened and read in turn, so the calls that fail name B, then R, then N, until no call is left.
 #[test]
 fn each_call_on_the_files_fails(rt: HostRuntime) -> Result<(), Fail> {
     let alloc = rt.alloc();
     let made = make(alloc, 1, 60, 8, 12, b'G')?;
+    let told = names_told(alloc, &made)?;
+    assert!(rt; are_in_turn(&told));
     let whole = run_fix(alloc, &made, ROOM, Fails::none(alloc))?;
+    let ran = run_failing_at(alloc, &made, told.len() as u64)?;
     assert_eq!(rt; whole.status, Status::Done);
-    let mut faults = [0u32; 4];
-    let mut last = 0;
-    let mut finished = false;
-    for call in 0..200 {
-        let mut fails = Fails::none(alloc);
-        fails.files.push(call)?;
-        let ran = run_fix(alloc, &made, ROOM, fails)?;
-        if ran.status == Status::Done {
-            assert!(rt; ran.out.bytes() == whole.out.bytes());
-            assert!(rt; ran.err.bytes() == whole.err.bytes());
-            finished = true;
-            break;
-        }
-        assert_eq!(rt; ran.status, Status::ReadFault);
-        assert!(rt; ran.out.bytes().is_empty());
-        let name = name_told(ran.err.bytes());
-        assert!(rt; last <= name);
-        last = name;
-        let calls = &mut faults[name.min(3)];
-        *calls = calls.saturating_add(1);
-    }
-    assert!(rt; finished);
-    // a name stands there once at least for its opening, for its bytes and for its end
-    assert!(rt; faults[0] >= 3 && faults[1] >= 3 && faults[2] >= 3);
-    assert_eq!(rt; faults[3], 0);
+    expect_run(
+        &rt,
+        &ran,
+        Status::Done,
+        whole.out.bytes(),
+        whole.err.bytes(),
+    );
     Ok(())
 }
+
+const WRITE_FAULT: &[u8] = b"write fault\n";
 
 #[test]
 fn each_sink_fails(rt: HostRuntime) -> Result<(), Fail> {
     let alloc = rt.alloc();
     let made = make(alloc, 1, 60, 8, 12, b'G')?;
     let whole = run_fix(alloc, &made, ROOM, Fails::none(alloc))?;
-    let text = whole.out.bytes();
-    assert!(rt; text.len() > 4096);
-    for room in [7, 100, 4096] {
-        let ran = run_fix(alloc, &made, room, Fails::none(alloc))?;
-        assert_eq!(rt; ran.status, Status::WriteFault);
-        assert_eq!(rt; ran.out.bytes().len(), room);
-        assert!(rt; text.starts_with(ran.out.bytes()));
-        assert_eq!(rt; ran.err.bytes(), b"write fault\n".as_slice());
+    let (text, told) = (whole.out.bytes(), whole.err.bytes());
+    // the room for out, the calls of out and of err that fail; then the status, how much of the text is written, and what is told.
+    // The last row's calls are never made.
+    let rows = [
+        (7, None, None, Status::WriteFault, 7, WRITE_FAULT),
+        (100, None, None, Status::WriteFault, 100, WRITE_FAULT),
+        (4096, None, None, Status::WriteFault, 4096, WRITE_FAULT),
+        (ROOM, Some(0), None, Status::WriteFault, 0, WRITE_FAULT),
+        (
+            ROOM,
+            None,
+            Some(0),
+            Status::WriteFault,
+            text.len(),
+            b"".as_slice(),
+        ),
+        (
+            ROOM,
+            Some(text.len() as u64),
+            Some(1),
+            Status::Done,
+            text.len(),
+            told,
+        ),
+    ];
+    for row in rows.iter() {
+        let (room, out, err, status, written, told) = *row;
+        let ran = run_fix(alloc, &made, room, Fails::at(alloc, None, out, err)?)?;
+        let written = text.get(..written).ok_or("a short text")?;
+        expect_run(&rt, &ran, status, written, told);
     }
-    let mut fails = Fails::none(alloc);
-    fails.out.push(0)?;
-    let ran = run_fix(alloc, &made, ROOM, fails)?;
-    expect_run(&rt, &ran, Status::WriteFault, "", "write fault\n");
-    let mut fails = Fails::none(alloc);
-    fails.err.push(0)?;
-    let ran = run_fix(alloc, &made, ROOM, fails)?;
-    assert_eq!(rt; ran.status, Status::WriteFault);
-    assert!(rt; ran.out.bytes() == text);
-    assert!(rt; ran.err.bytes().is_empty());
-    // a call that is never made
-    let mut fails = Fails::none(alloc);
-    fails.out.push(text.len() as u64)?;
-    fails.err.push(1)?;
-    let ran = run_fix(alloc, &made, ROOM, fails)?;
-    assert_eq!(rt; ran.status, Status::Done);
-    assert!(rt; ran.out.bytes() == text);
-    assert!(rt; ran.err.bytes() == whole.err.bytes());
     Ok(())
 }

@@ -8,8 +8,8 @@ use std::alloc::{AllocError, Global};
 use std::process::Abort;
 use std::test::Fail;
 
-const USAGE: &str =
-    "usage: baseline fix|check|residuals|zero|list|orbit|arcs|sim|migrate|track|check-track WORDS\n";
+pub(crate) const USAGE: &[u8] =
+    b"usage: baseline fix|check|residuals|zero|list|orbit|arcs|sim|migrate|track|check-track WORDS\n";
 
 #[derive(Drop)]
 pub(crate) struct Ran {
@@ -34,6 +34,28 @@ impl Fails {
             err: Vec::new(alloc),
         }
     }
+
+    // One call of each at most.
+    pub(crate) fn at(
+        alloc: Global,
+        files: Option<u64>,
+        out: Option<u64>,
+        err: Option<u64>,
+    ) -> Result<Fails, AllocError> {
+        Ok(Fails {
+            files: calls_of(alloc, files)?,
+            out: calls_of(alloc, out)?,
+            err: calls_of(alloc, err)?,
+        })
+    }
+}
+
+fn calls_of(alloc: Global, call: Option<u64>) -> Result<Vec<u64>, AllocError> {
+    let mut calls = Vec::new(alloc);
+    if let Some(call) = call {
+        calls.push(call)?;
+    }
+    Ok(calls)
 }
 
 pub(crate) fn words_of(alloc: Global, words: &[&str]) -> Result<Vec<String>, AllocError> {
@@ -95,10 +117,31 @@ pub(crate) fn run_on(
     run_over(alloc, words, &mut files, room, 7, fails.out, fails.err)
 }
 
-pub(crate) fn expect_run(rt: &impl Abort, ran: &Ran, status: Status, out: &str, err: &str) {
-    assert_eq!(rt; ran.out.bytes(), out.as_bytes(), "at {out}{err}");
-    assert_eq!(rt; ran.err.bytes(), err.as_bytes(), "at {out}{err}");
-    assert_eq!(rt; ran.status, status, "at {out}{err}");
+pub(crate) fn expect_run(rt: &impl Abort, ran: &Ran, status: Status, out: &[u8], err: &[u8]) {
+    let found = (ran.status, ran.out.bytes(), ran.err.bytes());
+    assert_eq!(rt; found, (status, out, err));
+}
+
+// A run on the file F: the command, the text, the room for out, the calls of the files, of out and of err that fail, and what comes
+// of it.
+pub(crate) struct Case {
+    pub(crate) command: &'static str,
+    pub(crate) text: &'static [u8],
+    pub(crate) room: usize,
+    pub(crate) fails: [Option<u64>; 3],
+    pub(crate) status: Status,
+    pub(crate) out: &'static [u8],
+    pub(crate) err: &'static [u8],
+}
+
+pub(crate) fn expect_cases(rt: &impl Abort, alloc: Global, cases: &[Case]) -> Result<(), Fail> {
+    for case in cases {
+        let [files, out, err] = case.fails;
+        let fails = Fails::at(alloc, files, out, err)?;
+        let ran = run_on(alloc, &[case.command, "F"], case.text, case.room, fails)?;
+        expect_run(rt, &ran, case.status, case.out, case.err);
+    }
+    Ok(())
 }
 
 #[test]
@@ -116,7 +159,7 @@ fn wrong_words_open_no_file(rt: HostRuntime) -> Result<(), Fail> {
             Vec::new(alloc),
             Vec::new(alloc),
         )?;
-        expect_run(&rt, &ran, Status::Usage, "", USAGE);
+        expect_run(&rt, &ran, Status::Usage, b"", USAGE);
         // the first call on the files is the one that fails, and it is still to come
         assert!(rt; load(alloc, &mut files, "F").is_err());
     }
@@ -136,45 +179,107 @@ fn an_empty_name_is_told(rt: HostRuntime) -> Result<(), Fail> {
         Vec::new(alloc),
         Vec::new(alloc),
     )?;
-    let line = "refused:  line 3 column 1: bad line\n";
-    expect_run(&rt, &ran, Status::Refused, "", line);
+    let line = b"refused:  line 3 column 1: bad line\n";
+    expect_run(&rt, &ran, Status::Refused, b"", line);
     Ok(())
 }
 
 const ROWS: &[u8] = b"zero 1\nz 1\ndiff 61\ndiff 59\ndiff 63\n";
 
 // The file is opened, read, and read to its end.
+static FILE_CALLS: [Case; 4] = [
+    Case {
+        command: "zero",
+        text: ROWS,
+        room: 1000,
+        fails: [Some(0), None, None],
+        status: Status::ReadFault,
+        out: b"",
+        err: b"read fault: F\n",
+    },
+    Case {
+        command: "zero",
+        text: ROWS,
+        room: 1000,
+        fails: [Some(1), None, None],
+        status: Status::ReadFault,
+        out: b"",
+        err: b"read fault: F\n",
+    },
+    Case {
+        command: "zero",
+        text: ROWS,
+        room: 1000,
+        fails: [Some(2), None, None],
+        status: Status::ReadFault,
+        out: b"",
+        err: b"read fault: F\n",
+    },
+    Case {
+        command: "zero",
+        text: ROWS,
+        room: 1000,
+        fails: [Some(3), None, None],
+        status: Status::Done,
+        out: b"optimal 1 sum 11\n",
+        err: b"",
+    },
+];
+
 #[test]
 fn each_call_on_the_files_fails(rt: HostRuntime) -> Result<(), Fail> {
-    let alloc = rt.alloc();
-    for call in 0..4 {
-        let mut fails = Fails::none(alloc);
-        fails.files.push(call)?;
-        let ran = run_on(alloc, &["zero", "F"], ROWS, 1000, fails)?;
-        if call < 3 {
-            expect_run(&rt, &ran, Status::ReadFault, "", "read fault: F\n");
-        } else {
-            expect_run(&rt, &ran, Status::Done, "optimal 1 sum 11\n", "");
-        }
-    }
-    Ok(())
+    expect_cases(&rt, rt.alloc(), &FILE_CALLS)
 }
+
+static SINK_CALLS: [Case; 5] = [
+    Case {
+        command: "zero",
+        text: ROWS,
+        room: 1000,
+        fails: [None, Some(0), None],
+        status: Status::WriteFault,
+        out: b"",
+        err: b"write fault\n",
+    },
+    Case {
+        command: "zero",
+        text: ROWS,
+        room: 1000,
+        fails: [None, Some(1), None],
+        status: Status::WriteFault,
+        out: b"optimal",
+        err: b"write fault\n",
+    },
+    Case {
+        command: "zero",
+        text: ROWS,
+        room: 1000,
+        fails: [None, Some(2), None],
+        status: Status::WriteFault,
+        out: b"optimal 1 sum ",
+        err: b"write fault\n",
+    },
+    Case {
+        command: "zero",
+        text: ROWS,
+        room: 10,
+        fails: [None; 3],
+        status: Status::WriteFault,
+        out: b"optimal 1 ",
+        err: b"write fault\n",
+    },
+    Case {
+        command: "zero",
+        text: b"",
+        room: 1000,
+        fails: [None, None, Some(1)],
+        status: Status::Refused,
+        out: b"",
+        err: b"refused",
+    },
+];
 
 #[test]
 fn each_call_on_a_sink_fails(rt: HostRuntime) -> Result<(), Fail> {
-    let alloc = rt.alloc();
-    let prefixes = ["", "optimal", "optimal 1 sum "];
-    for (call, prefix) in prefixes.iter().enumerate() {
-        let mut fails = Fails::none(alloc);
-        fails.out.push(call as u64)?;
-        let ran = run_on(alloc, &["zero", "F"], ROWS, 1000, fails)?;
-        expect_run(&rt, &ran, Status::WriteFault, *prefix, "write fault\n");
-    }
-    let ran = run_on(alloc, &["zero", "F"], ROWS, 10, Fails::none(alloc))?;
-    expect_run(&rt, &ran, Status::WriteFault, "optimal 1 ", "write fault\n");
-    let mut fails = Fails::none(alloc);
-    fails.err.push(1)?;
-    let ran = run_on(alloc, &["zero", "F"], b"", 1000, fails)?;
-    expect_run(&rt, &ran, Status::Refused, "", "refused");
-    Ok(())
+    expect_cases(&rt, rt.alloc(), &SINK_CALLS)
 }

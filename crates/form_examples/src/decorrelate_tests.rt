@@ -6,7 +6,7 @@ ghost use Rattle.decorrelate.specs.Starts.{AreWeightsBehind};
 
 use crate::decorrelate_cases::{CASES, Case};
 use decorrelate::{Unimodular, reduce};
-use form_tables::{BASELINE_COLUMNS, FactorTable, MOST_FACTORS, MOST_INTEGERS};
+use form_tables::{BASELINE_COLUMNS, FactorTable, MOST_FACTORS, MOST_INTEGERS, MapTable};
 
 // The next number of a linear congruential generator.
 fn next(state: u64) -> u64 {
@@ -103,25 +103,25 @@ fn has_map(case: &Case) -> bool {
     case.map.len() == case.size * case.size
 }
 
+fn corner_of(map: &MapTable) -> [[i64; 2]; 2] {
+    [[map.at(0, 0), map.at(0, 1)], [map.at(1, 0), map.at(1, 1)]]
+}
+
 #[test]
 fn one_turn(rt: HostRuntime) {
     let mut d = [1; MOST_FACTORS];
     d[3] = 1000;
     d[4] = 10;
     let mut l = no_factors();
-    assert!(rt; set_factor(&mut l, 4, 3, 3489660928));
+    let is_set = set_factor(&mut l, 4, 3, 3489660928);
     let change = reduce(2, &d, &l);
-    let map = change.map;
-    assert_eq!(rt; (map.at(0, 0), map.at(0, 1)), (-3, 1));
-    assert_eq!(rt; (map.at(1, 0), map.at(1, 1)), (1, 0));
-    let back = change.back;
-    assert_eq!(rt; (back.at(0, 0), back.at(0, 1)), (0, 1));
-    assert_eq!(rt; (back.at(1, 0), back.at(1, 1)), (1, 3));
+    let found = (is_set, corner_of(&change.map), corner_of(&change.back));
+    assert_eq!(rt; found, (true, [[-3, 1], [1, 0]], [[0, 1], [1, 3]]));
 }
 
 #[test]
 fn maps_of_drawn_forms(rt: HostRuntime) {
-    for case in &CASES {
+    for case in CASES.iter() {
         assert!(rt; has_map(case));
     }
 }

@@ -13,35 +13,37 @@ fn eliminates_the_first_of_two_columns(rt: HostRuntime) {
     table.set(1, 1, 1 << 30);
     let mut factors = FactorTable::zeros();
     let mut kept = [0; MOST_FACTORS];
-    assert!(rt; take_steps(&mut table, &mut factors, &mut kept, 0, 1, 2).is_ok());
-    assert_eq!(rt; kept[0], 1073740800);
-    assert_eq!(rt; factors.at(1, 0), 536870912);
-    assert_eq!(rt; table.at(1, 1), 805306366);
+    let is_taken = take_steps(&mut table, &mut factors, &mut kept, 0, 1, 2).is_ok();
+    let found = (is_taken, kept[0], factors.at(1, 0), table.at(1, 1));
+    assert_eq!(rt; found, (true, 1073740800, 536870912, 805306366));
+}
+
+// What is kept of one pivot, or where the steps stop.
+fn kept_of(pivot: i128) -> Result<i64, (usize, i128, StepFault)>
+    requires { unsigned_abs pivot ≤ 2 ^ 52 }
+{
+    let mut table = NormalTable::zeros();
+    table.set(0, 0, pivot);
+    let mut factors = FactorTable::zeros();
+    let mut kept = [0; MOST_FACTORS];
+    match take_steps(&mut table, &mut factors, &mut kept, 0, 1, 2) {
+        Ok(()) => Ok(kept[0]),
+        Err(e) => Err((e.column, e.pivot, e.stop)),
+    }
 }
 
 // A pivot below 2^20 is weak, and one at it is not.
 #[test]
 fn stops_at_a_weak_pivot(rt: HostRuntime) {
-    let mut factors = FactorTable::zeros();
-    let mut kept = [0; MOST_FACTORS];
-    let mut table = NormalTable::zeros();
-    table.set(0, 0, -6);
-    let stopped = take_steps(&mut table, &mut factors, &mut kept, 0, 1, 2).err();
-    assert_eq!(rt;
-        stopped.map(|e| (e.column, e.pivot, e.stop)),
-        Some((0, -6, StepFault::Weak))
-    );
-    let mut least = NormalTable::zeros();
-    least.set(0, 0, 1 << 20);
-    assert!(rt; take_steps(&mut least, &mut factors, &mut kept, 0, 1, 2).is_ok());
-    assert_eq!(rt; kept[0], (1 << 20) - 1);
+    assert_eq!(rt; kept_of(-6), Err((0, -6, StepFault::Weak)));
+    assert_eq!(rt; kept_of(1 << 20), Ok((1 << 20) - 1));
 }
 
 // Three columns, the last two beside each other over a pivot of 2^20: what p · q / a is to the nearest.
-fn other_entry(p: i128, q: i128) -> Option<i128>
-    requires p_size { unsigned_abs p ≤ 2 ^ 52 }
-    requires q_size { unsigned_abs q ≤ 2 ^ 52 }
-{
+fn other_entry(p: i128, q: i128) -> Option<i128> {
+    if p.unsigned_abs() > 1 << 52 || q.unsigned_abs() > 1 << 52 {
+        return None;
+    }
     let mut table = NormalTable::zeros();
     table.set(0, 0, 1 << 20);
     table.set(0, 1, p);
@@ -54,17 +56,26 @@ fn other_entry(p: i128, q: i128) -> Option<i128>
     taken.ok().map(|()| table.at(1, 2).wrapping_neg())
 }
 
-// The share of the first entry in the pivot is below 1024 or not, and the quotient lies on either side of a half or at it.
+const HALF: i128 = 1 << 19;
+
+// Two entries, and the quotient. The share of the first entry in the pivot is below 1024 or not, and the quotient lies on either side
+// of a half or at it.
+static QUOTIENTS: [(i128, i128, i128); 9] = [
+    (1, HALF, 1),
+    (1, HALF - 1, 0),
+    (1, -HALF, 0),
+    (1, -HALF - 1, -1),
+    (1 << 29, 3, 1536),
+    (1 << 30, 3, 3072),
+    ((1 << 31) + 1, HALF, 1073741825),
+    ((1 << 31) + 1, HALF - 1, 1073739776),
+    (-(1 << 31) - 1, HALF, -1073741824),
+];
+
 #[test]
 fn rounds_to_the_nearest_by_any_share(rt: HostRuntime) {
-    let half = 1 << 19;
-    assert_eq!(rt; other_entry(1, half), Some(1));
-    assert_eq!(rt; other_entry(1, half - 1), Some(0));
-    assert_eq!(rt; other_entry(1, -half), Some(0));
-    assert_eq!(rt; other_entry(1, -half - 1), Some(-1));
-    assert_eq!(rt; other_entry(1 << 29, 3), Some(1536));
-    assert_eq!(rt; other_entry(1 << 30, 3), Some(3072));
-    assert_eq!(rt; other_entry((1 << 31) + 1, half), Some(1073741825));
-    assert_eq!(rt; other_entry((1 << 31) + 1, half - 1), Some(1073739776));
-    assert_eq!(rt; other_entry(-(1 << 31) - 1, half), Some(-1073741824));
+    for row in QUOTIENTS.iter() {
+        let (p, q, want) = *row;
+        assert_eq!(rt; other_entry(p, q), Some(want), "of {p} and {q}");
+    }
 }

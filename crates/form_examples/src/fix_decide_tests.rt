@@ -16,6 +16,7 @@ use obs_rows::{
     integer_count,
 };
 use std::alloc::{AllocError, Global};
+use std::test::Fail;
 
 // Whether all are below the limit in size.
 fn are_below(numbers: &[i64], limit: u64) -> bool
@@ -168,24 +169,39 @@ static KNOWN: [Known; 7] = [
     },
 ];
 
+// What of the sums of a known session isn't as wanted.
+fn upper_fault(alloc: Global, known: &Known) -> Result<Option<&'static str>, AllocError> {
+    let Some(mut made) = drawn_session(alloc, known.case)? else {
+        return Ok(Some("the session"));
+    };
+    let Ok(form) = lower(&sum(&made.session)) else {
+        return Ok(Some("no form"));
+    };
+    if form.h != known.h {
+        return Ok(Some("the exponent"));
+    }
+    if upper_of(&made.session, &form, &made.z, &made.moved) != Some(Ok(known.upper)) {
+        return Ok(Some("the upper sum"));
+    }
+    let Some(first) = made.z.first_mut() else {
+        return Ok(Some("no integer"));
+    };
+    *first = first.wrapping_add(1);
+    if upper_of(&made.session, &form, &made.z, &made.moved) != Some(Ok(known.other)) {
+        return Ok(Some("the sum of one more"));
+    }
+    Ok(None)
+}
+
 #[test]
 fn upper_sums_of_seven_sessions(rt: HostRuntime) -> Result<(), AllocError> {
-    for known in &KNOWN {
-        let Some(mut made) = drawn_session(rt.alloc(), known.case)? else {
-            assert!(rt; false, "the session is in range");
-            return Ok(());
-        };
-        let Ok(form) = lower(&sum(&made.session)) else {
-            assert!(rt; false, "the session has a form");
-            return Ok(());
-        };
-        assert_eq!(rt; form.h, known.h);
-        let found = upper_of(&made.session, &form, &made.z, &made.moved);
-        assert_eq!(rt; found, Some(Ok(known.upper)));
-        assert!(rt; made.z.len() > 0);
-        made.z[0] = made.z[0].wrapping_add(1);
-        let found = upper_of(&made.session, &form, &made.z, &made.moved);
-        assert_eq!(rt; found, Some(Ok(known.other)));
+    for known in KNOWN.iter() {
+        assert_eq!(rt;
+            upper_fault(rt.alloc(), known)?,
+            None,
+            "of seed {}",
+            known.case.seed
+        );
     }
     Ok(())
 }
@@ -208,40 +224,50 @@ fn decision_of(session: &Session, ratio: u32) -> Option<Result<Decision, Overwid
     Some(decide(session, &form, &best, ratio))
 }
 
-// The least integers are those that each session was made with.
+// What of the decision of a known session isn't as wanted. The least integers are those that it was made with.
+fn decision_fault(alloc: Global, known: &Known) -> Result<Option<&'static str>, AllocError> {
+    let Some(made) = drawn_session(alloc, known.case)? else {
+        return Ok(Some("the session"));
+    };
+    let Some(Ok(decision)) = decision_of(&made.session, 2000) else {
+        return Ok(Some("no decision"));
+    };
+    if (decision.fixed, decision.moved, decision.top) != (known.fixed, known.moved, known.top) {
+        Ok(Some("the decision"))
+    } else if decision.best.first.get(..decision.best.size) != Some(made.z.as_slice()) {
+        Ok(Some("the integers"))
+    } else {
+        Ok(None)
+    }
+}
+
 #[test]
 fn decides_seven_sessions(rt: HostRuntime) -> Result<(), AllocError> {
-    for known in &KNOWN {
-        let Some(made) = drawn_session(rt.alloc(), known.case)? else {
-            assert!(rt; false, "the session is in range");
-            return Ok(());
-        };
-        let Some(Ok(decision)) = decision_of(&made.session, 2000) else {
-            assert!(rt; false, "the session has a decision");
-            return Ok(());
-        };
-        assert_eq!(rt; decision.fixed, known.fixed);
-        assert_eq!(rt; decision.moved, known.moved);
-        assert_eq!(rt; decision.top, known.top);
-        assert_eq!(rt; decision.best.size, made.z.len());
-        assert!(rt; (0..made.z.len()).all(|k| k >= 60 || decision.best.first[k] == made.z[k]));
+    for known in KNOWN.iter() {
+        assert_eq!(rt;
+            decision_fault(rt.alloc(), known)?,
+            None,
+            "of seed {}",
+            known.case.seed
+        );
     }
     Ok(())
 }
 
+// Whether the last session is fixed by a ratio.
+fn is_fixed_by(session: &Session, ratio: u32) -> Option<bool> {
+    match decision_of(session, ratio) {
+        Some(Ok(decision)) => Some(decision.fixed),
+        _ => None,
+    }
+}
+
 // The values of the last session are 1.40663 apart.
 #[test]
-fn a_ratio_decides(rt: HostRuntime) -> Result<(), AllocError> {
-    let Some(made) = drawn_session(rt.alloc(), KNOWN[6].case)? else {
-        assert!(rt; false, "the session is in range");
-        return Ok(());
-    };
+fn a_ratio_decides(rt: HostRuntime) -> Result<(), Fail> {
+    let made = drawn_session(rt.alloc(), KNOWN[6].case)?.ok_or("no session")?;
     for (ratio, fixed) in [(1000, true), (1406, true), (1407, false), (100_000, false)] {
-        let Some(Ok(decision)) = decision_of(&made.session, ratio) else {
-            assert!(rt; false, "the session has a decision");
-            return Ok(());
-        };
-        assert_eq!(rt; decision.fixed, fixed);
+        assert_eq!(rt; is_fixed_by(&made.session, ratio), Some(fixed));
     }
     Ok(())
 }
@@ -253,25 +279,22 @@ fn a_tie_is_not_separated(rt: HostRuntime) {
     assert_eq!(rt; is_separated(2000, 23, 2944), false);
 }
 
+// The place at which the decision of a session is too wide with a clock of `by` units that all rows share, if it is.
+fn wide_with(alloc: Global, session: &Session, by: i64) -> Result<Option<Place>, Fail> {
+    let later = later_session(alloc, session, by)?.ok_or("no session")?;
+    let answer = decision_of(&later, 2000).ok_or("no two least vectors")?;
+    Ok(answer.err().map(|e| e.place))
+}
+
 // A clock that all rows share doesn't change the form. 2^33 units of it leave the upper sum no room.
 #[test]
-fn a_great_clock_is_too_wide(rt: HostRuntime) -> Result<(), AllocError> {
-    let Some(made) = drawn_session(rt.alloc(), KNOWN[0].case)? else {
-        assert!(rt; false, "the session is in range");
-        return Ok(());
-    };
-    for (by, refused) in [(1 << 32, false), (1 << 33, true)] {
-        let Some(later) = later_session(rt.alloc(), &made.session, by)? else {
-            assert!(rt; false, "the session is in range");
-            return Ok(());
-        };
-        let Some(answer) = decision_of(&later, 2000) else {
-            assert!(rt; false, "the session has two least vectors");
-            return Ok(());
-        };
-        let wide = answer.err().map(|e| e.place);
-        assert_eq!(rt; wide, if refused { Some(Place::Sum) } else { None });
-    }
+fn a_great_clock_is_too_wide(rt: HostRuntime) -> Result<(), Fail> {
+    let made = drawn_session(rt.alloc(), KNOWN[0].case)?.ok_or("no session")?;
+    assert_eq!(rt; wide_with(rt.alloc(), &made.session, 1 << 32)?, None);
+    assert_eq!(rt;
+        wide_with(rt.alloc(), &made.session, 1 << 33)?,
+        Some(Place::Sum)
+    );
     Ok(())
 }
 
@@ -331,58 +354,63 @@ fn pair_of(
 
 const TOO_WIDE: Option<Result<i128, Overwidth>> = Some(Err(Overwidth { place: Place::Sum }));
 
-// 56 · (2^34 - 2)² + 49 · 2², times 24024 · (3 · 10000 + 3 · 1)
+// Integers, a move, and the sum of the widest pair there: 56 · (2^34 - 2)² + 49 · 2², times 24024 · (3 · 10000 + 3 · 1). A cycle
+// toward 0 is well, and a cycle more is too far, as the greatest numbers are.
+static OF_THE_WIDEST: [([i64; 3], i64, Option<Result<i128, Overwidth>>); 7] = [
+    (
+        [0; 3],
+        0,
+        Some(Ok(11_913_455_123_984_556_853_194_966_562_080)),
+    ),
+    (
+        [0, -1, 0],
+        0,
+        Some(Ok(11_912_497_769_817_028_148_149_667_362_080)),
+    ),
+    (
+        [0, 0, -1],
+        0,
+        Some(Ok(11_912_456_177_840_598_478_112_736_802_080)),
+    ),
+    ([1, 0, 0], 0, TOO_WIDE),
+    ([0, 0, 1], 0, TOO_WIDE),
+    ([(1 << 30) - 1, 1 - (1 << 30), 0], (1 << 46) - 1, TOO_WIDE),
+    ([1 - (1 << 30), 0, (1 << 30) - 1], 1 - (1 << 46), TOO_WIDE),
+];
+
 #[test]
-fn widest_pair_has_a_sum(rt: HostRuntime) -> Result<(), AllocError> {
+fn widest_pair_has_a_sum(rt: HostRuntime) -> Result<(), Fail> {
     let arcs = arcs_of(rt.alloc(), 15)?;
-    let Some(pair) = widest_pair(rt.alloc())? else {
-        assert!(rt; false, "the rows are in range");
-        return Ok(());
-    };
-    let found = pair_of(&arcs, &pair, &[0; 3], &[0; 3]);
-    assert_eq!(rt; found, Some(Ok(11_913_455_123_984_556_853_194_966_562_080)));
-    // A cycle toward 0 is well, and a cycle more is too far, as the greatest numbers are.
-    let end = (1 << 30) - 1;
-    assert_eq!(rt;
-        pair_of(&arcs, &pair, &[0, -1, 0], &[0; 3]),
-        Some(Ok(11_912_497_769_817_028_148_149_667_362_080))
-    );
-    assert_eq!(rt;
-        pair_of(&arcs, &pair, &[0, 0, -1], &[0; 3]),
-        Some(Ok(11_912_456_177_840_598_478_112_736_802_080))
-    );
-    assert_eq!(rt; pair_of(&arcs, &pair, &[1, 0, 0], &[0; 3]), TOO_WIDE);
-    assert_eq!(rt; pair_of(&arcs, &pair, &[0, 0, 1], &[0; 3]), TOO_WIDE);
-    assert_eq!(rt;
-        pair_of(&arcs, &pair, &[end, -end, 0], &[(1 << 46) - 1; 3]),
-        TOO_WIDE
-    );
-    assert_eq!(rt;
-        pair_of(&arcs, &pair, &[-end, 0, end], &[1 - (1 << 46); 3]),
-        TOO_WIDE
-    );
+    let pair = widest_pair(rt.alloc())?.ok_or("no pair")?;
+    for row in OF_THE_WIDEST.iter() {
+        let (z, moved, want) = *row;
+        assert_eq!(rt; pair_of(&arcs, &pair, &z, &[moved; 3]), want, "at {z:?}");
+    }
     Ok(())
 }
 
-// A pair of one row adds nothing, and is refused like any other.
+// An observation, its radius, and the sum of a pair of one row, which adds nothing, and is refused like any other.
+static ONE_ROW: [(i64, i64, Option<Result<i128, Overwidth>>); 7] = [
+    ((1 << 33) - 2, 0, Some(Ok(0))),
+    ((1 << 33) - 1, 0, TOO_WIDE),
+    (2 - (1 << 33), 0, Some(Ok(0))),
+    (1 - (1 << 33), 0, TOO_WIDE),
+    ((1 << 33) - (1 << 20) - 2, 1 << 20, Some(Ok(0))),
+    ((1 << 33) - (1 << 20) - 1, 1 << 20, TOO_WIDE),
+    (1 << 34, 1 << 20, TOO_WIDE),
+];
+
 #[test]
-fn one_row_may_be_too_wide(rt: HostRuntime) -> Result<(), AllocError> {
+fn one_row_may_be_too_wide(rt: HostRuntime) -> Result<(), Fail> {
     let arcs = arcs_of(rt.alloc(), 2)?;
-    let cases = [
-        ((1 << 33) - 2, 0, Some(Ok(0))),
-        ((1 << 33) - 1, 0, TOO_WIDE),
-        (2 - (1 << 33), 0, Some(Ok(0))),
-        (1 - (1 << 33), 0, TOO_WIDE),
-        ((1 << 33) - (1 << 20) - 2, 1 << 20, Some(Ok(0))),
-        ((1 << 33) - (1 << 20) - 1, 1 << 20, TOO_WIDE),
-        (1 << 34, 1 << 20, TOO_WIDE),
-    ];
-    for (y, ry, expected) in cases {
-        let Some(pair) = one_row(rt.alloc(), y, ry)? else {
-            assert!(rt; false, "the row is in range");
-            return Ok(());
-        };
-        assert_eq!(rt; pair_of(&arcs, &pair, &[0; 3], &[0; 3]), expected);
+    for row in ONE_ROW.iter() {
+        let (y, ry, want) = *row;
+        let pair = one_row(rt.alloc(), y, ry)?.ok_or("no row")?;
+        assert_eq!(rt;
+            pair_of(&arcs, &pair, &[0; 3], &[0; 3]),
+            want,
+            "at {y} and {ry}"
+        );
     }
     Ok(())
 }
@@ -405,23 +433,34 @@ fn greatest_unit(rt: HostRuntime) -> Result<(), AllocError> {
     Ok(())
 }
 
+// The integers of the two arcs on each signal.
+fn integers_on(arcs: &[Arc], bands: u16, z: &[i64; 3]) -> Option<[[i64; SIGNALS]; 2]> {
+    let signals = fine_signals(signals_of(bands));
+    if arcs.len() != 2 || free_arcs(arcs) > 20 || integer_count(arcs, signals) > z.len() {
+        return None;
+    }
+    let mut found = [[0; SIGNALS]; 2];
+    for signal in 0..SIGNALS {
+        found[0][signal] = integer_of(arcs, signals, z, 0, signal);
+        found[1][signal] = integer_of(arcs, signals, z, 1, signal);
+    }
+    Some(found)
+}
+
 // The integers of an arc stand in the order of the phases that count: on L1 and L5 that of L5 is the second.
 #[test]
 fn integers_by_bands(rt: HostRuntime) -> Result<(), AllocError> {
     let arcs = arcs_of(rt.alloc(), 2)?;
-    assert!(rt; arcs.len() == 2 && free_arcs(&arcs) <= 20);
-    let z = [5, 7, 9];
-    for (bands, expected) in [
+    let rows = [
         (12, [5, 7, 0, 0, 0, 0]),
         (15, [5, 0, 0, 0, 7, 0]),
         (125, [5, 7, 0, 0, 9, 0]),
-    ] {
-        let signals = fine_signals(signals_of(bands));
-        assert!(rt; integer_count(&arcs, signals) <= z.len());
-        for signal in 0..SIGNALS {
-            assert_eq!(rt; integer_of(&arcs, signals, &z, 1, signal), expected[signal]);
-            assert_eq!(rt; integer_of(&arcs, signals, &z, 0, signal), 0);
-        }
+    ];
+    for (bands, want) in rows {
+        assert_eq!(rt;
+            integers_on(&arcs, bands, &[5, 7, 9]),
+            Some([[0; SIGNALS], want])
+        );
     }
     Ok(())
 }

@@ -138,22 +138,26 @@ fn two_integers(rt: HostRuntime) -> Result<(), Fail> {
     let best = two_best(&form, 1000)?;
     let first = best.first;
     let second = best.second;
-    assert_eq!(rt; (first[0], first[1]), (0, 0));
-    assert_eq!(rt; (second[0], second[1]), (-1, -1));
-    assert_eq!(rt; (best.p1, best.p2), (0, 2_147_483_648));
+    let found = (
+        [first[0], first[1]],
+        [second[0], second[1]],
+        best.p1,
+        best.p2,
+    );
+    assert_eq!(rt; found, ([0, 0], [-1, -1], 0, 2_147_483_648));
     Ok(())
 }
 
 #[test]
 fn small_forms_with_ties(rt: HostRuntime) {
-    for case in &SMALL {
+    for case in SMALL.iter() {
         assert!(rt; answers(case));
     }
 }
 
 #[test]
 fn forms_of_sessions(rt: HostRuntime) {
-    for case in &SESSIONS {
+    for case in SESSIONS.iter() {
         assert!(rt; answers(case));
     }
 }

@@ -8,6 +8,7 @@ use lower_form::{finish, front, lower};
 use normal_sum::sum;
 use obs_rows::{Arc, SIGNALS, Session, Signals};
 use std::alloc::{AllocError, Global};
+use std::test::Fail;
 
 // Pairs of three rows, of three arcs of which the first is the datum, each list of rows a pair.
 fn session_of(
@@ -250,27 +251,6 @@ const FINE_L: [i64; 28] = [
 
 const FINE_POINT: [i64; 7] = [-47286, -41076, -68629, 87104, 65910, 77482, 58398];
 
-// A fine session: the form, its value at some integers, its float point and the baseline there, from an independent model.
-#[test]
-fn lowers_a_fine_session(rt: HostRuntime) -> Result<(), AllocError> {
-    let Some(session) = session_of(rt.alloc(), 0, L1_AND_L2, &two_pairs())? else {
-        assert!(rt; false, "the session is in range");
-        return Ok(());
-    };
-    let Ok(form) = lower(&sum(&session)) else {
-        assert!(rt; false, "the form is in range");
-        return Ok(());
-    };
-    assert!(rt; agrees(&form, 37, 3268862075364, &FINE_D, &FINE_L));
-    let z: [i64; 4] = [-5, 2, 9, 16];
-    if form.columns == 8 {
-        assert_eq!(rt; form.value(&z), 14616769852822992);
-        assert_eq!(rt; form.baseline_of(&z).ok(), Some([-584900, -300359, 748825]));
-    }
-    assert!(rt; float_agrees(&form, &FINE_POINT));
-    Ok(())
-}
-
 const COARSE_L: [i64; 6] = [
     232664217,
     -462534273,
@@ -281,28 +261,6 @@ const COARSE_L: [i64; 6] = [
 ];
 
 const COARSE_POINT: [i64; 3] = [62752, -48657, 112129];
-
-// The same rows by the code on L1 alone: the form, its value at some integers, its float point and the baseline there, from an independent model.
-#[test]
-fn lowers_a_coarse_session(rt: HostRuntime) -> Result<(), AllocError> {
-    let Some(session) = session_of(rt.alloc(), 14, L1_AND_L2, &two_pairs())? else {
-        assert!(rt; false, "the session is in range");
-        return Ok(());
-    };
-    let Ok(form) = lower(&sum(&session)) else {
-        assert!(rt; false, "the form is in range");
-        return Ok(());
-    };
-    let d = [495811042869822, 593061295834361, 287560927609];
-    assert!(rt; agrees(&form, 23, 799130316951, &d, &COARSE_L));
-    let z: [i64; 0] = [];
-    if form.columns == 4 {
-        assert_eq!(rt; form.value(&z), 799130316951);
-        assert_eq!(rt; form.baseline_of(&z).ok(), Some([62752, -48657, 112129]));
-    }
-    assert!(rt; float_agrees(&form, &COARSE_POINT));
-    Ok(())
-}
 
 const THREE_D: [i64; 9] = [
     427871697766790,
@@ -366,61 +324,127 @@ const THREE_L: [i64; 45] = [
 
 const THREE_POINT: [i64; 9] = [-78327, -154569, -141017, 9296, 7886, 7709, 6666, 3779, 5085];
 
-// A fine session of three bands with wider radii: the form, its value at some integers, its float point and the baseline there, from an independent model.
-#[test]
-fn lowers_a_session_of_three_bands(rt: HostRuntime) -> Result<(), AllocError> {
-    let Some(session) = session_of(rt.alloc(), 0, THREE_BANDS, &three_pairs())? else {
-        assert!(rt; false, "the session is in range");
-        return Ok(());
-    };
-    let Ok(form) = lower(&sum(&session)) else {
-        assert!(rt; false, "the form is in range");
-        return Ok(());
-    };
-    assert!(rt; agrees(&form, 38, 2388094234167, &THREE_D, &THREE_L));
-    let z: [i64; 6] = [-5, 2, 9, 16, -23, 30];
-    if form.columns == 10 {
-        assert_eq!(rt; form.value(&z), 507725031356452889);
-        assert_eq!(rt;
-            form.baseline_of(&z).ok(),
-            Some([-481573, -534893, -1095346])
-        );
+const COARSE_D: [i64; 3] = [495811042869822, 593061295834361, 287560927609];
+
+// A form of an independent model: its factors and its float point.
+struct WantedForm {
+    h: u32,
+    g: i64,
+    d: &'static [i64],
+    l: &'static [i64],
+    point: &'static [i64],
+}
+
+static FINE: WantedForm = WantedForm {
+    h: 37,
+    g: 3268862075364,
+    d: &FINE_D,
+    l: &FINE_L,
+    point: &FINE_POINT,
+};
+
+static COARSE: WantedForm = WantedForm {
+    h: 23,
+    g: 799130316951,
+    d: &COARSE_D,
+    l: &COARSE_L,
+    point: &COARSE_POINT,
+};
+
+static THREE: WantedForm = WantedForm {
+    h: 38,
+    g: 2388094234167,
+    d: &THREE_D,
+    l: &THREE_L,
+    point: &THREE_POINT,
+};
+
+// The form of a session, where it has one that is as wanted.
+fn lowered(session: &Session, want: &WantedForm) -> Option<Form> {
+    let form = lower(&sum(session)).ok()?;
+    if agrees(&form, want.h, want.g, want.d, want.l) && float_agrees(&form, want.point) {
+        Some(form)
+    } else {
+        None
     }
-    assert!(rt; float_agrees(&form, &THREE_POINT));
+}
+
+// A fine session: the form, and its value at some integers and the baseline there, from an independent model.
+#[test]
+fn lowers_a_fine_session(rt: HostRuntime) -> Result<(), Fail> {
+    let session = session_of(rt.alloc(), 0, L1_AND_L2, &two_pairs())?.ok_or("no session")?;
+    let form = lowered(&session, &FINE).ok_or("another form")?;
+    if form.columns != 8 {
+        return Err("other columns".into());
+    }
+    let z: [i64; 4] = [-5, 2, 9, 16];
+    let found = (form.value(&z), form.baseline_of(&z).ok());
+    assert_eq!(rt;
+        found,
+        (14616769852822992, Some([-584900, -300359, 748825]))
+    );
+    Ok(())
+}
+
+// The same rows by the code on L1 alone.
+#[test]
+fn lowers_a_coarse_session(rt: HostRuntime) -> Result<(), Fail> {
+    let session = session_of(rt.alloc(), 14, L1_AND_L2, &two_pairs())?.ok_or("no session")?;
+    let form = lowered(&session, &COARSE).ok_or("another form")?;
+    if form.columns != 4 {
+        return Err("other columns".into());
+    }
+    let z: [i64; 0] = [];
+    let found = (form.value(&z), form.baseline_of(&z).ok());
+    assert_eq!(rt; found, (799130316951, Some([62752, -48657, 112129])));
+    Ok(())
+}
+
+// A fine session of three bands with wider radii.
+#[test]
+fn lowers_a_session_of_three_bands(rt: HostRuntime) -> Result<(), Fail> {
+    let session = session_of(rt.alloc(), 0, THREE_BANDS, &three_pairs())?.ok_or("no session")?;
+    let form = lowered(&session, &THREE).ok_or("another form")?;
+    if form.columns != 10 {
+        return Err("other columns".into());
+    }
+    let z: [i64; 6] = [-5, 2, 9, 16, -23, 30];
+    let found = (form.value(&z), form.baseline_of(&z).ok());
+    assert_eq!(rt;
+        found,
+        (507725031356452889, Some([-481573, -534893, -1095346]))
+    );
     Ok(())
 }
 
 // Rows that are all 0: no pivot of the baseline's columns is left, and the first is less by the number of columns.
 #[test]
-fn refuses_a_weak_session(rt: HostRuntime) -> Result<(), AllocError> {
+fn refuses_a_weak_session(rt: HostRuntime) -> Result<(), Fail> {
     let rows = [
         (0, [262_144, 0, 0, 0, 0, 0], 0, [0; 3], [0; 3]),
         (1, [0; SIGNALS], 0, [0; 3], [0; 3]),
         (2, [0; SIGNALS], 0, [0; 3], [0; 3]),
     ];
-    let Some(session) = session_of(rt.alloc(), 0, L1_AND_L2, &[rows])? else {
-        assert!(rt; false, "the session is in range");
-        return Ok(());
-    };
+    let session = session_of(rt.alloc(), 0, L1_AND_L2, &[rows])?.ok_or("no session")?;
     let weak = LowerFault::Weak {
         column: 0,
         pivot: -8,
     };
-    assert_eq!(rt; lower(&sum(&session)).err(), Some(weak));
-    assert_eq!(rt; front(&sum(&session)).err(), Some(weak));
+    let normal = sum(&session);
+    assert_eq!(rt;
+        (lower(&normal).err(), front(&normal).err()),
+        (Some(weak), Some(weak))
+    );
     Ok(())
 }
 
 // Two arcs of which nothing is known, as a certificate may have them: of six columns the first pivot is -6.
 #[test]
-fn refuses_the_weakest_session(rt: HostRuntime) -> Result<(), AllocError> {
+fn refuses_the_weakest_session(rt: HostRuntime) -> Result<(), Fail> {
     let nothing = |arc| (arc, [0; SIGNALS], 0, [0; 3], [0; 3]);
     let arcs = vec![in rt.alloc(); arc(3, true, 9), arc(5, false, 9)]?;
     let pairs = [[nothing(0), nothing(1)]];
-    let Some(session) = session_over(rt.alloc(), 0, L1_AND_L2, arcs, &pairs)? else {
-        assert!(rt; false, "the session is in range");
-        return Ok(());
-    };
+    let session = session_over(rt.alloc(), 0, L1_AND_L2, arcs, &pairs)?.ok_or("no session")?;
     let weak = LowerFault::Weak {
         column: 0,
         pivot: -6,
@@ -431,13 +455,10 @@ fn refuses_the_weakest_session(rt: HostRuntime) -> Result<(), AllocError> {
 
 // The greatest radii, one pair: the entry of the constant is past 2^52 in size before the first pivot, which is weak, is seen.
 #[test]
-fn refuses_the_greatest_radii(rt: HostRuntime) -> Result<(), AllocError> {
+fn refuses_the_greatest_radii(rt: HostRuntime) -> Result<(), Fail> {
     let wide = |arc| (arc, [0; SIGNALS], 1 << 20, [0; 3], [0; 3]);
     let pairs = [[wide(0), wide(1), wide(2)]];
-    let Some(session) = session_of(rt.alloc(), 0, L1_AND_L2, &pairs)? else {
-        assert!(rt; false, "the session is in range");
-        return Ok(());
-    };
+    let session = session_of(rt.alloc(), 0, L1_AND_L2, &pairs)?.ok_or("no session")?;
     let entry = LowerFault::Overwidth {
         place: Place::Entry,
     };

@@ -9,23 +9,28 @@ use normal_sum::{Normal, sum, sum_pair};
 use obs_rows::{SIGNALS, Session, Signals, fine_signals, has_its_arcs};
 use std::alloc::{AllocError, Global};
 
-// Two satellites whose phases on L1 are 2^18 units apart: F = 180180 · 10000 · 2^36, the constant's own entry.
-#[test]
-fn sums_two_satellites(rt: HostRuntime) -> Result<(), AllocError> {
+// Two satellites whose phases on L1 are 2^18 units apart: the columns, the constant's own entry and that of the first column.
+fn sum_of_two(alloc: Global) -> Result<Option<(usize, i128, i128)>, AllocError> {
     let arcs = [arc(3, true, 1), arc(5, false, 1)];
     let rows = [
         (0, [262_144, 0, 0, 0, 0, 0], 0, [0; 3], [0; 3]),
         (1, [0; 6], 0, [0; 3], [0; 3]),
     ];
-    let Some(pair) = pair_of(rt.alloc(), 0, &rows)? else {
-        assert!(rt; false, "the rows are in range");
-        return Ok(());
+    let Some(pair) = pair_of(alloc, 0, &rows)? else {
+        return Ok(None);
     };
-    assert!(rt; has_its_arcs(&arcs, &pair));
+    if !has_its_arcs(&arcs, &pair) {
+        return Ok(None);
+    }
     let normal = sum_pair(&arcs, L1_AND_L2, 0, &pair);
-    assert_eq!(rt; normal.columns, 6);
-    assert_eq!(rt; normal.c.at(5, 5), 123_818_753_182_924_800_000);
-    assert_eq!(rt; normal.c.at(0, 0), 0);
+    Ok(Some((normal.columns, normal.c.at(5, 5), normal.c.at(0, 0))))
+}
+
+// F = 180180 · 10000 · 2^36.
+#[test]
+fn sums_two_satellites(rt: HostRuntime) -> Result<(), AllocError> {
+    let want = (6, 123_818_753_182_924_800_000, 0);
+    assert_eq!(rt; sum_of_two(rt.alloc())?, Some(want));
     Ok(())
 }
 
@@ -192,28 +197,6 @@ const FINE_ENTRIES: [(usize, usize, i128); 32] = [
     (7, 7, 1_422_725_520_480_289_599_513_144_184_980),
 ];
 
-// Of the bands L1 and L2.
-#[test]
-fn sums_a_fine_session(rt: HostRuntime) -> Result<(), AllocError> {
-    let Some(session) = session_at(rt.alloc(), 0, L1_AND_L2)? else {
-        assert!(rt; false, "the session is in range");
-        return Ok(());
-    };
-    let normal = sum(&session);
-    assert_eq!(rt; normal.columns, 8);
-    assert!(rt; agrees(&normal, &FINE_ENTRIES));
-    assert_eq!(rt;
-        normal.r,
-        [
-            7_925_192_651_699_518_235_040,
-            7_683_643_487_520,
-            7_806_178_139_760,
-            7_943_250_235_971_140_410_320
-        ]
-    );
-    Ok(())
-}
-
 const L1_L5_ENTRIES: [(usize, usize, i128); 32] = [
     (0, 0, 2_120_044_286_510_297_675_367_840),
     (0, 1, -1_731_845_633_100_914_030_459_760),
@@ -248,28 +231,6 @@ const L1_L5_ENTRIES: [(usize, usize, i128); 32] = [
     (6, 7, -624_839_927_433_452_598_067_200_000),
     (7, 7, 1_418_737_922_809_469_767_445_230_229_940),
 ];
-
-// The integer of an arc on L5 stands after that on L1.
-#[test]
-fn sums_a_session_of_l1_and_l5(rt: HostRuntime) -> Result<(), AllocError> {
-    let Some(session) = session_at(rt.alloc(), 0, L1_AND_L5)? else {
-        assert!(rt; false, "the session is in range");
-        return Ok(());
-    };
-    let normal = sum(&session);
-    assert_eq!(rt; normal.columns, 8);
-    assert!(rt; agrees(&normal, &L1_L5_ENTRIES));
-    assert_eq!(rt;
-        normal.r,
-        [
-            7_925_192_651_699_518_235_040,
-            7_683_643_487_520,
-            7_806_178_139_760,
-            7_943_250_235_971_140_410_320
-        ]
-    );
-    Ok(())
-}
 
 const THREE_ENTRIES: [(usize, usize, i128); 43] = [
     (0, 0, 3_180_066_429_765_446_513_051_760),
@@ -317,28 +278,6 @@ const THREE_ENTRIES: [(usize, usize, i128); 43] = [
     (9, 9, 2_131_901_019_078_278_325_058_582_941_540),
 ];
 
-// Three integers for each free arc: on L1, L2 and L5.
-#[test]
-fn sums_a_session_of_three_bands(rt: HostRuntime) -> Result<(), AllocError> {
-    let Some(session) = session_at(rt.alloc(), 0, THREE_BANDS)? else {
-        assert!(rt; false, "the session is in range");
-        return Ok(());
-    };
-    let normal = sum(&session);
-    assert_eq!(rt; normal.columns, 10);
-    assert!(rt; agrees(&normal, &THREE_ENTRIES));
-    assert_eq!(rt;
-        normal.r,
-        [
-            11_887_788_977_549_277_352_560,
-            11_525_465_231_280,
-            11_709_267_209_640,
-            11_914_875_353_956_710_615_480
-        ]
-    );
-    Ok(())
-}
-
 const COARSE_ENTRIES: [(usize, usize, i128); 10] = [
     (0, 0, 105_991_615_163_998_483_920),
     (0, 1, -86_583_623_292_716_429_880),
@@ -352,25 +291,95 @@ const COARSE_ENTRIES: [(usize, usize, i128); 10] = [
     (3, 3, 240_252_509_790_673_380),
 ];
 
-// Of the code on L1 alone.
-#[test]
-fn sums_a_coarse_session(rt: HostRuntime) -> Result<(), AllocError> {
-    let Some(session) = session_at(rt.alloc(), 14, L1_AND_L2)? else {
-        assert!(rt; false, "the session is in range");
-        return Ok(());
-    };
-    let normal = sum(&session);
-    assert_eq!(rt; normal.columns, 4);
-    assert!(rt; agrees(&normal, &COARSE_ENTRIES));
-    assert_eq!(rt;
-        normal.r,
-        [
+// A session of two pairs at this scale, of these signals, and what is summed of it.
+struct Summed {
+    scale: u32,
+    signals: Signals,
+    columns: usize,
+    entries: &'static [(usize, usize, i128)],
+    r: [i128; 4],
+}
+
+const SUMMED: [Summed; 4] = [
+    // Of the bands L1 and L2.
+    Summed {
+        scale: 0,
+        signals: L1_AND_L2,
+        columns: 8,
+        entries: &FINE_ENTRIES,
+        r: [
+            7_925_192_651_699_518_235_040,
+            7_683_643_487_520,
+            7_806_178_139_760,
+            7_943_250_235_971_140_410_320,
+        ],
+    },
+    // The integer of an arc on L5 stands after that on L1.
+    Summed {
+        scale: 0,
+        signals: L1_AND_L5,
+        columns: 8,
+        entries: &L1_L5_ENTRIES,
+        r: [
+            7_925_192_651_699_518_235_040,
+            7_683_643_487_520,
+            7_806_178_139_760,
+            7_943_250_235_971_140_410_320,
+        ],
+    },
+    // Three integers for each free arc: on L1, L2 and L5.
+    Summed {
+        scale: 0,
+        signals: THREE_BANDS,
+        columns: 10,
+        entries: &THREE_ENTRIES,
+        r: [
+            11_887_788_977_549_277_352_560,
+            11_525_465_231_280,
+            11_709_267_209_640,
+            11_914_875_353_956_710_615_480,
+        ],
+    },
+    // Of the code on L1 alone.
+    Summed {
+        scale: 14,
+        signals: L1_AND_L2,
+        columns: 4,
+        entries: &COARSE_ENTRIES,
+        r: [
             396_220_010_583_917_520,
             384_143_760,
             390_269_880,
-            397_122_799_518_605_160
-        ]
-    );
+            397_122_799_518_605_160,
+        ],
+    },
+];
+
+// What of a sum isn't as wanted.
+fn sum_fault(alloc: Global, want: &Summed) -> Result<Option<&'static str>, AllocError> {
+    if want.scale != 0 && want.scale != 14 {
+        return Ok(Some("the scale"));
+    }
+    let Some(session) = session_at(alloc, want.scale, want.signals)? else {
+        return Ok(Some("the session"));
+    };
+    let normal = sum(&session);
+    if normal.columns != want.columns {
+        Ok(Some("the columns"))
+    } else if !agrees(&normal, want.entries) {
+        Ok(Some("an entry"))
+    } else if normal.r != want.r {
+        Ok(Some("the spreads"))
+    } else {
+        Ok(None)
+    }
+}
+
+#[test]
+fn sums_sessions(rt: HostRuntime) -> Result<(), AllocError> {
+    for (at, want) in SUMMED.iter().enumerate() {
+        assert_eq!(rt; sum_fault(rt.alloc(), want)?, None, "of session {at}");
+    }
     Ok(())
 }
 
@@ -382,7 +391,7 @@ fn has_entries(normal: &Normal, expected: &[(usize, usize, i128)]) -> bool {
         && normal.c.at(e.1, e.0) == e.2)
 }
 
-const GREATEST_ENTRIES: [(usize, usize, i128); 13] = [
+static GREATEST_ENTRIES: [(usize, usize, i128); 13] = [
     (0, 0, 146_077_150_809_186_347_557_847_040_000),
     (0, 1, -146_077_150_809_186_347_557_847_040_000),
     (0, 2, 2_085_657_097_664_493_962_353_704_960),
@@ -398,16 +407,26 @@ const GREATEST_ENTRIES: [(usize, usize, i128); 13] = [
     (63, 63, 171_553_753_825_320_589_606_035_059_952_844_800),
 ];
 
+// What of the sum of the greatest session isn't as wanted.
+fn greatest_fault(alloc: Global) -> Result<Option<&'static str>, AllocError> {
+    let Some(session) = greatest_session(alloc)? else {
+        return Ok(Some("the session"));
+    };
+    let normal = sum(&session);
+    if normal.columns != 64 {
+        Ok(Some("the columns"))
+    } else if !has_entries(&normal, &GREATEST_ENTRIES) {
+        Ok(Some("an entry"))
+    } else if normal.r != [641_940_604_141_932_191_416_320_000; 4] {
+        Ok(Some("the spreads"))
+    } else {
+        Ok(None)
+    }
+}
+
 // Some entries of the greatest session.
 #[test]
 fn sums_the_greatest_session(rt: HostRuntime) -> Result<(), AllocError> {
-    let Some(session) = greatest_session(rt.alloc())? else {
-        assert!(rt; false, "the session is in range");
-        return Ok(());
-    };
-    let normal = sum(&session);
-    assert_eq!(rt; normal.columns, 64);
-    assert!(rt; has_entries(&normal, &GREATEST_ENTRIES));
-    assert_eq!(rt; normal.r, [641_940_604_141_932_191_416_320_000; 4]);
+    assert_eq!(rt; greatest_fault(rt.alloc())?, None);
     Ok(())
 }

@@ -1,5 +1,6 @@
 //! The sum of the fronts of pairs, whose power of two is asked of some pairs first.
 ghost use Rattle.std.specs.Prelude.{◌≡◌, ◌<◌, IfSome};
+ghost use Rattle.form_tables.specs.declared.sizes.TheConstants.{MOST_FORM_COLUMNS};
 ghost use Rattle.obs_rows.specs.declared.limits.TheConstants.{MOST_PAIRS};
 
 use form_tables::MOST_FORM_COLUMNS;
@@ -94,24 +95,39 @@ fn summed(alloc: Global, first: i64, second: i64) -> Result<Option<SummedFronts>
     Ok(sum_of_fronts(alloc, &arcs, L1_AND_L2, &[one, other])?.ok())
 }
 
+fn has_same_row(one: &SummedFronts, other: &SummedFronts, r: usize) -> bool
+    requires { r < MOST_FORM_COLUMNS }
+{
+    for c in 0..MOST_FORM_COLUMNS {
+        if one.sum.p.at(r, c) != other.sum.p.at(r, c) {
+            return false;
+        }
+    }
+    true
+}
+
+fn have_same_entries(one: &SummedFronts, other: &SummedFronts) -> bool {
+    for r in 0..MOST_FORM_COLUMNS {
+        if !has_same_row(one, other, r) {
+            return false;
+        }
+    }
+    true
+}
+
 // The pair that isn't asked has the greater exponent in the first sum: its fronts are made twice. A sum doesn't depend on the
 // order of the pairs.
 #[test]
 fn asks_all_where_one_is_over(rt: HostRuntime) -> Result<(), Fail> {
     let alloc = rt.alloc();
-    let low = asked(alloc, 1)?.expect(&rt, "a pair");
-    let high = asked(alloc, 1 << 17)?.expect(&rt, "a pair");
-    assert!(rt; low < high);
-    let rising = summed(alloc, 1, 1 << 17)?.expect(&rt, "a sum");
-    let falling = summed(alloc, 1 << 17, 1)?.expect(&rt, "a sum");
+    let low = asked(alloc, 1)?.ok_or("no pair")?;
+    let high = asked(alloc, 1 << 17)?.ok_or("no pair")?;
+    let rising = summed(alloc, 1, 1 << 17)?.ok_or("no sum")?;
+    let falling = summed(alloc, 1 << 17, 1)?.ok_or("no sum")?;
     // twice two pairs are 2^2
-    assert_eq!(rt; rising.sum.h, high.wrapping_add(2));
-    assert_eq!(rt; falling.sum.h, rising.sum.h);
-    assert_eq!(rt; rising.factors.len(), 2);
-    for r in 0..MOST_FORM_COLUMNS {
-        for c in 0..MOST_FORM_COLUMNS {
-            assert_eq!(rt; rising.sum.p.at(r, c), falling.sum.p.at(r, c));
-        }
-    }
+    let h = high.wrapping_add(2);
+    let found = (rising.sum.h, falling.sum.h, rising.factors.len());
+    assert_eq!(rt; (low < high, found), (true, (h, h, 2)));
+    assert!(rt; have_same_entries(&rising, &falling));
     Ok(())
 }

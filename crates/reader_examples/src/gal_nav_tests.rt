@@ -1,7 +1,8 @@
 //! Navigation files of Galileo: a real record.
+use crate::texts::joined;
 use decimal_text::Dec;
+use eph_store::Raw;
 use gal_nav::read_gal_nav;
-use std::alloc::{AllocError, Global};
 use std::test::Fail;
 
 const FIRST: &str =
@@ -21,34 +22,30 @@ const RECORD: &str =
       .333516000000D+06  .000000000000D+00
 ";
 
-fn text_of(alloc: Global, parts: &[&str]) -> Result<String, AllocError> {
-    let mut text = String::new(alloc);
-    for part in parts {
-        text.push_str(part)?;
-    }
-    Ok(text)
+// The numbers of the record that are looked at: of its clock, its orbit, its time, its week and its health.
+fn numbers_of(raw: &Raw) -> [Dec; 5] {
+    [raw.af0, raw.root_a, raw.toe_s, raw.week, raw.health]
+}
+
+fn dec(mant: i64, exp: i32) -> Dec {
+    Dec { mant, exp }
 }
 
 #[test]
 fn reads_a_real_record(rt: HostRuntime) -> Result<(), Fail> {
     let other = "G07 2016 04 06 20 00 00 anything\n     and anything behind it\n";
-    let text = text_of(rt.alloc(), &[FIRST, END, other, RECORD])?;
+    let text = joined(rt.alloc(), &[FIRST, END, other, RECORD])?;
     assert!(rt; text.len() < 5_000);
     let file = read_gal_nav(rt.alloc(), text.as_bytes())?;
-    assert_eq!(rt; file.fit().len(), 1);
-    let [raw] = file.all() else {
-        panic!(&rt; "no record");
-    };
-    assert_eq!(rt; raw.sat, 8);
-    let rows: [(Dec, i64, i32); 5] = [
-        (raw.af0, 978_251_919_150, -15),
-        (raw.root_a, 544_062_406_921, -8),
-        (raw.toe_s, 332_400_000_000, -6),
-        (raw.week, 189_100_000_000, -8),
-        (raw.health, 0, -12),
+    assert_eq!(rt; (file.all().len(), file.fit().len()), (1, 1));
+    let found = file.all().first().map(|raw| (raw.sat, numbers_of(raw)));
+    let numbers = [
+        dec(978_251_919_150, -15),
+        dec(544_062_406_921, -8),
+        dec(332_400_000_000, -6),
+        dec(189_100_000_000, -8),
+        dec(0, -12),
     ];
-    for (found, mant, exp) in rows {
-        assert_eq!(rt; found, Dec { mant, exp }, "at {mant}");
-    }
+    assert_eq!(rt; found, Some((8, numbers)));
     Ok(())
 }

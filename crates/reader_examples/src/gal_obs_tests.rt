@@ -1,9 +1,9 @@
 //! Observation files of Galileo: a real one, and the greatest number of a satellite.
+use crate::texts::{MOST, joined};
 use gal_obs::read_gal_obs;
 use gps_time::Tick;
-use obs_store::{ObsFile, ObsType, Value};
-use std::alloc::{AllocError, Global};
-use std::process::Abort;
+use obs_store::{Epoch, ObsFile, ObsType, Value};
+use std::alloc::Global;
 use std::test::Fail;
 
 const MIXED: &str =
@@ -27,62 +27,80 @@ const REAL: [&str; 4] = [
     "> 2016 04 06 20 38 18.0000000  0  2\nE08  23502062.923   123503837.034        -505.273          53.000    23502066.836    92227296.474        -377.317          54.500  \nE11  28010068.919   147193688.4851        934.513          36.250    28010076.725   109917345.8921        697.847          37.500  \n",
 ];
 
-fn read_well(rt: &impl Abort, alloc: Global, parts: &[&str]) -> Result<ObsFile, AllocError> {
-    let mut text = String::new(alloc);
-    for part in parts {
-        text.push_str(part)?;
+fn read(alloc: Global, parts: &[&str]) -> Result<ObsFile, Fail> {
+    let text = joined(alloc, parts)?;
+    if text.len() > MOST {
+        return Err("a long text".into());
     }
-    assert!(rt; text.len() <= 67_108_864);
-    match read_gal_obs(alloc, text.as_bytes()) {
-        Ok(file) => Ok(file),
-        Err(_) => panic!(rt; "not read"),
+    Ok(read_gal_obs(alloc, text.as_bytes())?)
+}
+
+static LISTED: [(ObsType, bool); 6] = [
+    (ObsType::C1X, true),
+    (ObsType::L1X, true),
+    (ObsType::C5X, true),
+    (ObsType::L5X, true),
+    (ObsType::C1C, false),
+    (ObsType::C2W, false),
+];
+
+// The place of a satellite in the second epoch, and a value of it with its lock.
+static VALUES: [(usize, ObsType, i64, u8); 5] = [
+    (0, ObsType::C1X, 23_502_062_923, 0),
+    (0, ObsType::L1X, 123_503_837_034, 0),
+    (0, ObsType::C5X, 23_502_066_836, 0),
+    (0, ObsType::L5X, 92_227_296_474, 0),
+    (1, ObsType::L1X, 147_193_688_485, 1),
+];
+
+// The numbers of the satellites of an epoch that has these, where there are two at most.
+fn numbers_of(epoch: &Epoch) -> Option<[Option<u8>; 2]> {
+    match epoch.sats.len() {
+        0 => Some([None, None]),
+        1 => Some([Some(epoch.sats.at(0).number), None]),
+        2 => Some([Some(epoch.sats.at(0).number), Some(epoch.sats.at(1).number)]),
+        _ => None,
+    }
+}
+
+fn value_at(epoch: &Epoch, place: usize, kind: ObsType) -> Option<Value> {
+    if place < epoch.sats.len() {
+        epoch.sats.at(place).values[kind.slot()]
+    } else {
+        None
     }
 }
 
 #[test]
 fn reads_a_real_file(rt: HostRuntime) -> Result<(), Fail> {
     let [gps, galileo, none, two] = REAL;
-    let file = read_well(&rt, rt.alloc(), &[MIXED, gps, galileo, END, none, two])?;
-    let listed: [(ObsType, bool); 6] = [
-        (ObsType::C1X, true),
-        (ObsType::L1X, true),
-        (ObsType::C5X, true),
-        (ObsType::L5X, true),
-        (ObsType::C1C, false),
-        (ObsType::C2W, false),
-    ];
-    for (kind, want) in listed {
-        assert_eq!(rt; file.listed[kind.slot()], want);
+    let file = read(rt.alloc(), &[MIXED, gps, galileo, END, none, two])?;
+    for (kind, want) in LISTED.iter() {
+        assert_eq!(rt; file.listed[kind.slot()], *want, "{kind:?}");
     }
-    let epochs = file.epochs.as_slice();
-    assert_eq!(rt; epochs.len(), 2);
-    assert_eq!(rt; epochs[0].tag, Tick(11_440_102_970_000_000));
-    assert_eq!(rt; epochs[0].sats.len(), 0);
-    let sats = &epochs[1].sats;
-    assert_eq!(rt; sats.len(), 2);
-    let (first, second) = (sats.at(0), sats.at(1));
-    assert_eq!(rt; first.number, 8);
-    assert_eq!(rt; second.number, 11);
-    let values: [(Option<Value>, i64, u8); 5] = [
-        (first.values[ObsType::C1X.slot()], 23_502_062_923, 0),
-        (first.values[ObsType::L1X.slot()], 123_503_837_034, 0),
-        (first.values[ObsType::C5X.slot()], 23_502_066_836, 0),
-        (first.values[ObsType::L5X.slot()], 92_227_296_474, 0),
-        (second.values[ObsType::L1X.slot()], 147_193_688_485, 1),
-    ];
-    for (found, amount, lock) in values {
-        assert_eq!(rt; found, Some(Value { amount, lock }));
+    let [first, second] = file.epochs.as_slice() else {
+        return Err("not two epochs".into());
+    };
+    let found = (first.tag, numbers_of(first), numbers_of(second));
+    let tag = Tick(11_440_102_970_000_000);
+    assert_eq!(rt; found, (tag, Some([None, None]), Some([Some(8), Some(11)])));
+    for row in VALUES.iter() {
+        let (place, kind, amount, lock) = *row;
+        assert_eq!(rt;
+            value_at(second, place, kind),
+            Some(Value { amount, lock }),
+            "{kind:?}"
+        );
     }
     Ok(())
 }
 
 #[test]
 fn reads_numbers_to_36(rt: HostRuntime) -> Result<(), Fail> {
-    let file = read_well(&rt, rt.alloc(), &[FIRST, TYPES, END, EPOCH, "E36"])?;
-    let epochs = file.epochs.as_slice();
-    assert_eq!(rt; epochs.len(), 1);
-    let sats = &epochs[0].sats;
-    assert_eq!(rt; sats.len(), 1);
-    assert_eq!(rt; sats.at(0).number, 36);
+    let file = read(rt.alloc(), &[FIRST, TYPES, END, EPOCH, "E36"])?;
+    let [only] = file.epochs.as_slice() else {
+        return Err("not one epoch".into());
+    };
+    assert_eq!(rt; numbers_of(only), Some([Some(36), None]));
     Ok(())
 }

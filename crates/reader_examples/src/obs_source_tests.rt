@@ -1,14 +1,13 @@
 //! Texts of either format in pieces: the first line tells the format, however the text is cut.
 use crate::slow_files::Slow;
-use crate::texts::with_returns;
+use crate::texts::{MOST, joined, with_returns};
 use line_source::{LoadFault, load_into};
 use obs_source::ObsTaker;
 use obs_store::ObsFile;
 use rinex_head::{At, TextFault, What};
 use rinex_obs::read_obs;
 use rinex2_obs::read_obs2;
-use std::alloc::{AllocError, Global};
-use std::process::Abort;
+use std::alloc::Global;
 use std::test::Fail;
 
 const LINE_3: &str =
@@ -30,76 +29,61 @@ const REST_2: &str = "
   22123456.789   116260123.45617";
 
 // What a text gives in pieces of this length.
-fn taken(
-    rt: &impl Abort,
-    alloc: Global,
-    text: &[u8],
-    most: usize,
-) -> Result<Result<ObsFile, TextFault>, AllocError> {
-    let mut files = Slow::new(text.to_vec(alloc)?, most, 10_000);
+fn taken(alloc: Global, text: &[u8], most: usize) -> Result<Result<ObsFile, TextFault>, LoadFault> {
+    let Ok(text) = text.to_vec(alloc) else {
+        return Err(LoadFault::NoMemory);
+    };
+    let mut files = Slow::new(text, most, 10_000);
     let mut taker = ObsTaker::new(alloc);
-    match load_into(&mut files, "", &mut taker) {
-        Ok(()) => Ok(taker.finish()),
-        Err(LoadFault::NoMemory) => Err(AllocError),
-        Err(_) => panic!(rt; "not loaded"),
+    load_into(&mut files, "", &mut taker)?;
+    Ok(taker.finish())
+}
+
+// What the reader of the format of that first line gives of a text.
+fn whole(alloc: Global, first: &str, text: &str) -> Result<ObsFile, TextFault> {
+    if text.len() > MOST {
+        return Err(TextFault::NoMemory);
+    }
+    if first == LINE_3 {
+        read_obs(alloc, text.as_bytes())
+    } else {
+        read_obs2(alloc, text.as_bytes())
     }
 }
 
-fn text_of(alloc: Global, first: &str, rest: &str) -> Result<String, AllocError> {
-    format!(in alloc; "{first}{rest}")
-}
-
-// The same in pieces as of the reader of its format.
-fn is_read_as(
-    rt: &impl Abort,
-    alloc: Global,
-    text: &str,
-    whole: Result<ObsFile, TextFault>,
-) -> Result<(), Fail> {
-    let Ok(file) = whole else {
-        panic!(rt; "not read");
-    };
-    assert_eq!(rt; file.epochs.len(), 1);
+// The number of epochs of a text, and the first length of pieces in which it isn't read as it is whole.
+fn other_length(alloc: Global, first: &str, text: &str) -> Result<(usize, Option<usize>), Fail> {
+    let file = whole(alloc, first, text)?;
     let want = format!(in alloc; "{file:?}")?;
     // 81 bytes end after the CR of the first line
     for most in [1, 7, 80, 81, 65_536] {
-        let Ok(file) = taken(rt, alloc, text.as_bytes(), most)? else {
-            panic!(rt; "not read in pieces");
-        };
-        let found = format!(in alloc; "{file:?}")?;
-        assert_eq!(rt; found.as_str(), want.as_str());
+        let other = taken(alloc, text.as_bytes(), most)??;
+        let found = format!(in alloc; "{other:?}")?;
+        if found.as_str() != want.as_str() {
+            return Ok((file.epochs.len(), Some(most)));
+        }
     }
-    Ok(())
+    Ok((file.epochs.len(), None))
 }
 
 #[test]
 fn reads_either_format_in_pieces(rt: HostRuntime) -> Result<(), Fail> {
     let alloc = rt.alloc();
-    let three = text_of(alloc, LINE_3, REST_3)?;
-    let two = text_of(alloc, LINE_2, REST_2)?;
-    let three_returns = with_returns(alloc, three.as_str())?;
-    let two_returns = with_returns(alloc, two.as_str())?;
-    for text in [three.as_str(), three_returns.as_str()] {
-        assert!(rt; text.len() <= 67_108_864);
-        is_read_as(&rt, alloc, text, read_obs(alloc, text.as_bytes()))?;
-    }
-    for text in [two.as_str(), two_returns.as_str()] {
-        assert!(rt; text.len() <= 67_108_864);
-        is_read_as(&rt, alloc, text, read_obs2(alloc, text.as_bytes()))?;
+    for (first, rest) in [(LINE_3, REST_3), (LINE_2, REST_2)] {
+        let text = joined(alloc, &[first, rest])?;
+        let returns = with_returns(alloc, &text)?;
+        assert_eq!(rt; other_length(alloc, first, &text)?, (1, None));
+        assert_eq!(rt; other_length(alloc, first, &returns)?, (1, None));
     }
     Ok(())
 }
 
-fn place_of(
-    rt: &impl Abort,
-    alloc: Global,
-    text: &[u8],
-    most: usize,
-) -> Result<Option<(u32, u32, What)>, AllocError> {
-    match taken(rt, alloc, text, most)? {
+// The line and the column at which a text in pieces is refused, and why, if it is.
+fn place_of(alloc: Global, text: &[u8], most: usize) -> Result<Option<(u32, u32, What)>, Fail> {
+    match taken(alloc, text, most)? {
         Ok(_) => Ok(None),
         Err(TextFault::Refused(At { line, column, what })) => Ok(Some((line, column, what))),
-        Err(TextFault::NoMemory) => panic!(rt; "no memory"),
+        Err(TextFault::NoMemory) => Err("no memory".into()),
     }
 }
 
@@ -126,7 +110,7 @@ fn tells_the_format_by_the_first_line(rt: HostRuntime) -> Result<(), Fail> {
     let alloc = rt.alloc();
     for row in FIRST_LINES.iter() {
         let (text, want) = *row;
-        let found = place_of(&rt, alloc, text.as_bytes(), 1)?;
+        let found = place_of(alloc, text.as_bytes(), 1)?;
         assert_eq!(rt; found, Some(want));
     }
     Ok(())
@@ -151,10 +135,11 @@ fn keeps_the_length_of_the_first_line(rt: HostRuntime) -> Result<(), Fail> {
     for row in LENGTHS.iter() {
         let (line, rest, length, want) = *row;
         let text = format!(in alloc; "{line:<length$}{rest}")?;
-        for most in [1, 4_096] {
-            let found = place_of(&rt, alloc, text.as_bytes(), most)?;
-            assert_eq!(rt; found, want);
-        }
+        let found = (
+            place_of(alloc, text.as_bytes(), 1)?,
+            place_of(alloc, text.as_bytes(), 4_096)?,
+        );
+        assert_eq!(rt; found, (want, want));
     }
     Ok(())
 }

@@ -6,20 +6,30 @@ fn line(bytes: &[u8]) -> Line<'_> {
     Line { number: 1, bytes }
 }
 
+// A header line, how many bytes its content has, and its label.
+static HEADER_LINES: [(&[u8], usize, &[u8]); 3] = [
+    (
+        b" -3957199.2407  3310199.5412  3737711.7114                  APPROX POSITION XYZ ",
+        60,
+        b"APPROX POSITION XYZ",
+    ),
+    (b"G    8 C1C", 10, b""),
+    (
+        b"                                                            END OF HEADER       past",
+        60,
+        b"END OF HEADER",
+    ),
+];
+
 #[test]
 fn splits_header_lines(rt: HostRuntime) {
-    let whole = head_line(&line(
-        b" -3957199.2407  3310199.5412  3737711.7114                  APPROX POSITION XYZ ",
-    ));
-    assert_eq!(rt; whole.content.len(), 60);
-    assert!(rt; whole.label == b"APPROX POSITION XYZ".as_slice());
-    let short = head_line(&line(b"G    8 C1C"));
-    assert!(rt; short.content == b"G    8 C1C".as_slice());
-    assert!(rt; short.label.is_empty());
-    let past = head_line(&line(
-        b"                                                            END OF HEADER       past",
-    ));
-    assert!(rt; past.label == b"END OF HEADER".as_slice());
+    for row in HEADER_LINES.iter() {
+        let (bytes, length, label) = *row;
+        let found = head_line(&line(bytes));
+        assert_eq!(rt; (found.content.len(), found.label), (length, label));
+        // the content is what the line begins with
+        assert!(rt; bytes.starts_with(found.content));
+    }
 }
 
 const VERSIONS: [(&[u8], u16, u8, u8); 3] = [

@@ -3,15 +3,9 @@
 #![tactic(auto)]
 
 #[cfg(test)]
-mod band_cases;
-#[cfg(test)]
-mod band_tests;
-#[cfg(test)]
 mod cases;
 #[cfg(test)]
 mod round_steps_tests;
-#[cfg(test)]
-mod round_tests;
 #[cfg(test)]
 mod session_tests;
 #[cfg(test)]

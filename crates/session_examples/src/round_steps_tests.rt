@@ -37,21 +37,23 @@ fn arcs_of(alloc: Global, count: u8, datums: u8, last: u32) -> Result<Vec<Arc>, 
     Ok(arcs)
 }
 
+// How many arcs there are, how many of them are datums, and whether those are many.
+static COUNTS: [(u8, u8, bool); 4] = [
+    (21, 1, false),
+    (22, 1, true),
+    (200, 180, false),
+    (201, 190, true),
+];
+
 #[test]
 fn counts_arcs(rt: HostRuntime) -> Result<(), AllocError> {
     let three = arcs_of(rt.alloc(), 3, 1, 4)?;
-    assert!(rt; are_few(5, &three));
     let four = arcs_of(rt.alloc(), 4, 1, 4)?;
-    assert!(rt; !are_few(5, &four));
-    assert!(rt; are_few(0, &four));
-    for (count, datums, expected) in [
-        (21, 1, false),
-        (22, 1, true),
-        (200, 180, false),
-        (201, 190, true),
-    ] {
-        let arcs = arcs_of(rt.alloc(), count, datums, 4)?;
-        assert_eq!(rt; are_many(&arcs), expected);
+    let found = (are_few(5, &three), are_few(5, &four), are_few(0, &four));
+    assert_eq!(rt; found, (true, false, true));
+    for row in COUNTS.iter() {
+        let (count, datums, want) = *row;
+        assert_eq!(rt; are_many(&arcs_of(rt.alloc(), count, datums, 4)?), want);
     }
     Ok(())
 }

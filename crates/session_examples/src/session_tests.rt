@@ -5,7 +5,6 @@ use obs_rows::is_bands_number;
 use obs_store::{Epoch, Epochs, ObsFile, ObsType, SLOTS, Satellites};
 use session::{Answer, Options, PairWhat, SessionFault, begin, process};
 use std::alloc::{AllocError, Global};
-use std::process::Abort;
 use std::test::Fail;
 
 const ON_GROUND: Option<[i64; 3]> = Some([63_781_370_000, 0, 0]);
@@ -68,25 +67,43 @@ fn refusal(
     Ok(begin(alloc, &base, &rover, &Options::defaults()).err())
 }
 
+const NO_POSITION: Option<SessionFault> = Some(SessionFault::Refused(PairWhat::NoBasePosition));
+
+const NO_SIGNAL: Option<SessionFault> = Some(SessionFault::Refused(PairWhat::NoSignal));
+
+const TOO_DENSE: Option<SessionFault> = Some(SessionFault::Refused(PairWhat::Dense {
+    rover: false,
+    epoch: 1,
+}));
+
+const FAR: Option<[i64; 3]> = Some([63_781_370_000, 63_781_370_000, 0]);
+
+const DENSE: [u64; 2] = [10, 200_010];
+
+const SPARSE: [u64; 2] = [10, 200_011];
+
+// A base's position, types and tags, and why it is refused.
+type RefusedBase = (
+    Option<[i64; 3]>,
+    &'static [&'static str],
+    [u64; 2],
+    Option<SessionFault>,
+);
+
+static REFUSALS: [RefusedBase; 5] = [
+    (None, &ONE_BAND, DENSE, NO_POSITION),
+    (FAR, &ALL, SPARSE, NO_POSITION),
+    (ON_GROUND, &ONE_BAND, DENSE, NO_SIGNAL),
+    (ON_GROUND, &ALL, DENSE, TOO_DENSE),
+    (ON_GROUND, &ALL, SPARSE, None),
+];
+
 #[test]
 fn refuses_in_order(rt: HostRuntime) -> Result<(), Fail> {
-    let dense = [10, 200_010];
-    let sparse = [10, 200_011];
-    let no_position = Some(SessionFault::Refused(PairWhat::NoBasePosition));
-    let no_signal = Some(SessionFault::Refused(PairWhat::NoSignal));
-    let too_dense = Some(SessionFault::Refused(PairWhat::Dense {
-        rover: false,
-        epoch: 1,
-    }));
-    let far = Some([63_781_370_000, 63_781_370_000, 0]);
-    assert_eq!(rt; refusal(rt.alloc(), None, &ONE_BAND, &dense)?, no_position);
-    assert_eq!(rt; refusal(rt.alloc(), far, &ALL, &sparse)?, no_position);
-    assert_eq!(rt;
-        refusal(rt.alloc(), ON_GROUND, &ONE_BAND, &dense)?,
-        no_signal
-    );
-    assert_eq!(rt; refusal(rt.alloc(), ON_GROUND, &ALL, &dense)?, too_dense);
-    assert_eq!(rt; refusal(rt.alloc(), ON_GROUND, &ALL, &sparse)?, None);
+    for row in REFUSALS.iter() {
+        let (position, types, tags, want) = *row;
+        assert_eq!(rt; refusal(rt.alloc(), position, types, &tags)?, want);
+    }
     Ok(())
 }
 
@@ -96,47 +113,59 @@ const NO_L5_PHASE: [&str; 5] = ["C1C", "L1C", "C2W", "L2W", "C5Q"];
 
 const THREE_BANDS: [&str; 6] = ["C1C", "L1C", "C2W", "L2W", "C5X", "L5X"];
 
-// The letters with which a run on these bands begins, where both files list these types.
+// The letters with which a run on these bands begins, where both files list these types, or why it doesn't begin.
 fn letters_on(
-    rt: &impl Abort,
     alloc: Global,
     bands: u16,
     types: &[&str],
-) -> Result<Option<[u8; 3]>, Fail> {
+) -> Result<Result<[u8; 3], Option<SessionFault>>, AllocError> {
     let tags = [0, 300_000_000];
     let base = file_of(alloc, ON_GROUND, types, &tags)?;
     let rover = file_of(alloc, None, types, &tags)?;
-    assert!(rt; is_bands_number(bands));
+    if !is_bands_number(bands) {
+        return Ok(Err(None));
+    }
     let mut options = Options::defaults();
     options.bands = bands;
     match begin(alloc, &base, &rover, &options) {
-        Ok(begun) => Ok(Some([begun.signals.l1, begun.signals.l2, begun.signals.l5])),
-        Err(fault) => {
-            assert_eq!(rt; fault, SessionFault::Refused(PairWhat::NoSignal));
-            Ok(None)
-        }
+        Ok(begun) => Ok(Ok([begun.signals.l1, begun.signals.l2, begun.signals.l5])),
+        Err(fault) => Ok(Err(Some(fault))),
     }
 }
 
+const NONE: Result<[u8; 3], Option<SessionFault>> = Err(NO_SIGNAL);
+
+// Types, bands, and the letters, where each band has one.
+type Letters = (
+    &'static [&'static str],
+    u16,
+    Result<[u8; 3], Option<SessionFault>>,
+);
+
+static LETTERS: [Letters; 12] = [
+    (&ALL, 12, Ok([b'C', b'W', 0])),
+    (&ALL, 15, NONE),
+    (&ALL, 125, NONE),
+    (&L1_L5, 12, NONE),
+    (&L1_L5, 15, Ok([b'C', 0, b'Q'])),
+    (&L1_L5, 125, NONE),
+    (&NO_L5_PHASE, 12, Ok([b'C', b'W', 0])),
+    (&NO_L5_PHASE, 15, NONE),
+    (&NO_L5_PHASE, 125, NONE),
+    (&THREE_BANDS, 12, Ok([b'C', b'W', 0])),
+    (&THREE_BANDS, 15, Ok([b'C', 0, b'X'])),
+    (&THREE_BANDS, 125, Ok([b'C', b'W', b'X'])),
+];
+
 #[test]
 fn each_band_of_the_options_needs_a_code(rt: HostRuntime) -> Result<(), Fail> {
-    let cases: [(&[&str], [Option<[u8; 3]>; 3]); 4] = [
-        (&ALL, [Some([b'C', b'W', 0]), None, None]),
-        (&L1_L5, [None, Some([b'C', 0, b'Q']), None]),
-        (&NO_L5_PHASE, [Some([b'C', b'W', 0]), None, None]),
-        (
-            &THREE_BANDS,
-            [
-                Some([b'C', b'W', 0]),
-                Some([b'C', 0, b'X']),
-                Some([b'C', b'W', b'X']),
-            ],
-        ),
-    ];
-    for (types, [on_12, on_15, on_125]) in cases {
-        assert_eq!(rt; letters_on(&rt, rt.alloc(), 12, types)?, on_12);
-        assert_eq!(rt; letters_on(&rt, rt.alloc(), 15, types)?, on_15);
-        assert_eq!(rt; letters_on(&rt, rt.alloc(), 125, types)?, on_125);
+    for row in LETTERS.iter() {
+        let (types, bands, want) = *row;
+        assert_eq!(rt;
+            letters_on(rt.alloc(), bands, types)?,
+            want,
+            "{types:?} on {bands}"
+        );
     }
     Ok(())
 }
@@ -149,15 +178,16 @@ fn begins_with_the_taken_pairs(rt: HostRuntime) -> Result<(), Fail> {
     let mut options = Options::defaults();
     options.first = 1;
     options.step = 2;
-    let Ok(begun) = begin(rt.alloc(), &base, &rover, &options) else {
-        assert!(rt; false);
-        return Ok(());
-    };
-    assert_eq!(rt; begun.position, [63_781_370_000, 0, 0]);
-    assert_eq!(rt; (begun.signals.l1, begun.signals.l2), (b'C', b'W'));
-    assert_eq!(rt; begun.all, 5);
-    assert_eq!(rt; begun.taken.len(), 2);
-    assert_eq!(rt; (begun.taken[0].base, begun.taken[1].rover), (1, 3));
+    let begun = begin(rt.alloc(), &base, &rover, &options)?;
+    let found = (
+        begun.position,
+        begun.signals.l1,
+        begun.signals.l2,
+        begun.all,
+    );
+    assert_eq!(rt; found, ([63_781_370_000, 0, 0], b'C', b'W', 5));
+    let taken = [0, 1, 2].map(|at| begun.taken.as_slice().get(at).map(|p| (p.base, p.rover)));
+    assert_eq!(rt; taken, [Some((1, 1)), Some((3, 3)), None]);
     Ok(())
 }
 
@@ -169,15 +199,11 @@ fn few_without_records(rt: HostRuntime) -> Result<(), Fail> {
     let mut rover = file_of(rt.alloc(), None, &ALL, &tags)?;
     rover.delta[0] = 1;
     let nav = NavFile::new(rt.alloc());
-    let Ok(outcome) = process(rt.alloc(), &base, &rover, &nav, &Options::defaults()) else {
-        assert!(rt; false);
-        return Ok(());
-    };
-    assert_eq!(rt; (outcome.taken, outcome.all, outcome.kept), (3, 3, 0));
-    assert!(rt; outcome.delta);
-    assert!(rt; matches!(&outcome.answer, Answer::Few { pairs: 3 }));
+    let outcome = process(rt.alloc(), &base, &rover, &nav, &Options::defaults())?;
+    let few = matches!(&outcome.answer, Answer::Few { pairs: 3 });
+    let found = (outcome.taken, outcome.all, outcome.kept, outcome.delta, few);
+    assert_eq!(rt; found, (3, 3, 0, true, true));
     let refused = process(rt.alloc(), &rover, &base, &nav, &Options::defaults()).err();
-    let expected = SessionFault::Refused(PairWhat::NoBasePosition);
-    assert_eq!(rt; refused, Some(expected));
+    assert_eq!(rt; refused, NO_POSITION);
     Ok(())
 }
