@@ -25,76 +25,54 @@ const ON_125: Signals = Signals {
     l5: b'Q',
 };
 
-// The column and the flaw of a line that isn't read.
-type Place = (u32, What);
-
-fn place_of(flaw: Flaw) -> Place {
-    (flaw.column, flaw.what)
-}
-
-// A line, the free arcs before it, the arcs that are left, and what is found.
-type ArcRow = (&'static [u8], usize, usize, Result<Arc, Place>);
-
-static ARCS: [ArcRow; 9] = [
-    (
-        b"arc 5 0 3599 free -7 1099511627775",
-        19,
-        1,
-        Ok(Arc {
-            sat: 5,
-            first: 0,
-            last: 3599,
-            datum: false,
-            shift: [-7, 1_099_511_627_775, 0],
-        }),
-    ),
-    (b"arc 5 0 0 free 0 0", 20, 1, Err((1, What::BadLine))),
-    (b"arc 5 0 0 datum 0 0", 0, 1, Err((1, What::BadLine))),
-    (b"arc 5 0 0 Datum 0 0", 1, 2, Err((1, What::BadLine))),
-    (b"arc 5 0 0 datum 0", 1, 2, Err((1, What::BadLine))),
-    (b"arc 37 9 0 datum 0 0", 1, 2, Err((5, What::BadRange))),
-    (b"arc 5 9 8 datum 0 0", 1, 2, Err((9, What::BadRange))),
-    (b"arc 5 9 3600 datum 0 0", 1, 2, Err((9, What::BadRange))),
-    (
-        b"arc 5 9 9 datum 0 1099511627776",
-        1,
-        2,
-        Err((19, What::BadRange)),
-    ),
-];
-
-fn arc_of(free: usize, left: usize, line: &[u8]) -> Option<Result<Arc, Place>> {
-    if line.len() <= 4096 {
-        Some(arc_in(Version::Two, ON_12, free, left, line).map_err(place_of))
-    } else {
-        None
-    }
+fn flaw(column: u32, what: What) -> Flaw {
+    Flaw { column, what }
 }
 
 #[test]
 fn reads_arcs(rt: HostRuntime) {
-    for row in ARCS.iter() {
+    let arc = Arc {
+        sat: 5,
+        first: 0,
+        last: 3599,
+        datum: false,
+        shift: [-7, 1_099_511_627_775, 0],
+    };
+    assert_eq!(rt;
+        arc_in(
+            Version::Two,
+            ON_12,
+            19,
+            1,
+            b"arc 5 0 3599 free -7 1099511627775"
+        ),
+        Ok(arc)
+    );
+    let bad: [(&[u8], usize, usize, Flaw); 8] = [
+        (b"arc 5 0 0 free 0 0", 20, 1, flaw(1, What::BadLine)),
+        (b"arc 5 0 0 datum 0 0", 0, 1, flaw(1, What::BadLine)),
+        (b"arc 5 0 0 Datum 0 0", 1, 2, flaw(1, What::BadLine)),
+        (b"arc 5 0 0 datum 0", 1, 2, flaw(1, What::BadLine)),
+        (b"arc 37 9 0 datum 0 0", 1, 2, flaw(5, What::BadRange)),
+        (b"arc 5 9 8 datum 0 0", 1, 2, flaw(9, What::BadRange)),
+        (b"arc 5 9 3600 datum 0 0", 1, 2, flaw(9, What::BadRange)),
+        (
+            b"arc 5 9 9 datum 0 1099511627776",
+            1,
+            2,
+            flaw(19, What::BadRange),
+        ),
+    ];
+    for row in bad.iter() {
         let (line, free, left, want) = *row;
-        assert_eq!(rt; arc_of(free, left, line), Some(want));
+        if line.len() <= 4096 {
+            assert_eq!(rt; arc_in(Version::Two, ON_12, free, left, line), Err(want));
+        }
     }
 }
 
-// A line, its pair, the least arc, and why it is refused.
-static BAD_ROWS: [(&[u8], u32, u32, Place); 5] = [
-    (b"row 0 0 0 0 0 0 0 0 0 0 0 0", 0, 0, (5, What::BadRange)),
-    (b"row 0 0 0 0 0 0 0 0 0 0 0 0", 1, 1, (5, What::BadRange)),
-    (b"row 2 0 0 0 0 0 0 0 0 0 0 0", 1, 0, (5, What::BadRange)),
-    (
-        b"row 1 17179869185 0 0 0 0 0 0 0 0 0 0",
-        1,
-        0,
-        (7, What::BadRange),
-    ),
-    (b"row 1 0 0 0 0 -1 0 0 0 0 0 0", 1, 0, (15, What::BadRange)),
-];
-
-// Why a row of two arcs over the pairs 1 and 2 is refused, if it is.
-fn row_flaw(pair: u32, least: u32, line: &[u8]) -> Option<Place> {
+#[test]
+fn reads_rows(rt: HostRuntime) {
     let arc = Arc {
         sat: 5,
         first: 1,
@@ -102,20 +80,44 @@ fn row_flaw(pair: u32, least: u32, line: &[u8]) -> Option<Place> {
         datum: true,
         shift: [0, 0, 0],
     };
-    if line.len() <= 4096 {
-        row_in(ON_12, &[arc, arc], pair, least, line)
-            .err()
-            .map(place_of)
-    } else {
-        None
-    }
-}
-
-#[test]
-fn reads_rows(rt: HostRuntime) {
-    for row in BAD_ROWS.iter() {
+    let arcs = [arc, arc];
+    let bad: [(&[u8], u32, u32, Flaw); 5] = [
+        (
+            b"row 0 0 0 0 0 0 0 0 0 0 0 0",
+            0,
+            0,
+            flaw(5, What::BadRange),
+        ),
+        (
+            b"row 0 0 0 0 0 0 0 0 0 0 0 0",
+            1,
+            1,
+            flaw(5, What::BadRange),
+        ),
+        (
+            b"row 2 0 0 0 0 0 0 0 0 0 0 0",
+            1,
+            0,
+            flaw(5, What::BadRange),
+        ),
+        (
+            b"row 1 17179869185 0 0 0 0 0 0 0 0 0 0",
+            1,
+            0,
+            flaw(7, What::BadRange),
+        ),
+        (
+            b"row 1 0 0 0 0 -1 0 0 0 0 0 0",
+            1,
+            0,
+            flaw(15, What::BadRange),
+        ),
+    ];
+    for row in bad.iter() {
         let (line, pair, least, want) = *row;
-        assert_eq!(rt; row_flaw(pair, least, line), Some(want));
+        if line.len() <= 4096 {
+            assert!(rt; row_in(ON_12, &arcs, pair, least, line) == Err(want));
+        }
     }
 }
 
@@ -134,68 +136,62 @@ fn writes_arcs(rt: HostRuntime) -> Result<(), Fail> {
     Ok(())
 }
 
-const SIGNALS: [(Version, &[u8], Result<Signals, Place>); 11] = [
-    (Version::One, b"signals C W", Ok(ON_12)),
-    (Version::Two, b"signals 12 C W", Ok(ON_12)),
-    (Version::Two, b"signals 15 C Q", Ok(ON_15)),
-    (Version::Two, b"signals 125 C W Q", Ok(ON_125)),
-    (Version::One, b"signals 12 C W", NONE),
-    (Version::Two, b"signals C W", NONE),
-    (Version::Two, b"signals 12 C Q", NONE),
-    (Version::Two, b"signals 15 C W", NONE),
-    (Version::Two, b"signals 125 C W", NONE),
-    (Version::Two, b"signals 125 C Q W", NONE),
-    (Version::Two, b"signals 125 C W Q ", NONE),
-];
-
-const NONE: Result<Signals, Place> = Err((1, What::BadLine));
-
 #[test]
 fn reads_signals(rt: HostRuntime) {
-    for row in SIGNALS.iter() {
-        let (version, line, want) = *row;
-        assert_eq!(rt; signals_in(version, line).map_err(place_of), want);
+    assert_eq!(rt; signals_in(Version::One, b"signals C W"), Ok(ON_12));
+    assert_eq!(rt; signals_in(Version::Two, b"signals 12 C W"), Ok(ON_12));
+    assert_eq!(rt; signals_in(Version::Two, b"signals 15 C Q"), Ok(ON_15));
+    assert_eq!(rt; signals_in(Version::Two, b"signals 125 C W Q"), Ok(ON_125));
+    let bad: [(Version, &[u8]); 7] = [
+        (Version::One, b"signals 12 C W"),
+        (Version::Two, b"signals C W"),
+        (Version::Two, b"signals 12 C Q"),
+        (Version::Two, b"signals 15 C W"),
+        (Version::Two, b"signals 125 C W"),
+        (Version::Two, b"signals 125 C Q W"),
+        (Version::Two, b"signals 125 C W Q "),
+    ];
+    for row in bad.iter() {
+        let (version, line) = *row;
+        assert_eq!(rt; signals_in(version, line), Err(flaw(1, What::BadLine)));
     }
-    let found = (
-        system_in(b"system E"),
-        system_in(b"system R").map_err(place_of),
-    );
-    assert_eq!(rt; found, (Ok(b'E'), Err((1, What::BadLine))));
-}
-
-// The arc of a datum from pair 0 to 9.
-const ON_BANDS: Arc = Arc {
-    sat: 36,
-    first: 0,
-    last: 9,
-    datum: true,
-    shift: [5, 0, -6],
-};
-
-// What the line of that arc is on L1 and L5, and on other signals.
-const ON_OTHERS: [(Version, Signals, Result<Arc, Place>); 3] = [
-    (Version::Two, ON_15, Ok(ON_BANDS)),
-    (Version::One, ON_12, Err((5, What::BadRange))),
-    (Version::Two, ON_125, Err((1, What::BadLine))),
-];
-
-#[test]
-fn reads_arcs_on_other_bands(rt: HostRuntime) {
-    for row in ON_OTHERS.iter() {
-        let (version, signals, want) = *row;
-        let found = arc_in(version, signals, 1, 1, b"arc 36 0 9 datum 5 -6");
-        assert_eq!(rt; found.map_err(place_of), want);
-    }
+    assert_eq!(rt; system_in(b"system E"), Ok(b'E'));
+    assert_eq!(rt; system_in(b"system R"), Err(flaw(1, What::BadLine)));
 }
 
 #[test]
-fn reads_a_row_on_other_bands(rt: HostRuntime) {
-    let row = row_in(ON_15, &[ON_BANDS], 3, 0, b"row 0 1 2 3 4 5 6 7 8 9 10 11");
-    let found = row.ok().map(|row| (row.y, row.ry, row.u, row.ru));
+fn reads_other_bands(rt: HostRuntime) {
+    let arc = Arc {
+        sat: 36,
+        first: 0,
+        last: 9,
+        datum: true,
+        shift: [5, 0, -6],
+    };
     assert_eq!(rt;
-        found,
-        Some(([1, 0, 2, 0, 3, 4], 5, [6, 7, 8], [9, 10, 11]))
+        arc_in(Version::Two, ON_15, 1, 1, b"arc 36 0 9 datum 5 -6"),
+        Ok(arc)
     );
+    assert_eq!(rt;
+        arc_in(Version::One, ON_12, 1, 1, b"arc 36 0 9 datum 5 -6"),
+        Err(flaw(5, What::BadRange))
+    );
+    assert_eq!(rt;
+        arc_in(Version::Two, ON_125, 1, 1, b"arc 36 0 9 datum 5 -6"),
+        Err(flaw(1, What::BadLine))
+    );
+    let row = row_in(ON_15, &[arc], 3, 0, b"row 0 1 2 3 4 5 6 7 8 9 10 11");
+    let Ok(row) = row else {
+        assert!(rt; false, "the row is one");
+        return;
+    };
+    let y = row.y;
+    let u = row.u;
+    let ru = row.ru;
+    assert_eq!(rt; y, [1, 0, 2, 0, 3, 4]);
+    assert_eq!(rt; row.ry, 5);
+    assert_eq!(rt; u, [6, 7, 8]);
+    assert_eq!(rt; ru, [9, 10, 11]);
 }
 
 #[test]

@@ -1,11 +1,11 @@
 //! Certificates that are read and written again.
-use crate::texts::{MOST, text_of};
 use cert_text::{Version, read_as, read_cert, write_cert};
-use std::alloc::Global;
+use std::alloc::{AllocError, Global};
+use std::process::Abort;
 use std::test::Fail;
 
 // The head, the arcs and the pairs of a small certificate of two satellites in one pair.
-static SMALL: [&str; 14] = [
+const SMALL: [&str; 14] = [
     "baseline-cert 2",
     "ratio 2000",
     "budget 1000",
@@ -24,44 +24,64 @@ static SMALL: [&str; 14] = [
 
 const WEAK: [&str; 1] = ["declined weak fine 0 -6"];
 
-static TAILS: [&[&str]; 7] = [
-    &WEAK,
-    &["z1 0 0", "z2 0 1", "move 0 0 0", "values 35 0 0 0", "fixed"],
-    &[
-        "z1 -1 1073741823",
-        "z2 7 7",
-        "move 1 -2 3",
-        "values 0 -1 2 -3",
-        "declined unseparated",
-    ],
-    &["declined overwidth fine y"],
-    &["declined overwidth fine search"],
-    &["declined unsettled fine -70368744177663"],
-    &["declined spent 1000"],
+const NEAR: [&str; 5] = [
+    "z1 -1 1073741823",
+    "z2 7 7",
+    "move 1 -2 3",
+    "values 0 -1 2 -3",
+    "declined unseparated",
 ];
 
-// Whether the certificate of these lines is written as it was read.
-fn is_given_back(alloc: Global, front: &[&str], tail: &[&str]) -> Result<bool, Fail> {
-    let text = text_of(alloc, &[front, tail])?;
-    if text.len() > MOST {
-        return Ok(false);
-    }
-    let cert = read_cert(alloc, text.as_bytes())?;
-    let mut out = Vec::new(alloc);
-    write_cert(alloc, &mut out, &cert)?;
-    Ok(out.as_slice() == text.as_bytes())
-}
+const FIXED: [&str; 5] = ["z1 0 0", "z2 0 1", "move 0 0 0", "values 35 0 0 0", "fixed"];
 
-#[test]
-fn gives_texts_back(rt: HostRuntime) -> Result<(), Fail> {
-    for tail in TAILS.iter() {
-        assert_eq!(rt; is_given_back(rt.alloc(), &SMALL, tail)?, true, "{tail:?}");
+fn push_lines(text: &mut String, lines: &[&str]) -> Result<(), AllocError> {
+    for line in lines {
+        text.push_str(line)?;
+        text.push('\n')?;
     }
     Ok(())
 }
 
+fn text_of(alloc: Global, front: &[&str], back: &[&str]) -> Result<String, AllocError> {
+    let mut text = String::new(alloc);
+    push_lines(&mut text, front)?;
+    push_lines(&mut text, back)?;
+    Ok(text)
+}
+
+// The text, read and written again.
+fn again(rt: &impl Abort, alloc: Global, text: &str) -> Result<Vec<u8>, AllocError> {
+    assert!(rt; text.len() <= 67_108_864);
+    let mut out = Vec::new(alloc);
+    match read_cert(alloc, text.as_bytes()) {
+        Ok(cert) => write_cert(alloc, &mut out, &cert)?,
+        Err(_) => panic!(rt; "refused"),
+    }
+    Ok(out)
+}
+
+fn gives_back(rt: &impl Abort, alloc: Global, tail: &[&str]) -> Result<(), AllocError> {
+    let text = text_of(alloc, &SMALL, tail)?;
+    let out = again(rt, alloc, &text)?;
+    assert!(rt; out.as_slice() == text.as_bytes());
+    Ok(())
+}
+
+#[test]
+fn gives_texts_back(rt: HostRuntime) -> Result<(), Fail> {
+    let alloc = rt.alloc();
+    gives_back(&rt, alloc, &WEAK)?;
+    gives_back(&rt, alloc, &FIXED)?;
+    gives_back(&rt, alloc, &NEAR)?;
+    gives_back(&rt, alloc, &["declined overwidth fine y"])?;
+    gives_back(&rt, alloc, &["declined overwidth fine search"])?;
+    gives_back(&rt, alloc, &["declined unsettled fine -70368744177663"])?;
+    gives_back(&rt, alloc, &["declined spent 1000"])?;
+    Ok(())
+}
+
 // A certificate of the bands L1 and L5 of Galileo.
-static OTHER_BANDS: [&str; 15] = [
+const OTHER_BANDS: [&str; 15] = [
     "baseline-cert 2",
     "ratio 2000",
     "budget 1000",
@@ -80,7 +100,7 @@ static OTHER_BANDS: [&str; 15] = [
 ];
 
 // A certificate of all three bands, whose arc has three integers.
-static ALL_BANDS: [&str; 19] = [
+const ALL_BANDS: [&str; 19] = [
     "baseline-cert 2",
     "ratio 2000",
     "budget 1000",
@@ -104,21 +124,18 @@ static ALL_BANDS: [&str; 19] = [
 
 #[test]
 fn gives_other_bands_back(rt: HostRuntime) -> Result<(), Fail> {
-    assert_eq!(rt;
-        is_given_back(rt.alloc(), &OTHER_BANDS, &[])?,
-        true,
-        "L1 and L5"
-    );
-    assert_eq!(rt;
-        is_given_back(rt.alloc(), &ALL_BANDS, &[])?,
-        true,
-        "all bands"
-    );
+    let alloc = rt.alloc();
+    let two = text_of(alloc, &OTHER_BANDS, &[])?;
+    let out = again(&rt, alloc, &two)?;
+    assert!(rt; out.as_slice() == two.as_bytes());
+    let three = text_of(alloc, &ALL_BANDS, &[])?;
+    let out = again(&rt, alloc, &three)?;
+    assert!(rt; out.as_slice() == three.as_bytes());
     Ok(())
 }
 
 // The same certificate in the form of the first version.
-static OLD: [&str; 14] = [
+const OLD: [&str; 14] = [
     "baseline-cert 1",
     "ratio 2000",
     "budget 1000",
@@ -135,20 +152,17 @@ static OLD: [&str; 14] = [
     "declined weak fine 0 -6",
 ];
 
-// What an old certificate is written as.
-fn written_anew(alloc: Global, lines: &[&str]) -> Result<Vec<u8>, Fail> {
-    let text = text_of(alloc, &[lines])?;
-    let mut out = Vec::new(alloc);
-    if text.len() <= MOST {
-        let cert = read_as(alloc, Version::One, text.as_bytes())?;
-        write_cert(alloc, &mut out, &cert)?;
-    }
-    Ok(out)
-}
-
 #[test]
 fn reads_the_first_version(rt: HostRuntime) -> Result<(), Fail> {
-    let new = text_of(rt.alloc(), &[SMALL.as_slice(), &WEAK])?;
-    assert_eq!(rt; written_anew(rt.alloc(), &OLD)?.as_slice(), new.as_bytes());
+    let alloc = rt.alloc();
+    let old = text_of(alloc, &OLD, &[])?;
+    assert!(rt; old.len() <= 67_108_864);
+    let mut out = Vec::new(alloc);
+    match read_as(alloc, Version::One, old.as_bytes()) {
+        Ok(cert) => write_cert(alloc, &mut out, &cert)?,
+        Err(_) => panic!(rt; "refused"),
+    }
+    let new = text_of(alloc, &SMALL, &WEAK)?;
+    assert!(rt; out.as_slice() == new.as_bytes());
     Ok(())
 }

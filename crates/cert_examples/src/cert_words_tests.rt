@@ -4,69 +4,79 @@ use line_source::Lines;
 use rinex_head::{Flaw, What, next_line};
 use std::test::Fail;
 
-static BAD_LINES: [&[u8]; 10] = [
-    b"row 0 -17",
-    b"row 0 -17 5 6",
-    b"row 0 -17 5 ",
-    b"row 0  17 5",
-    b" row 0 17 5",
-    b"row 0 +17 5",
-    b"row 0 017 5",
-    b"row 0 -0 5",
-    b"rows 0 17 5",
-    b"row 0 17 5\r",
-];
-
-// Whether the line has three numbers after `row`.
-fn has_three(line: &[u8]) -> Option<bool> {
-    if line.len() <= 4096 {
-        Some(numbers_behind(b"row", 3, line).is_ok())
-    } else {
-        None
-    }
-}
-
-const fn number(column: u32, value: i128) -> Number {
-    Number { column, value }
-}
-
 #[test]
 fn reads_numbers(rt: HostRuntime) -> Result<(), Fail> {
     let line = b"row 0 -17 85070591730234615865843651857942052864";
-    let numbers = numbers_behind(b"row", 3, line)
-        .ok()
-        .ok_or("no three numbers")?;
-    let want = [number(5, 0), number(7, -17), number(11, 1 << 126)];
+    let Ok(numbers) = numbers_behind(b"row", 3, line) else {
+        assert!(rt; false, "the line has three numbers");
+        return Ok(());
+    };
+    let want = [
+        Number {
+            column: 5,
+            value: 0,
+        },
+        Number {
+            column: 7,
+            value: -17,
+        },
+        Number {
+            column: 11,
+            value: 1 << 126,
+        },
+    ];
     assert_eq!(rt; numbers.as_slice(), want.as_slice());
-    for line in BAD_LINES.iter() {
-        assert_eq!(rt; has_three(line), Some(false));
+    let bad: [&[u8]; 10] = [
+        b"row 0 -17",
+        b"row 0 -17 5 6",
+        b"row 0 -17 5 ",
+        b"row 0  17 5",
+        b" row 0 17 5",
+        b"row 0 +17 5",
+        b"row 0 017 5",
+        b"row 0 -0 5",
+        b"rows 0 17 5",
+        b"row 0 17 5\r",
+    ];
+    for line in bad {
+        if line.len() <= 4096 {
+            assert!(rt; numbers_behind(b"row", 3, line).is_err());
+        }
     }
     Ok(())
 }
 
-const fn flaw(column: u32) -> Flaw {
-    Flaw {
-        column,
-        what: What::BadRange,
-    }
-}
-
 #[test]
 fn keeps_ranges(rt: HostRuntime) {
-    let least = number(9, -5);
-    let found = (
-        least.natural(0, 9),
-        least.within_range(&Range { low: -5, high: 5 }),
-        least.within_range(&Range { low: -4, high: 5 }),
-    );
-    assert_eq!(rt; found, (Err(flaw(9)), Ok(-5), Err(flaw(9))));
+    let number = Number {
+        column: 9,
+        value: -5,
+    };
+    let flaw = Flaw {
+        column: 9,
+        what: What::BadRange,
+    };
+    assert_eq!(rt; number.natural(0, 9), Err(flaw));
+    assert_eq!(rt; number.within_range(&Range { low: -5, high: 5 }), Ok(-5));
+    assert_eq!(rt; number.within_range(&Range { low: -4, high: 5 }), Err(flaw));
     let range = Range { low: 0, high: 9 };
-    let nine = number(1, 9);
-    let all = (
-        all_within::<3>(&range, &[nine, nine]),
-        all_within::<3>(&range, &[nine, number(3, 10), least]),
+    let nine = Number {
+        column: 1,
+        value: 9,
+    };
+    let ten = Number {
+        column: 3,
+        value: 10,
+    };
+    assert_eq!(rt; all_within::<3>(&range, &[nine, nine]), Ok([9, 9, 0]));
+    let at_three = Flaw {
+        column: 3,
+        what: What::BadRange,
+    };
+    assert_eq!(rt;
+        all_within::<3>(&range, &[nine, ten, number]),
+        Err(at_three)
     );
-    assert_eq!(rt; all, (Ok([9, 9, 0]), Err(flaw(3))));
 }
 
 #[test]

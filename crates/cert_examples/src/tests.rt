@@ -1,52 +1,63 @@
 //! What is printed of runs that end with a certificate.
-use crate::texts::{MOST, NOTHING, SESSION, SMALL, text_of};
+use crate::texts::{NOTHING, SESSION, SMALL};
 use cert_data::{Answer, Outcome, RoundCounts};
-use cert_text::read_cert;
+use cert_text::{Cert, read_cert};
 use outcome_report::{is_fixed, write_outcome};
-use std::alloc::Global;
+use std::alloc::{AllocError, Global};
+use std::process::Abort;
 use std::test::Fail;
 
-// The budget of a certificate with a ratio of 2, its lines in two parts, whether it fixes, and what is printed beside it of a run
-// that ends with it. The generator's offset of the first session's rover is (-165680, 943607, -659500) mm.
-type Told = (
-    &'static str,
-    &'static [&'static str],
-    &'static [&'static str],
-    bool,
-    &'static str,
-);
+const VALUES: &str = "values 41 107551584 2298605384680 1709993";
 
-static TOLD: [Told; 2] = [
-    (
-        "budget 1000000",
-        &SESSION,
-        &["values 41 107551584 2298605384680 1709993", "fixed"],
-        true,
-        "pairs 6 of 11\narcs 5\nbaseline -165.6800 943.6070 -659.5000\nverdict fixed\n",
-    ),
-    (
-        "budget 1000000",
-        &SMALL,
-        &NOTHING,
-        false,
-        "pairs 6 of 11\narcs 5\nverdict declined\n",
-    ),
-];
+fn push_lines(text: &mut String, lines: &[&str]) -> Result<(), AllocError> {
+    for line in lines {
+        text.push_str(line)?;
+        text.push('\n')?;
+    }
+    Ok(())
+}
 
-// What isn't printed of a run that ends with the certificate of a row: the certificate itself, and what is told.
-fn outcome_fault(alloc: Global, row: &Told) -> Result<Option<&'static str>, Fail> {
-    let (budget, front, back, fixed, told) = *row;
-    let text = text_of(
-        alloc,
-        &[&["baseline-cert 2", "ratio 2000", budget], front, back],
-    )?;
-    if text.len() > MOST {
-        return Ok(Some("the length"));
+// The text of these lines after a ratio of 2 and a budget.
+fn text_of(
+    alloc: Global,
+    budget: &str,
+    front: &[&str],
+    back: &[&str],
+) -> Result<String, AllocError> {
+    let mut text = String::new(alloc);
+    push_lines(&mut text, &["baseline-cert 2", "ratio 2000", budget])?;
+    push_lines(&mut text, front)?;
+    push_lines(&mut text, back)?;
+    Ok(text)
+}
+
+// The certificate of these lines.
+fn cert_of(
+    rt: &impl Abort,
+    alloc: Global,
+    budget: &str,
+    front: &[&str],
+    back: &[&str],
+) -> Result<Cert, AllocError> {
+    let text = text_of(alloc, budget, front, back)?;
+    assert!(rt; text.len() <= 67_108_864);
+    match read_cert(alloc, text.as_bytes()) {
+        Ok(cert) => Ok(cert),
+        Err(_) => panic!(rt; "refused"),
     }
-    let answer = Answer::Full(read_cert(alloc, text.as_bytes())?);
-    if is_fixed(&answer) != fixed {
-        return Ok(Some("whether it fixes"));
-    }
+}
+
+// What is printed of a run that ends with this certificate: the text that it was read from, and these lines.
+fn outcome_is(
+    rt: &impl Abort,
+    alloc: Global,
+    cert: Cert,
+    fixed: bool,
+    text: &[u8],
+    want: &str,
+) -> Result<(), AllocError> {
+    let answer = Answer::Full(cert);
+    assert!(rt; is_fixed(&answer) == fixed);
     let outcome = Outcome {
         taken: 6,
         all: 11,
@@ -55,21 +66,26 @@ fn outcome_fault(alloc: Global, row: &Told) -> Result<Option<&'static str>, Fail
         rounds: RoundCounts { coarse: 3, fine: 2 },
         answer,
     };
-    let (mut out, mut err) = (Vec::new(alloc), Vec::new(alloc));
+    let mut out = Vec::new(alloc);
+    let mut err = Vec::new(alloc);
     write_outcome(alloc, &mut out, &mut err, &outcome)?;
-    if out.as_slice() != text.as_bytes() {
-        Ok(Some("the certificate"))
-    } else if err.as_slice() != told.as_bytes() {
-        Ok(Some("what is told"))
-    } else {
-        Ok(None)
-    }
+    assert!(rt; out.as_slice() == text);
+    assert!(rt; err.as_slice() == want.as_bytes());
+    Ok(())
 }
 
+// The generator's offset of the first session's rover is (-165680, 943607, -659500) mm.
 #[test]
 fn tells_outcomes(rt: HostRuntime) -> Result<(), Fail> {
-    for row in TOLD.iter() {
-        assert_eq!(rt; outcome_fault(rt.alloc(), row)?, None, "{}", row.4);
-    }
+    let alloc = rt.alloc();
+    let budget = "budget 1000000";
+    let fixed = cert_of(&rt, alloc, budget, &SESSION, &[VALUES, "fixed"])?;
+    let text = text_of(alloc, budget, &SESSION, &[VALUES, "fixed"])?;
+    let expected = "pairs 6 of 11\narcs 5\nbaseline -165.6800 943.6070 -659.5000\nverdict fixed\n";
+    outcome_is(&rt, alloc, fixed, true, text.as_bytes(), expected)?;
+    let nothing = cert_of(&rt, alloc, budget, &SMALL, &NOTHING)?;
+    let text = text_of(alloc, budget, &SMALL, &NOTHING)?;
+    let expected = "pairs 6 of 11\narcs 5\nverdict declined\n";
+    outcome_is(&rt, alloc, nothing, false, text.as_bytes(), expected)?;
     Ok(())
 }

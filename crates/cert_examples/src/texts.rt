@@ -1,20 +1,4 @@
 //! Certificates, in parts.
-use std::alloc::{AllocError, Global};
-
-/// The most bytes of a text that a reader takes.
-pub(crate) const MOST: usize = 67_108_864;
-
-/// The text of these lines.
-pub(crate) fn text_of(alloc: Global, parts: &[&[&str]]) -> Result<String, AllocError> {
-    let mut text = String::new(alloc);
-    for part in parts {
-        for line in part.iter() {
-            text.push_str(line)?;
-            text.push('\n')?;
-        }
-    }
-    Ok(text)
-}
 
 // Six epochs of five satellites, between the line of the budget and that of the values.
 pub(crate) const SESSION: [&str; 50] = [

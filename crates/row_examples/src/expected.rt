@@ -19,7 +19,7 @@ pub struct Expected {
 }
 
 // Seed 1, six epochs, four satellites; where the rover stands.
-pub static PLAIN: Expected = Expected {
+pub const PLAIN: Expected = Expected {
     base: [63_781_370_000, 0, 0],
     point: [63_779_713_200, 9_436_070, -6_595_000],
     taken: 6,
@@ -150,7 +150,7 @@ pub static PLAIN: Expected = Expected {
 };
 
 // Seed 77, three epochs, six satellites of which two are below the mask of 500; up to 31 m from where the rover stands.
-pub static HIGH: Expected = Expected {
+pub const HIGH: Expected = Expected {
     base: [63_781_370_000, 0, 0],
     point: [63_785_267_010, 5_599_380, 7_839_860],
     taken: 3,

@@ -2,7 +2,7 @@
 use crate::expected::Expected;
 
 // Seed 8, three epochs, four satellites on L1, L2 and L5; where the rover stands.
-pub static ALL_BANDS: Expected = Expected {
+pub const ALL_BANDS: Expected = Expected {
     base: [63_781_370_000, 0, 0],
     point: [63_771_843_440, -6_730_780, 2_749_930],
     taken: 3,
@@ -133,7 +133,7 @@ pub static ALL_BANDS: Expected = Expected {
 };
 
 // Seed 21, three epochs, E33 to E36 in place of E01 to E04; where the rover stands.
-pub static GALILEO: Expected = Expected {
+pub const GALILEO: Expected = Expected {
     base: [63_781_370_000, 0, 0],
     point: [63_772_452_240, 288_370, 2_421_920],
     taken: 3,
