@@ -6,7 +6,8 @@
 //! and the distance from the Earth's centre; the call takes no memory and is never refused. `above` says whether a
 //! satellite is above the elevation mask, exactly, at a place within 2^-17 m of every place in its box (`kept`,
 //! `left_out`; a mask of 1000 included). `aim_from` gives the range with the mean direction, both at one point, and makes
-//! their vector once (`range`, `direction`); the boxes of a point's coordinates are made once with it (`point_at`). `mean_direction` holds the mean direction from a point, which may be another
+//! their vector once (`range`, `direction`); `point_at` makes such a point, with the boxes of its coordinates, for all that is
+//! seen from there. `mean_direction` holds the mean direction from a point, which may be another
 //! one than the box was made with, for every place of the box and every displacement of at most 16 m; its type
 //! `Spread` keeps each centre at most 1 in size and each radius at most 32 units of 2^-24. `is_receiver_point` tests
 //! exactly what these calls ask of a point.
@@ -113,7 +114,8 @@ pub fn aim_from(sv: &SvBox, point: &Point) -> Aim
         IsSeenPlace sent (point_of point.now.x point.now.y point.now.z) travel seen → Holds result.range (range_of travel) }
     ensures direction { (sent seen move direction : Place) (travel : Rational) → HoldsPlace sv.now.place sent →
         IsSeenPlace sent (point_of point.now.x point.now.y point.now.z) travel seen →
-        IsDisplacement move → IsMeanDirection seen (point_of point.now.x point.now.y point.now.z) move direction → HoldsDirection result.direction direction }
+        IsDisplacement move → IsMeanDirection seen (point_of point.now.x point.now.y point.now.z) move direction →
+        HoldsDirection result.direction direction }
 {
     let sent = sent_box(sv);
     let sight = sight_of(&sent, point, travel_guess(&sent, point));

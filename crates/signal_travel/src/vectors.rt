@@ -46,7 +46,7 @@ fn rest_of(coordinate: i64) -> i64
     if raised % 625 == 0 { 0 } else { 1 }
 }
 
-/// A coordinate in units of 0.1 mm
+/// The box of a coordinate in units of 0.1 mm.
 pub fn coordinate_box(coordinate: i64) -> Iv<36>
     requires { unsigned_abs coordinate ≤ MOST_COORDINATE }
     ensures holds { Holds result (coordinate_of coordinate) }
@@ -57,7 +57,7 @@ pub fn coordinate_box(coordinate: i64) -> Iv<36>
     Iv::from_ends(low, low + rest_of(coordinate))
 }
 
-// x less the coordinate in the same place
+// x less a coordinate of a point
 fn offset_from(x: &Iv<36>, coordinate: &Iv<36>) -> Iv<36>
     requires x_size { IsWithin (38100000 * 2 ^ 36) x.now }
     requires size { IsWithin (7000001 * 2 ^ 36) coordinate.now }
