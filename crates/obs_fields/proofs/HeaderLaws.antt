@@ -17,12 +17,12 @@ use Rattle.obs_fields.specs.HeadParts.{HeadPart, IsPlain, AreHeadParts, head_lin
 pub record HeadRules (S F : Type 0) : Type 0 where
   pub rules : Rules S F
   pub layout : Layout
-  pub says : List ℕ → Result HeaderLine Flaw
+  pub meaning_of : List ℕ → Result HeaderLine Flaw
   pub head : Option (List ℤ) → List ℤ → Option (List (List ℕ)) → S
   pub due : Option (List ℤ) → List ℤ → List (List ℕ) → ℕ → S
   pub body : Option (List ℤ) → List ℤ → List (List ℕ) → S
   pub next : Option (List ℤ) → List ℤ → Option (List (List ℕ)) → List ℕ → HeaderLine → Result S Flaw
-  pub admits : (p : Option (List ℤ)) (d : List ℤ) (t : Option (List (List ℕ))) (bytes : List ℕ) → rules.admit (head p d t) bytes ≡ and_then (says bytes) (λ l. next p d t bytes l)
+  pub admits : (p : Option (List ℤ)) (d : List ℤ) (t : Option (List (List ℕ))) (bytes : List ℕ) → rules.admit (head p d t) bytes ≡ and_then (meaning_of bytes) (λ l. next p d t bytes l)
   pub placed : (p : Option (List ℤ)) (d : List ℤ) (t : Option (List (List ℕ))) (bytes : List ℕ) (q : Option (List ℤ)) → next p d t bytes (header.Position q) ≡ Ok (head q d t)
   pub moved : (p : Option (List ℤ)) (d : List ℤ) (t : Option (List (List ℕ))) (bytes : List ℕ) (e : List ℤ) → next p d t bytes (header.Delta e) ≡ Ok (head p e t)
   pub skipped : (p : Option (List ℤ)) (d : List ℤ) (t : Option (List (List ℕ))) (bytes : List ℕ) → next p d t bytes header.Skipped ≡ Ok (head p d t)
@@ -68,20 +68,20 @@ module _ {S F : Type 0} (r : HeadRules S F) where
   plain_step p d t bytes header.Skipped plain = r.skipped p d t bytes
 
   -- the other lines of a header
-  plain_taken : (parts : List HeadPart) (more : List (List ℕ)) (p : Option (List ℤ)) (d : List ℤ) (t : Option (List (List ℕ))) (n : ℕ) → AreHeadParts r.says parts
+  plain_taken : (parts : List HeadPart) (more : List (List ℕ)) (p : Option (List ℤ)) (d : List ℤ) (t : Option (List (List ℕ))) (n : ℕ) → AreHeadParts r.meaning_of parts
       → walk r.rules (head_lines parts ++ more) n (r.head p d t) ≡ walk r.rules more (n + length parts) (r.head (last_position p parts) (last_delta d parts) t)
   plain_taken [] more p d t n are = rw add-zero refl
   plain_taken (part ∷ parts) more p d t n are =
       let behind : n + suc (length parts) ≡ n + 1 + length parts = omega arith in
-      let p₂ = position_by p part.says in
-      let d₂ = delta_by d part.says in
-      let admits : r.rules.admit (r.head p d t) part.bytes ≡ Ok (r.head p₂ d₂ t) = r.admits p d t part.bytes ∙ rw (are.1) (plain_step p d t part.bytes part.says are.2) in
+      let p₂ = position_by p part.meaning in
+      let d₂ = delta_by d part.meaning in
+      let admits : r.rules.admit (r.head p d t) part.bytes ≡ Ok (r.head p₂ d₂ t) = r.admits p d t part.bytes ∙ rw (are.1) (plain_step p d t part.bytes part.meaning are.2) in
       walk-takes r.rules (r.head p d t) (r.head p₂ d₂ t) part.bytes (head_lines parts ++ more) n are.0 admits
       ∙ plain_taken parts more p₂ d₂ t (n + 1) are.3 ∙ rw behind refl
 
   -- all lines of a header after its first one, whatever follows them
   pub header_given : (before after : List HeadPart) (list last : List ℕ) (further more types : List (List ℕ)) (p : Option (List ℤ)) (d : List ℤ) (n : ℕ)
-      → AreHeadParts r.says before → IsTypeList r.layout r.says list further types → AreHeadParts r.says after → length last ≤ 4096 → r.says last ≡ Ok header.End
+      → AreHeadParts r.meaning_of before → IsTypeList r.layout r.meaning_of list further types → AreHeadParts r.meaning_of after → length last ≤ 4096 → r.meaning_of last ≡ Ok header.End
       → walk r.rules (head_lines before ++ (list ∷ (further ++ (head_lines after ++ (last ∷ more))))) n (r.head p d None)
       ≡ walk r.rules more (n + length before + 1 + length further + length after + 1) (r.body (last_position (last_position p before) after) (last_delta (last_delta d before) after) types)
   header_given before after list last further more types p d n before_are is after_are short ends =
@@ -107,9 +107,9 @@ module _ {S F : Type 0} (r : HeadRules S F) where
     pub last : List ℕ
     pub rest : List (List ℕ)
     pub lines_are : lines ≡ head_lines after ++ (last ∷ rest)
-    pub are : AreHeadParts r.says after
+    pub are : AreHeadParts r.meaning_of after
     pub last_short : length last ≤ 4096
-    pub ends : r.says last ≡ Ok header.End
+    pub ends : r.meaning_of last ≡ Ok header.End
     pub number : ℕ
     pub gives : walk r.rules rest number (r.body (last_position p after) (last_delta d after) types) ≡ Ok whole
 
@@ -128,8 +128,8 @@ module _ {S F : Type 0} (r : HeadRules S F) where
     pub tail : List (List ℕ)
     pub types : List (List ℕ)
     pub lines_are : lines ≡ head_lines before ++ (list ∷ (further ++ tail))
-    pub are : AreHeadParts r.says before
-    pub is_list : IsTypeList r.layout r.says list further types
+    pub are : AreHeadParts r.meaning_of before
+    pub is_list : IsTypeList r.layout r.meaning_of list further types
     pub end : TookEnd tail (last_position p before) (last_delta d before) types whole
 
   -- what lines of a header are: after the list of types, within it, and before it
@@ -157,11 +157,11 @@ module _ {S F : Type 0} (r : HeadRules S F) where
   of_due lines took p d names (suc left) n whole gives = took.more p d names left n whole gives
 
   abbrev part_of : List ℕ → HeaderLine → HeadPart
-  part_of bytes says = record { bytes = bytes; says = says }
+  part_of bytes meaning = record { bytes = bytes; meaning = meaning }
 
   some_line : (bytes : List ℕ) (lines : List (List ℕ)) → TookHead lines → (p : Option (List ℤ)) (d : List ℤ) (types : List (List ℕ)) (n : ℕ) (whole : F)
       → walk r.rules (bytes ∷ lines) n (r.head p d (Some types)) ≡ Ok whole → TookEnd (bytes ∷ lines) p d types whole
-  some_line bytes lines took p d types n whole gives = by_part (r.says bytes) refl (sym (r.admits p d (Some types) bytes) ∙ first.admits)
+  some_line bytes lines took p d types n whole gives = by_part (r.meaning_of bytes) refl (sym (r.admits p d (Some types) bytes) ∙ first.admits)
     where
       first : TookLine r.rules (r.head p d (Some types)) bytes lines n whole
       first = walk-took r.rules (r.head p d (Some types)) bytes lines n whole gives
@@ -169,9 +169,9 @@ module _ {S F : Type 0} (r : HeadRules S F) where
       others : (s : S) → answer s ≡ answer first.next → walk r.rules lines (n + 1) s ≡ Ok whole
       others s same = same_walk lines (n + 1) s first.next whole (one_state s first.next same) first.others
 
-      with_part : (says : HeaderLine) → r.says bytes ≡ Ok says → IsPlain says → TookEnd lines (position_by p says) (delta_by d says) types whole → TookEnd (bytes ∷ lines) p d types whole
-      with_part says is plain rest = record {
-        after = part_of bytes says ∷ rest.after;
+      with_part : (meaning : HeaderLine) → r.meaning_of bytes ≡ Ok meaning → IsPlain meaning → TookEnd lines (position_by p meaning) (delta_by d meaning) types whole → TookEnd (bytes ∷ lines) p d types whole
+      with_part meaning is plain rest = record {
+        after = part_of bytes meaning ∷ rest.after;
         last = rest.last;
         rest = rest.rest;
         lines_are = ap (λ (l : List (List ℕ)). bytes ∷ l) rest.lines_are;
@@ -182,7 +182,7 @@ module _ {S F : Type 0} (r : HeadRules S F) where
         gives = rest.gives;
       }
 
-      by_part : (says : Result HeaderLine Flaw) → r.says bytes ≡ says → and_then says (λ l. r.next p d (Some types) bytes l) ≡ Ok first.next → TookEnd (bytes ∷ lines) p d types whole
+      by_part : (meaning : Result HeaderLine Flaw) → r.meaning_of bytes ≡ meaning → and_then meaning (λ l. r.next p d (Some types) bytes l) ≡ Ok first.next → TookEnd (bytes ∷ lines) p d types whole
       by_part (Ok header.End) is gives =
           let rest_gives = others (r.body p d types) (sym (r.ends p d types bytes) ∙ gives) in
           record { after = []; last = bytes; rest = lines; lines_are = refl; are = tt; last_short = first.short; ends = is; number = n + 1; gives = rest_gives }
@@ -219,7 +219,7 @@ module _ {S F : Type 0} (r : HeadRules S F) where
 
   none_line : (bytes : List ℕ) (lines : List (List ℕ)) → TookHead lines → (p : Option (List ℤ)) (d : List ℤ) (n : ℕ) (whole : F)
       → walk r.rules (bytes ∷ lines) n (r.head p d None) ≡ Ok whole → TookList (bytes ∷ lines) p d whole
-  none_line bytes lines took p d n whole gives = by_part (r.says bytes) refl (sym (r.admits p d None bytes) ∙ first.admits)
+  none_line bytes lines took p d n whole gives = by_part (r.meaning_of bytes) refl (sym (r.admits p d None bytes) ∙ first.admits)
     where
       first : TookLine r.rules (r.head p d None) bytes lines n whole
       first = walk-took r.rules (r.head p d None) bytes lines n whole gives
@@ -227,7 +227,7 @@ module _ {S F : Type 0} (r : HeadRules S F) where
       others : (s : S) → answer s ≡ answer first.next → walk r.rules lines (n + 1) s ≡ Ok whole
       others s same = same_walk lines (n + 1) s first.next whole (one_state s first.next same) first.others
 
-      by_list : (types : Result TypeList Flaw) → first_types_of r.layout bytes ≡ types → r.says bytes ≡ Ok header.Types
+      by_list : (types : Result TypeList Flaw) → first_types_of r.layout bytes ≡ types → r.meaning_of bytes ≡ Ok header.Types
           → and_then types (λ list. Ok (r.due p d list.names list.left)) ≡ Ok first.next → TookList (bytes ∷ lines) p d whole
       by_list (Ok list) lists is gives =
           let rest = of_due lines took p d list.names list.left (n + 1) whole (others (r.due p d list.names list.left) gives) in
@@ -244,9 +244,9 @@ module _ {S F : Type 0} (r : HeadRules S F) where
           }
       by_list (Err flaw) lists is gives = absurd cc
 
-      with_part : (says : HeaderLine) → r.says bytes ≡ Ok says → IsPlain says → TookList lines (position_by p says) (delta_by d says) whole → TookList (bytes ∷ lines) p d whole
-      with_part says is plain rest = record {
-        before = part_of bytes says ∷ rest.before;
+      with_part : (meaning : HeaderLine) → r.meaning_of bytes ≡ Ok meaning → IsPlain meaning → TookList lines (position_by p meaning) (delta_by d meaning) whole → TookList (bytes ∷ lines) p d whole
+      with_part meaning is plain rest = record {
+        before = part_of bytes meaning ∷ rest.before;
         list = rest.list;
         further = rest.further;
         tail = rest.tail;
@@ -257,7 +257,7 @@ module _ {S F : Type 0} (r : HeadRules S F) where
         end = rest.end;
       }
 
-      by_part : (says : Result HeaderLine Flaw) → r.says bytes ≡ says → and_then says (λ l. r.next p d None bytes l) ≡ Ok first.next → TookList (bytes ∷ lines) p d whole
+      by_part : (meaning : Result HeaderLine Flaw) → r.meaning_of bytes ≡ meaning → and_then meaning (λ l. r.next p d None bytes l) ≡ Ok first.next → TookList (bytes ∷ lines) p d whole
       by_part (Ok header.End) is gives = absurd (r.listed p d bytes first.next gives)
       by_part (Ok (header.Position q)) is gives =
           with_part (header.Position q) is tt (took.none q d (n + 1) whole (others (r.head q d None) (sym (r.placed p d None bytes q) ∙ gives)))

@@ -16,5 +16,5 @@ AreEventLines layout changes (bytes ∷ lines) = (length bytes ≤ 4096) × (eve
 -- Its line says, by its format, whether the header may change and how many lines follow.
 pub record IsEventPart (layout : Layout) (Says : List ℕ → Bool → ℕ → Type 0) (p : EventPart) : Type 0 where
   pub short : length p.bytes ≤ 4096
-  pub says : Says p.bytes p.changes (length p.event_lines)
+  pub is_read : Says p.bytes p.changes (length p.event_lines)
   pub lines : AreEventLines layout p.changes p.event_lines

@@ -1,4 +1,4 @@
--- The lines of a header outside its list of types, and those of the list. `says` is what a line of the header says by its format.
+-- The lines of a header outside its list of types, and those of the list. `meaning_of` gives what a line of the header says by its format.
 use Rattle.std.specs.Prelude.{◌≡◌, ℕ, ℤ, ◌<◌, ◌≤◌, List, [], ◌∷◌, length, Result, Ok}
 use Rattle.std.specs.declared.option.Option.{Option}
 use Rattle.rinex_head.specs.declared.place.Flaw.{Flaw}
@@ -11,7 +11,7 @@ use Rattle.obs_fields.specs.declared.types.TypeList.{TypeList}
 -- a line of the header outside the list of types, and what it says
 pub record HeadPart : Type 0 where
   pub bytes : List ℕ
-  pub says : HeaderLine
+  pub meaning : HeaderLine
 
 -- a position, a delta, or nothing that counts
 abbrev pub IsPlain : HeaderLine → Type 0
@@ -22,8 +22,8 @@ IsPlain header.Types = ⊥
 IsPlain header.Skipped = Unit {0}
 
 abbrev pub AreHeadParts : (List ℕ → Result HeaderLine Flaw) → List HeadPart → Type 0
-AreHeadParts says [] = Unit {0}
-AreHeadParts says (p ∷ ps) = (length p.bytes ≤ 4096) × (says p.bytes ≡ Ok p.says) × IsPlain p.says × AreHeadParts says ps
+AreHeadParts meaning_of [] = Unit {0}
+AreHeadParts meaning_of (p ∷ ps) = (length p.bytes ≤ 4096) × (meaning_of p.bytes ≡ Ok p.meaning) × IsPlain p.meaning × AreHeadParts meaning_of ps
 
 abbrev pub head_lines : List HeadPart → List (List ℕ)
 head_lines [] = []
@@ -46,11 +46,11 @@ delta_by before header.Skipped = before
 
 abbrev pub last_position : Option (List ℤ) → List HeadPart → Option (List ℤ)
 last_position before [] = before
-last_position before (p ∷ ps) = last_position (position_by before p.says) ps
+last_position before (p ∷ ps) = last_position (position_by before p.meaning) ps
 
 abbrev pub last_delta : List ℤ → List HeadPart → List ℤ
 last_delta before [] = before
-last_delta before (p ∷ ps) = last_delta (delta_by before p.says) ps
+last_delta before (p ∷ ps) = last_delta (delta_by before p.meaning) ps
 
 -- the further lines of a list of types, after which all its names are there
 abbrev pub AreFurther : Layout → List (List ℕ) → List (List ℕ) → ℕ → List (List ℕ) → Type 0
@@ -59,9 +59,9 @@ AreFurther layout (bytes ∷ lines) names left all =
     (0 < left) × (length bytes ≤ 4096) × ((list : TypeList) × (further_types_of layout bytes names left ≡ Ok list) × AreFurther layout lines list.names list.left all)
 
 -- the lines of the list of types
-pub record IsTypeList (layout : Layout) (says : List ℕ → Result HeaderLine Flaw) (bytes : List ℕ) (further : List (List ℕ)) (types : List (List ℕ)) : Type 0 where
+pub record IsTypeList (layout : Layout) (meaning_of : List ℕ → Result HeaderLine Flaw) (bytes : List ℕ) (further : List (List ℕ)) (types : List (List ℕ)) : Type 0 where
   pub short : length bytes ≤ 4096
-  pub begins : says bytes ≡ Ok header.Types
+  pub begins : meaning_of bytes ≡ Ok header.Types
   pub list : TypeList
   pub first : first_types_of layout bytes ≡ Ok list
   pub others : AreFurther layout further list.names list.left types

@@ -113,15 +113,15 @@ parts_taken (Blank bytes ∷ parts) h epochs n are =
     walk-takes obs2_rules (Body h epochs) (Body h epochs) bytes (body_lines parts) n are.0 admits ∙ parts_taken parts h epochs (n + 1) are.2
 parts_taken (Event p ∷ parts) h epochs n are =
     let line_count = length p.event_lines in
-    let says : epoch_line_of epochs p.bytes ≡ Ok (line.Event p.changes line_count) = are.0.says in
-    let admits : admit (Body h epochs) p.bytes ≡ Ok (more_lines h epochs p.changes line_count) = rw says refl in
+    let is_read : epoch_line_of epochs p.bytes ≡ Ok (line.Event p.changes line_count) = are.0.is_read in
+    let admits : admit (Body h epochs) p.bytes ≡ Ok (more_lines h epochs p.changes line_count) = rw is_read refl in
     walk-takes obs2_rules (Body h epochs) (more_lines h epochs p.changes line_count) p.bytes (p.event_lines ++ body_lines parts) n are.0.short admits
     ∙ lines_taken p.event_lines (body_lines parts) h epochs p.changes (n + 1) are.0.lines
     ∙ parts_taken parts h epochs (n + 1 + line_count) are.1
 parts_taken (Slips p ∷ parts) h epochs n are =
     let further_count = length p.further in
     let row_count = length p.rows in
-    let admits : admit (Body h epochs) p.bytes ≡ Ok (more_slips h epochs further_count row_count) = rw (are.0.says, are.0.further_count, are.0.rows_count) refl in
+    let admits : admit (Body h epochs) p.bytes ≡ Ok (more_slips h epochs further_count row_count) = rw (are.0.is_read, are.0.further_count, are.0.rows_count) refl in
     walk-takes obs2_rules (Body h epochs) (more_slips h epochs further_count row_count) p.bytes ((p.further ++ p.rows) ++ body_lines parts) n are.0.short admits
     ∙ ap (λ (l : List (List ℕ)). walk obs2_rules l (n + 1) (more_slips h epochs further_count row_count)) (append_assoc p.further p.rows (body_lines parts))
     ∙ marked_taken p.further (p.rows ++ body_lines parts) h epochs row_count (n + 1) are.0.further
@@ -131,7 +131,7 @@ parts_taken (Epoch_ p ∷ parts) h epochs n are =
     let further_count = length p.further in
     let lines = sat_lines p.sats in
     let first = more_names h epochs p.tag p.power p.list.names p.list.left in
-    let admits : admit (Body h epochs) p.bytes ≡ Ok first = rw (are.0.says) refl in
+    let admits : admit (Body h epochs) p.bytes ≡ Ok first = rw (are.0.is_read) refl in
     walk-takes obs2_rules (Body h epochs) first p.bytes ((p.further ++ lines) ++ body_lines parts) n are.0.short admits
     ∙ ap (λ (l : List (List ℕ)). walk obs2_rules l (n + 1) first) (append_assoc p.further lines (body_lines parts))
     ∙ names_taken p.further (lines ++ body_lines parts) h epochs p.tag p.power p.list.names p.list.left (numbers_of p.sats) (n + 1) are.0.names

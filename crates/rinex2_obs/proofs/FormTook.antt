@@ -191,11 +191,11 @@ body_line bytes lines took h epochs n whole gives = by_part (epoch_line_of epoch
     others next same = same_walk lines (n + 1) next first.next whole same first.others
 
     by_part : (r : Result EpochLine Flaw) → epoch_line_of epochs bytes ≡ r → and_then r (λ l. Ok (after_epoch h epochs l)) ≡ Ok first.next → TookBody (bytes ∷ lines) h epochs whole
-    by_part (Ok line.Blank) says gives =
+    by_part (Ok line.Blank) is_read gives =
         let next : Body h epochs ≡ first.next = cc (gives) in
         let rest = took.body h epochs (n + 1) whole (others (Body h epochs) next) in
-        record { parts = Blank bytes ∷ rest.parts; lines_are = ap (λ (l : List (List ℕ)). bytes ∷ l) rest.lines_are; each = (first.short, says, rest.each); whole_is = rest.whole_is }
-    by_part (Ok (line.Event changes k)) says gives =
+        record { parts = Blank bytes ∷ rest.parts; lines_are = ap (λ (l : List (List ℕ)). bytes ∷ l) rest.lines_are; each = (first.short, is_read, rest.each); whole_is = rest.whole_is }
+    by_part (Ok (line.Event changes k)) is_read gives =
         let next : more_lines h epochs changes k ≡ first.next = cc (gives) in
         let rest = of_more_lines lines took h epochs changes k (n + 1) whole (others (more_lines h epochs changes k) next) in
         let part : EventPart = record { bytes = bytes; changes = changes; event_lines = rest.event_lines } in
@@ -203,10 +203,10 @@ body_line bytes lines took h epochs n whole gives = by_part (epoch_line_of epoch
         record {
           parts = Event part ∷ rest.parts;
           lines_are = ap (λ (l : List (List ℕ)). bytes ∷ l) rest.lines_are;
-          each = (record { short = first.short; says = says ∙ ap event rest.count; lines = rest.are }, rest.each);
+          each = (record { short = first.short; is_read = is_read ∙ ap event rest.count; lines = rest.are }, rest.each);
           whole_is = rest.whole_is;
         }
-    by_part (Ok (line.Slips k)) says gives =
+    by_part (Ok (line.Slips k)) is_read gives =
         let state = more_slips h epochs (further_lines_of k) (k * rows_of h.types) in
         let next : state ≡ first.next = cc (gives) in
         let marked = of_more_slips lines took h epochs (further_lines_of k) (k * rows_of h.types) (n + 1) whole (others state next) in
@@ -219,7 +219,7 @@ body_line bytes lines took h epochs n whole gives = by_part (epoch_line_of epoch
           each = (
             record {
               short = first.short;
-              says = says;
+              is_read = is_read;
               further_count = sym marked.count;
               further = marked.are;
               rows_count = sym rest.count;
@@ -229,7 +229,7 @@ body_line bytes lines took h epochs n whole gives = by_part (epoch_line_of epoch
           );
           whole_is = rest.whole_is;
         }
-    by_part (Ok (line.Epoch tag power list)) says gives =
+    by_part (Ok (line.Epoch tag power list)) is_read gives =
         let state = more_names h epochs tag power list.names list.left in
         let next : state ≡ first.next = cc (gives) in
         let named = of_more_names lines took h epochs tag power list.names list.left (n + 1) whole (others state next) in
@@ -242,7 +242,7 @@ body_line bytes lines took h epochs n whole gives = by_part (epoch_line_of epoch
           each = (
             record {
               short = first.short;
-              says = says;
+              is_read = is_read;
               names = subst (λ (all : List (Option ℕ)). AreFurtherNames named.further list.names list.left all) rest.numbers named.are;
               sats = rest.are;
             },
@@ -250,7 +250,7 @@ body_line bytes lines took h epochs n whole gives = by_part (epoch_line_of epoch
           );
           whole_is = rest.whole_is;
         }
-    by_part (Err flaw) says gives = absurd cc
+    by_part (Err flaw) is_read gives = absurd cc
 
 names_line : (bytes : List ℕ) (lines : List (List ℕ)) → Took lines
     → (h : Header) (epochs : List Epoch) (tag : Tick) (power : Bool) (names : List (Option ℕ)) (k n : ℕ) (whole : ObsFile)
@@ -263,7 +263,7 @@ names_line bytes lines took h epochs tag power names k n whole gives = by_part (
     by_part : (r : Result NameList Flaw) → further_names_of bytes names (suc k) ≡ r
         → and_then r (λ list. Ok (more_names h epochs tag power list.names list.left)) ≡ Ok first.next
         → TookNames (bytes ∷ lines) h epochs tag power names (suc k) whole
-    by_part (Ok list) says gives =
+    by_part (Ok list) is_read gives =
         let next : more_names h epochs tag power list.names list.left ≡ first.next = cc (gives) in
         let rest = of_more_names lines took h epochs tag power list.names list.left (n + 1) whole (same_walk lines (n + 1) _ first.next whole next first.others) in
         record {
@@ -271,10 +271,10 @@ names_line bytes lines took h epochs tag power names k n whole gives = by_part (
           all = rest.all;
           rest = rest.rest;
           lines_are = ap (λ (l : List (List ℕ)). bytes ∷ l) rest.lines_are;
-          are = (omega arith, first.short, (list, says, rest.are));
+          are = (omega arith, first.short, (list, is_read, rest.are));
           behind = rest.behind;
         }
-    by_part (Err flaw) says gives = absurd cc
+    by_part (Err flaw) is_read gives = absurd cc
 
 row_line : (bytes : List ℕ) (lines : List (List ℕ)) → Took lines → (h : Header) (epochs : List Epoch) (tag : Tick) (power : Bool) (sats : List SatObs)
     (name : Option ℕ) (names : List (Option ℕ)) (at : ℕ) (values : List (Option Value)) (n : ℕ) (whole : ObsFile) → at < rows_of h.types
@@ -287,7 +287,7 @@ row_line bytes lines took h epochs tag power sats name names at values n whole l
     by_part : (r : Result (List (Option Value)) Flaw) → row_of (kept_of h.types) name at bytes values ≡ r
         → and_then r (λ set. Ok (more_rows h epochs tag power sats name names (at + 1) set)) ≡ Ok first.next
         → TookRows (bytes ∷ lines) h epochs tag power sats name names at values whole
-    by_part (Ok set) says gives =
+    by_part (Ok set) is_read gives =
         let next : more_rows h epochs tag power sats name names (at + 1) set ≡ first.next = cc (gives) in
         let rest = of_more_rows lines took h epochs tag power sats name names (at + 1) set (n + 1) whole (omega (arith, less)) (same_walk lines (n + 1) _ first.next whole next first.others) in
         record {
@@ -296,10 +296,10 @@ row_line bytes lines took h epochs tag power sats name names at values n whole l
           rest = rest.rest;
           lines_are = ap (λ (l : List (List ℕ)). bytes ∷ l) rest.lines_are;
           count = omega (arith, rest.count);
-          are = (first.short, (set, says, rest.are));
+          are = (first.short, (set, is_read, rest.are));
           behind = rest.behind;
         }
-    by_part (Err flaw) says gives = absurd cc
+    by_part (Err flaw) is_read gives = absurd cc
 
 slips_line : (bytes : List ℕ) (lines : List (List ℕ)) → Took lines → (h : Header) (epochs : List Epoch) (k rows n : ℕ) (whole : ObsFile)
     → walk obs2_rules (bytes ∷ lines) n (Further h epochs (suc k) rows) ≡ Ok whole → TookSlips (bytes ∷ lines) h epochs (suc k) rows whole
@@ -313,7 +313,7 @@ slips_line bytes lines took h epochs k rows n whole gives = by_part (further_mar
 
     by_part : (r : Result (Unit {0}) Flaw) → further_mark_of bytes ≡ r → and_then r (λ u. Ok (more_slips h epochs (suc k - 1) rows)) ≡ Ok first.next
         → TookSlips (bytes ∷ lines) h epochs (suc k) rows whole
-    by_part (Ok u) says gives =
+    by_part (Ok u) is_read gives =
         let next : more_slips h epochs (suc k - 1) rows ≡ first.next = cc (gives) in
         let again = ap (λ (j : ℕ). more_slips h epochs j rows) (sym one_less) ∙ next in
         let rest = of_more_slips lines took h epochs k rows (n + 1) whole (same_walk lines (n + 1) _ first.next whole again first.others) in
@@ -322,10 +322,10 @@ slips_line bytes lines took h epochs k rows n whole gives = by_part (further_mar
           rest = rest.rest;
           lines_are = ap (λ (l : List (List ℕ)). bytes ∷ l) rest.lines_are;
           count = ap suc rest.count;
-          are = (first.short, says, rest.are);
+          are = (first.short, is_read, rest.are);
           behind = rest.behind;
         }
-    by_part (Err flaw) says gives = absurd cc
+    by_part (Err flaw) is_read gives = absurd cc
 
 event_line : (bytes : List ℕ) (lines : List (List ℕ)) → Took lines → (h : Header) (epochs : List Epoch) (changes : Bool) (k n : ℕ) (whole : ObsFile)
     → walk obs2_rules (bytes ∷ lines) n (Skip h epochs changes (suc k)) ≡ Ok whole → TookLines (bytes ∷ lines) h epochs changes (suc k) whole
@@ -339,7 +339,7 @@ event_line bytes lines took h epochs changes k n whole gives = by_part (event_li
 
     by_part : (r : Result (Unit {0}) Flaw) → event_line_of Rinex2 changes bytes ≡ r
         → and_then r (λ u. Ok (more_lines h epochs changes (suc k - 1))) ≡ Ok first.next → TookLines (bytes ∷ lines) h epochs changes (suc k) whole
-    by_part (Ok u) says gives =
+    by_part (Ok u) is_read gives =
         let next : more_lines h epochs changes (suc k - 1) ≡ first.next = cc (gives) in
         let again = ap (λ (j : ℕ). more_lines h epochs changes j) (sym one_less) ∙ next in
         let rest = of_more_lines lines took h epochs changes k (n + 1) whole (same_walk lines (n + 1) _ first.next whole again first.others) in
@@ -348,11 +348,11 @@ event_line bytes lines took h epochs changes k n whole gives = by_part (event_li
           parts = rest.parts;
           lines_are = ap (λ (l : List (List ℕ)). bytes ∷ l) rest.lines_are;
           count = ap suc rest.count;
-          are = (first.short, says, rest.are);
+          are = (first.short, is_read, rest.are);
           each = rest.each;
           whole_is = rest.whole_is;
         }
-    by_part (Err flaw) says gives = absurd cc
+    by_part (Err flaw) is_read gives = absurd cc
 
 no_file : (n : ℕ) (what : What) (whole : ObsFile) → at_line (n + 1) (flawed {A = ObsFile} 1 what) ≡ Ok whole → ⊥
 no_file n what whole e = cc
@@ -386,7 +386,7 @@ file_took (bytes ∷ lines) file gives = by_part (first_line_of bytes) refl firs
     first = walk-took obs2_rules First bytes lines 0 file gives
 
     by_part : (r : Result ℕ Flaw) → first_line_of bytes ≡ r → and_then r (λ hundredths. Ok (Head (bare_header hundredths))) ≡ Ok first.next → IsObs2File (bytes ∷ lines) file
-    by_part (Ok v) says gives =
+    by_part (Ok v) is_read gives =
         let next : Head (bare_header v) ≡ first.next = cc (gives) in
         let zero_delta = pos 0 ∷ pos 0 ∷ pos 0 ∷ [] in
         let head = header_took (head_rules v) lines None zero_delta (0 + 1) file (subst (λ (s : Expected). walk obs2_rules lines (0 + 1) s ≡ Ok file) (sym next) first.others) in
@@ -411,7 +411,7 @@ file_took (bytes ∷ lines) file gives = by_part (first_line_of bytes) refl firs
             last = end.last;
             lines_are = refl;
             first_short = first.short;
-            version = says;
+            version = is_read;
             before_are = head.are;
             types = head.is_list;
             after_are = end.are;
@@ -423,4 +423,4 @@ file_took (bytes ∷ lines) file gives = by_part (first_line_of bytes) refl firs
           are_parts = body.each;
           file_is = body.whole_is;
         }
-    by_part (Err flaw) says gives = absurd cc
+    by_part (Err flaw) is_read gives = absurd cc

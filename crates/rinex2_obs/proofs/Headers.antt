@@ -10,7 +10,7 @@ abbrev pub head_rules : ℕ → HeadRules Expected ObsFile
 head_rules hundredths = record {
   rules = obs2_rules;
   layout = Rinex2;
-  says = header_line_of;
+  meaning_of = header_line_of;
   head = λ p d t. Head (so_far hundredths p d t);
   due = λ p d names left. more_types (so_far hundredths p d None) names left;
   body = λ p d types. Body (whole_header (so_far hundredths p d (Some types)) types) [];

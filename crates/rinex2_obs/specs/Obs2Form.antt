@@ -115,7 +115,7 @@ satellites_of (p ∷ ps) = if_of_gps p.number p.values ++ satellites_of ps
 -- after these epochs
 pub record IsEpochPart (types : List (List ℕ)) (epochs : List Epoch) (p : EpochPart) : Type 0 where
   pub short : length p.bytes ≤ 4096
-  pub says : epoch_line_of epochs p.bytes ≡ Ok (line.Epoch p.tag p.power p.list)
+  pub is_read : epoch_line_of epochs p.bytes ≡ Ok (line.Epoch p.tag p.power p.list)
   pub names : AreFurtherNames p.further p.list.names p.list.left (numbers_of p.sats)
   pub sats : AreSats types p.sats
 
@@ -134,7 +134,7 @@ AreShort (bytes ∷ lines) = (length bytes ≤ 4096) × AreShort lines
 
 pub record IsSlipsPart (types : List (List ℕ)) (epochs : List Epoch) (p : SlipsPart) : Type 0 where
   pub short : length p.bytes ≤ 4096
-  pub says : epoch_line_of epochs p.bytes ≡ Ok (line.Slips p.count)
+  pub is_read : epoch_line_of epochs p.bytes ≡ Ok (line.Slips p.count)
   pub further_count : length p.further ≡ further_lines_of p.count
   pub further : AreMarked p.further
   pub rows_count : length p.rows ≡ p.count * rows_of types

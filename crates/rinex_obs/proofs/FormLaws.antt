@@ -63,14 +63,14 @@ module _ (system : System) where
       walk-takes (obs_rules system) (Body h epochs) (Body h epochs) bytes (body_lines parts) n are.0 admits ∙ parts_taken parts h epochs (n + 1) are.2
   parts_taken (Event p ∷ parts) h epochs n are =
       let k = length p.event_lines in
-      let says : epoch_line_of epochs p.bytes ≡ Ok (line.Event p.changes k) = are.0.says in
-      let admits : admit (Body h epochs) p.bytes ≡ Ok (more_lines h epochs p.changes k) = rw says refl in
+      let is_read : epoch_line_of epochs p.bytes ≡ Ok (line.Event p.changes k) = are.0.is_read in
+      let admits : admit (Body h epochs) p.bytes ≡ Ok (more_lines h epochs p.changes k) = rw is_read refl in
       walk-takes (obs_rules system) (Body h epochs) (more_lines h epochs p.changes k) p.bytes (p.event_lines ++ body_lines parts) n are.0.short admits
       ∙ lines_taken p.event_lines (body_lines parts) h epochs p.changes (n + 1) are.0.lines
       ∙ parts_taken parts h epochs (n + 1 + k) are.1
   parts_taken (Epoch_ p ∷ parts) h epochs n are =
       let k = length p.sat_lines in
-      let admits : admit (Body h epochs) p.bytes ≡ Ok (more_sats h epochs p.tag p.power [] k) = rw (are.0.says) refl in
+      let admits : admit (Body h epochs) p.bytes ≡ Ok (more_sats h epochs p.tag p.power [] k) = rw (are.0.is_read) refl in
       walk-takes (obs_rules system) (Body h epochs) (more_sats h epochs p.tag p.power [] k) p.bytes (p.sat_lines ++ body_lines parts) n are.0.short admits
       ∙ sats_taken p.sat_lines p.found (body_lines parts) h epochs p.tag p.power [] (n + 1) are.0.sats
       ∙ parts_taken parts h (epochs ++ epoch_in_part p ∷ []) (n + 1 + k) are.1

@@ -102,11 +102,11 @@ module _ (system : System) where
       others next same = subst (λ (s : Expected). walk (obs_rules system) lines (n + 1) s ≡ Ok whole) (sym same) first.others
 
       by_part : (r : Result EpochLine Flaw) → epoch_line_of epochs bytes ≡ r → and_then r (λ l. Ok (after_epoch h epochs l)) ≡ Ok first.next → TookBody (bytes ∷ lines) h epochs whole
-      by_part (Ok line.Blank) says gives =
+      by_part (Ok line.Blank) is_read gives =
           let next : Body h epochs ≡ first.next = cc (gives) in
           let rest = took.body h epochs (n + 1) whole (others (Body h epochs) next) in
-          record { parts = Blank bytes ∷ rest.parts; lines_are = ap (λ (l : List (List ℕ)). bytes ∷ l) rest.lines_are; each = (first.short, says, rest.each); whole_is = rest.whole_is }
-      by_part (Ok (line.Event changes k)) says gives =
+          record { parts = Blank bytes ∷ rest.parts; lines_are = ap (λ (l : List (List ℕ)). bytes ∷ l) rest.lines_are; each = (first.short, is_read, rest.each); whole_is = rest.whole_is }
+      by_part (Ok (line.Event changes k)) is_read gives =
           let next : more_lines h epochs changes k ≡ first.next = cc (gives) in
           let rest = of_more_lines lines took h epochs changes k (n + 1) whole (others (more_lines h epochs changes k) next) in
           let part : EventPart = record { bytes = bytes; changes = changes; event_lines = rest.event_lines } in
@@ -114,10 +114,10 @@ module _ (system : System) where
           record {
             parts = Event part ∷ rest.parts;
             lines_are = ap (λ (l : List (List ℕ)). bytes ∷ l) rest.lines_are;
-            each = (record { short = first.short; says = says ∙ ap event rest.count; lines = rest.are }, rest.each);
+            each = (record { short = first.short; is_read = is_read ∙ ap event rest.count; lines = rest.are }, rest.each);
             whole_is = rest.whole_is;
           }
-      by_part (Ok (line.Epoch tag power k)) says gives =
+      by_part (Ok (line.Epoch tag power k)) is_read gives =
           let next : more_sats h epochs tag power [] k ≡ first.next = cc (gives) in
           let rest = of_more_sats lines took h epochs tag power [] k (n + 1) whole (others (more_sats h epochs tag power [] k) next) in
           let part : EpochPart = record { bytes = bytes; tag = tag; power = power; sat_lines = rest.sat_lines; found = rest.found } in
@@ -125,10 +125,10 @@ module _ (system : System) where
           record {
             parts = Epoch_ part ∷ rest.parts;
             lines_are = ap (λ (l : List (List ℕ)). bytes ∷ l) rest.lines_are;
-            each = (record { short = first.short; says = says ∙ ap epoch rest.count; sats = rest.are }, rest.each);
+            each = (record { short = first.short; is_read = is_read ∙ ap epoch rest.count; sats = rest.are }, rest.each);
             whole_is = rest.whole_is;
           }
-      by_part (Err flaw) says gives = absurd cc
+      by_part (Err flaw) is_read gives = absurd cc
 
   sat_line : (bytes : List ℕ) (lines : List (List ℕ)) → Took lines
       → (h : Header) (epochs : List Epoch) (tag : Tick) (power : Bool) (sats : List SatObs) (k n : ℕ) (whole : ObsFile)
@@ -150,7 +150,7 @@ module _ (system : System) where
       by_part : (r : Result (Option SatObs) Flaw) → satellite_line_of h.system (kept_from h.system 0 h.types) sats bytes ≡ r
           → and_then r (λ s. Ok (more_sats h epochs tag power (with_satellite sats s) (suc k - 1))) ≡ Ok first.next
           → TookSats (bytes ∷ lines) h epochs tag power sats (suc k) whole
-      by_part (Ok None) says gives =
+      by_part (Ok None) is_read gives =
           let next : more_sats h epochs tag power sats (suc k - 1) ≡ first.next = cc (gives) in
           let rest = further sats next in
           record {
@@ -159,11 +159,11 @@ module _ (system : System) where
             parts = rest.parts;
             lines_are = ap (λ (l : List (List ℕ)). bytes ∷ l) rest.lines_are;
             count = ap suc rest.count;
-            are = (first.short, says, rest.are);
+            are = (first.short, is_read, rest.are);
             each = rest.each;
             whole_is = rest.whole_is;
           }
-      by_part (Ok (Some s)) says gives =
+      by_part (Ok (Some s)) is_read gives =
           let next : more_sats h epochs tag power (sats ++ s ∷ []) (suc k - 1) ≡ first.next = cc (gives) in
           let rest = further (sats ++ s ∷ []) next in
           let same = append_assoc sats (s ∷ []) (satellites_of rest.found) in
@@ -174,11 +174,11 @@ module _ (system : System) where
             parts = rest.parts;
             lines_are = ap (λ (l : List (List ℕ)). bytes ∷ l) rest.lines_are;
             count = ap suc rest.count;
-            are = (first.short, says, rest.are);
+            are = (first.short, is_read, rest.are);
             each = subst (λ (l : List SatObs). AreParts h.system kept (epochs ++ epoch_of tag power l ∷ []) rest.parts) same rest.each;
             whole_is = rest.whole_is ∙ ap (λ (l : List SatObs). file_of h (epochs ++ epoch_of tag power l ∷ epochs_of rest.parts)) same;
           }
-      by_part (Err flaw) says gives = absurd cc
+      by_part (Err flaw) is_read gives = absurd cc
 
   event_line : (bytes : List ℕ) (lines : List (List ℕ)) → Took lines → (h : Header) (epochs : List Epoch) (changes : Bool) (k n : ℕ) (whole : ObsFile)
       → walk (obs_rules system) (bytes ∷ lines) n (Skip h epochs changes (suc k)) ≡ Ok whole → TookLines (bytes ∷ lines) h epochs changes (suc k) whole
@@ -192,7 +192,7 @@ module _ (system : System) where
 
       by_part : (r : Result (Unit {0}) Flaw) → event_line_of Rinex3 changes bytes ≡ r
           → and_then r (λ u. Ok (more_lines h epochs changes (suc k - 1))) ≡ Ok first.next → TookLines (bytes ∷ lines) h epochs changes (suc k) whole
-      by_part (Ok u) says gives =
+      by_part (Ok u) is_read gives =
           let next : more_lines h epochs changes (suc k - 1) ≡ first.next = cc (gives) in
           let rest = of_more_lines lines took h epochs changes k (n + 1) whole (subst (λ (s : Expected). walk (obs_rules system) lines (n + 1) s ≡ Ok whole)
           (sym next ∙ ap (λ (j : ℕ). more_lines h epochs changes j) one_less) first.others) in
@@ -201,11 +201,11 @@ module _ (system : System) where
             parts = rest.parts;
             lines_are = ap (λ (l : List (List ℕ)). bytes ∷ l) rest.lines_are;
             count = ap suc rest.count;
-            are = (first.short, says, rest.are);
+            are = (first.short, is_read, rest.are);
             each = rest.each;
             whole_is = rest.whole_is;
           }
-      by_part (Err flaw) says gives = absurd cc
+      by_part (Err flaw) is_read gives = absurd cc
 
   no_file : (n : ℕ) (what : What) (whole : ObsFile) → at_line (n + 1) (flawed {A = ObsFile} 1 what) ≡ Ok whole → ⊥
   no_file n what whole e = cc
@@ -231,7 +231,7 @@ module _ (system : System) where
       first = walk-took (obs_rules system) (First system) bytes lines 0 file gives
 
       by_part : (r : Result ℕ Flaw) → first_line_of system bytes ≡ r → and_then r (λ hundredths. Ok (Head (bare_header system hundredths))) ≡ Ok first.next → IsObsFile system (bytes ∷ lines) file
-      by_part (Ok v) says gives =
+      by_part (Ok v) is_read gives =
           let next : Head (bare_header system v) ≡ first.next = cc (gives) in
           let zero_delta = pos 0 ∷ pos 0 ∷ pos 0 ∷ [] in
           let head = header_took (head_rules system system v) lines None zero_delta (0 + 1) file
@@ -259,7 +259,7 @@ module _ (system : System) where
               last = end.last;
               lines_are = refl;
               first_short = first.short;
-              version = says;
+              version = is_read;
               before_are = head.are;
               types = head.is_list;
               after_are = end.are;
@@ -271,4 +271,4 @@ module _ (system : System) where
             are_parts = body.each;
             file_is = body.whole_is;
           }
-      by_part (Err flaw) says gives = absurd cc
+      by_part (Err flaw) is_read gives = absurd cc

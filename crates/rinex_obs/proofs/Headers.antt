@@ -12,7 +12,7 @@ abbrev pub head_rules : System → System → ℕ → HeadRules Expected ObsFile
 head_rules system of hundredths = record {
   rules = obs_rules system;
   layout = Rinex3;
-  says = header_line_of of;
+  meaning_of = header_line_of of;
   head = λ p d t. Head (so_far of hundredths p d t);
   due = λ p d names left. more_types (so_far of hundredths p d None) names left;
   body = λ p d types. Body (whole_header (so_far of hundredths p d (Some types)) types) [];

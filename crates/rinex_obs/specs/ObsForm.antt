@@ -76,7 +76,7 @@ AreSatLines system kept before (bytes ∷ lines) (Some s ∷ found) =
 -- after these epochs
 pub record IsEpochPart (system : System) (kept : List KeptType) (epochs : List Epoch) (p : EpochPart) : Type 0 where
   pub short : length p.bytes ≤ 4096
-  pub says : epoch_line_of epochs p.bytes ≡ Ok (line.Epoch p.tag p.power (length p.sat_lines))
+  pub is_read : epoch_line_of epochs p.bytes ≡ Ok (line.Epoch p.tag p.power (length p.sat_lines))
   pub sats : AreSatLines system kept [] p.sat_lines p.found
 
 -- what the line of an event says

@@ -245,7 +245,7 @@ part_is_epoch : (t : Tracking) (epochs : List Epoch) (seconds : ℕ) (sats : Lis
 unfolding part_of
 part_is_epoch t epochs seconds sats few day room later = record {
   short = omega (arith, length-epoch seconds (length sats) (omega (arith, room.few)));
-  says = line_says epochs seconds (length sats) few day (omega (arith, room.few)) later ∙ ap (λ (n : ℕ). Ok (line.Epoch (tick_at seconds) false n)) (sym (length-contents t 0 sats));
+  is_read = line_says epochs seconds (length sats) few day (omega (arith, room.few)) later ∙ ap (λ (n : ℕ). Ok (line.Epoch (tick_at seconds) false n)) (sym (length-contents t 0 sats));
   sats = satellites_say t 0 sats [] room.columns (omega (arith, room.few)) (none_below 0);
 }
 

@@ -174,10 +174,10 @@ pub header_is : (t : Tracking) → IsHeader (lines t) (the_header t)
 unfolding lines the_header
 header_is t = record {
   first = line_1 t;
-  before = record { bytes = line_2; says = header.Position (Some (pos 63781370000 ∷ pos 0 ∷ pos 0 ∷ [])) } ∷ record { bytes = line_3; says = header.Delta (pos 0 ∷ pos 0 ∷ pos 0 ∷ []) } ∷ [];
+  before = record { bytes = line_2; meaning = header.Position (Some (pos 63781370000 ∷ pos 0 ∷ pos 0 ∷ [])) } ∷ record { bytes = line_3; meaning = header.Delta (pos 0 ∷ pos 0 ∷ pos 0 ∷ []) } ∷ [];
   list = line_4 t;
   further = [];
-  after = record { bytes = line_5; says = header.Skipped } ∷ [];
+  after = record { bytes = line_5; meaning = header.Skipped } ∷ [];
   last = line_6;
   lines_are = refl;
   first_short = short_1 t;
