@@ -11,6 +11,7 @@ use Rattle.sim_session.specs.Satellites.{AreSatellites}
 use Rattle.sim_session.specs.Navigation.{navigation_text}
 use Rattle.sim_session.specs.Observations.{IsObservationText}
 use Rattle.sim_session.specs.declared.Made.{Made}
+use Rattle.sim_session.specs.declared.drawn.TheConstants.{MOST_OFFSET}
 
 -- the base's point (6378137 m, 0, 0), and the rover's with the offset that is drawn, in units of 0.1 mm
 abbrev pub base_point : List ℤ
@@ -18,7 +19,7 @@ base_point = pos 63781370000 ∷ pos 0 ∷ pos 0 ∷ []
 
 abbrev pub rover_point : ℕ → List ℤ
 rover_point seed =
-    (pos 63781370000 +ℤ (pos 10 *ℤ drawn_within 1000000 seed 0)) ∷ (pos 10 *ℤ drawn_within 1000000 seed 1) ∷ (pos 10 *ℤ drawn_within 1000000 seed 2) ∷ []
+    (pos 63781370000 +ℤ (pos 10 *ℤ drawn_within MOST_OFFSET seed 0)) ∷ (pos 10 *ℤ drawn_within MOST_OFFSET seed 1) ∷ (pos 10 *ℤ drawn_within MOST_OFFSET seed 2) ∷ []
 
 -- whether the phases on L5 have whole cycles of their own: with each set of bands but L1 and L2
 abbrev pub has_l5 : ℕ → Bool

@@ -5,7 +5,7 @@ ghost use Rattle.iv_core.specs.Intervals.{Holds, width_of, IsWithin};
 ghost use Rattle.whole_math.specs.Rounding.{IsFloor, IsNearest};
 ghost use Rattle.obs_rows.specs.declared.units.TheConstants.{LIGHT_SPEED};
 ghost use Rattle.sim_session.specs.Observed.{IsDistance, measured, thousandths};
-ghost use Rattle.sim_session.specs.declared.drawn.TheConstants.{MOST_CLOCK};
+ghost use Rattle.sim_session.specs.declared.drawn.TheConstants.{MOST_CLOCK, MOST_CYCLES};
 
 use iv_core::Iv;
 use obs_rows::LIGHT_SPEED;
@@ -102,7 +102,7 @@ pub fn phase_of(distance: &Distance, clock: i64, frequency: u32, cycles: i64) ->
     requires clock { unsigned_abs clock ≤ MOST_CLOCK }
     requires least { 1000000000 ≤ frequency }
     requires most { frequency ≤ 2000000000 }
-    requires cycles { unsigned_abs cycles ≤ 1000000 }
+    requires cycles { unsigned_abs cycles ≤ MOST_CYCLES }
     ensures near { (v : Rational) → IsDistance distance.now.units v →
         AreWithin (of_whole (pos 2)) (of_whole result) (add_r (thousandths frequency (measured clock v)) (of_whole (pos 1000 *ℤ cycles))) }
     ensures low { pos 0 ≤ℤ result }

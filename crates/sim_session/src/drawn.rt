@@ -2,17 +2,19 @@
 ghost use Rattle.std.specs.Prelude.{◌≡◌, ℕ, ◌+◌, ◌*◌, ◌≤◌, ℤ, ◌-ℤ◌, unsigned_abs, [], ◌∷◌, All, IfOk};
 ghost use Rattle.sim_session.specs.Sequence.{state_after};
 ghost use Rattle.sim_session.specs.Values.{offset_of, base_clock_of, rover_clock_of, l5_cycles, cycles_from, base_cycles, rover_cycles, truth_of, first_of, AreSmall};
+ghost use Rattle.sim_session.specs.declared.drawn.TheConstants.{MOST_CLOCK, MOST_CYCLES, MOST_OFFSET};
 
 use crate::draws::Draws;
 use std::alloc::{AllocError, Global};
 
 /// The most that the rover lies off the base in each coordinate, in mm.
-const MOST_OFFSET: u32 = 1_000_000;
+pub(crate) const MOST_OFFSET: u32 = 1_000_000;
 
 /// The most in size of a receiver's clock term, in mm.
 pub(crate) const MOST_CLOCK: u32 = 100_000;
 
-const MOST_CYCLES: u32 = 1_000_000;
+/// The most in size of a number of whole cycles.
+pub(crate) const MOST_CYCLES: u32 = 1_000_000;
 
 /// The whole cycles in the phases of each satellite, on L1, L2 and L5, and what the rover's are more than the base's.
 #[derive(Debug, Drop)]
@@ -35,7 +37,7 @@ impl Draws {
     fn offset(&mut self) -> [i64; 3]
         ensures moves { (seed : ℕ) → self.old.state ≡ state_after seed 0 → self.new.state ≡ state_after seed 3 }
         ensures value { (seed : ℕ) → self.old.state ≡ state_after seed 0 → result ≡ offset_of seed }
-        ensures size { All (λ z. unsigned_abs z ≤ 1000000) result }
+        ensures size { All (λ z. unsigned_abs z ≤ MOST_OFFSET) result }
     {
         let x = self.draw_within(MOST_OFFSET);
         let y = self.draw_within(MOST_OFFSET);
@@ -61,7 +63,7 @@ impl Draws {
     fn cycles_on_l5(&mut self, l5: bool) -> i64
         ensures moves { (seed n : ℕ) → self.old.state ≡ state_after seed n → self.new.state ≡ state_after seed (n + 1) }
         ensures value { (seed n : ℕ) → self.old.state ≡ state_after seed n → result ≡ l5_cycles l5 seed n }
-        ensures size { unsigned_abs result ≤ 1000000 }
+        ensures size { unsigned_abs result ≤ MOST_CYCLES }
     {
         let drawn = self.draw_within(MOST_CYCLES);
         if l5 { drawn } else { 0 }
@@ -123,7 +125,7 @@ pub fn draw_all(alloc: Global, seed: u32, sats: u32, l5: bool) -> Result<Drawn, 
     ensures base_cycles { IfOk result (λ d. d.cycles.base.items ≡ first_of (base_cycles seed sats l5) sats) }
     ensures rover_cycles { IfOk result (λ d. d.cycles.rover.items ≡ first_of (rover_cycles seed sats l5) sats) }
     ensures truth { IfOk result (λ d. d.cycles.truth.items ≡ first_of (truth_of seed sats l5) sats) }
-    ensures offset_size { IfOk result (λ d. All (λ z. unsigned_abs z ≤ 1000000) d.offset) }
+    ensures offset_size { IfOk result (λ d. All (λ z. unsigned_abs z ≤ MOST_OFFSET) d.offset) }
     ensures base_clock_size { IfOk result (λ d. unsigned_abs d.base_clock ≤ MOST_CLOCK) }
     ensures rover_clock_size { IfOk result (λ d. unsigned_abs d.rover_clock ≤ MOST_CLOCK) }
     ensures base_cycles_size { IfOk result (λ d. All AreSmall d.cycles.base.items) }

@@ -1,5 +1,5 @@
 //! The sequence of draws.
-ghost use Rattle.std.specs.Prelude.{◌≡◌, ℕ, ◌+◌, ◌/◌, ◌^◌, ◌≤◌, unsigned_abs};
+ghost use Rattle.std.specs.Prelude.{◌≡◌, ℕ, ◌+◌, ◌/◌, ◌^◌, ◌<◌, ◌≤◌, unsigned_abs};
 ghost use Rattle.sim_session.specs.Sequence.{next_state, state_after, drawn_within};
 
 const MULTIPLIER: u128 = 6_364_136_223_846_793_005;
@@ -32,7 +32,7 @@ impl Draws {
 
     /// The next draw as a whole number from `-most` to `most`, wherever in the sequence it stands.
     pub fn draw_within(&mut self, most: u32) -> i64
-        requires { most ≤ 1000000 }
+        requires { most < 2 ^ 31 }
         ensures moves { (seed n : ℕ) → self.old.state ≡ state_after seed n → self.new.state ≡ state_after seed (n + 1) }
         ensures value { (seed n : ℕ) → self.old.state ≡ state_after seed n → result ≡ drawn_within most seed n }
         ensures size { unsigned_abs result ≤ most }

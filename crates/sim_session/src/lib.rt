@@ -13,7 +13,7 @@
 //! states follow each other by a linear congruence modulo 2^64 (`specs/Sequence.antt`). The draws have one order: the
 //! rover's offset, the two clock terms, each satellite's cycles on L1 and L2 at the base and at the rover, and after those
 //! of all satellites the cycles on L5, which are 0 where L5 isn't used. A coordinate of the offset is at most 1 km, a clock
-//! term at most 100 m (`draws_law`), a number of cycles at most 1,000,000 in size. The one error is out of memory. No clause says that
+//! term at most 100 m, a number of cycles at most 1,000,000 in size (`draws_law`). The one error is out of memory. No clause says that
 //! the draws are spread as chance would spread them.
 //!
 //! *Observation files*, in RINEX 3.04. `write_header` appends exactly the header for what is tracked (`header_text`), `write_epoch` exactly the lines of an

@@ -4,6 +4,7 @@ ghost use Rattle.std.specs.Int.{abs_diff};
 ghost use Rattle.orbit_clock.specs.Records.{constants_of};
 ghost use Rattle.sim_session.specs.ObservationText.{AreInColumns};
 ghost use Rattle.sim_session.specs.Observed.{ForSolutions, IsDistance, IsCodeAfter, IsReachedIn, IsObserved};
+ghost use Rattle.sim_session.specs.declared.drawn.TheConstants.{MOST_CYCLES};
 
 use crate::distances::{Distance, code_of, distance_of, phase_of};
 use crate::receiver::Receiver;
@@ -76,7 +77,7 @@ pub fn observe(
     cycles: &[i64; 3],
 ) -> Signals
     requires near { abs_diff tag.0 eph.now.toe.0 ≤ 72010000000 }
-    requires cycles { All (λ z. unsigned_abs z ≤ 1000000) cycles.now }
+    requires cycles { All (λ z. unsigned_abs z ≤ MOST_CYCLES) cycles.now }
     ensures observed { IsObserved (constants_of world.now) tag.0 receiver.now.point receiver.now.clock eph.now cycles.now result }
     ensures columns { AreInColumns result }
 {

@@ -11,6 +11,7 @@ use Rattle.sim_session.proofs.SignalSmalls.{small_at, cycles_cast, still_small}
 use Rattle.sim_session.proofs.Smalls.{clock_cast, still_clock}
 use Rattle.sim_session.proofs.Points.{point_along}
 use Rattle.sim_session.proofs.Held.{on_time, length-first_of, text_along}
+use Rattle.sim_session.specs.declared.drawn.TheConstants.{MOST_OFFSET}
 use Rattle.sim_session.proofs.make.Goals as goal
 
 pub base_receiver-base-requires : goal.base_receiver-base-requires
@@ -75,7 +76,7 @@ returns-clause-rover c =
     let drawn = c.in_ok-offset in
     let offset : List ℤ = drawn.field-0.offset in
     let size = drawn.ensures.offset_size in
-    let there = point_along _ _ _ (drawn_within 1000000 c.args.seed 0) (drawn_within 1000000 c.args.seed 1) (drawn_within 1000000 c.args.seed 2)
+    let there = point_along _ _ _ (drawn_within MOST_OFFSET c.args.seed 0) (drawn_within MOST_OFFSET c.args.seed 1) (drawn_within MOST_OFFSET c.args.seed 2)
     (cycles_cast (get_or offset 0 (pos 0)) (small_at offset 0 size) ∙ ap (λ (xs : List ℤ). get_or xs 0 (pos 0)) drawn.ensures.offset)
     (cycles_cast (get_or offset 1 (pos 0)) (small_at offset 1 size) ∙ ap (λ (xs : List ℤ). get_or xs 1 (pos 0)) drawn.ensures.offset)
     (cycles_cast (get_or offset 2 (pos 0)) (small_at offset 2 size) ∙ ap (λ (xs : List ℤ). get_or xs 2 (pos 0)) drawn.ensures.offset) in

@@ -4,19 +4,20 @@ use Rattle.std.proofs.lemmas.Int.{ints, to_z-of_z}
 use Rattle.obs_rows.specs.declared.units.TheConstants.{LIGHT_SPEED}
 use Rattle.whole_math.specs.Rounding.{IsNearest}
 use Rattle.sim_session.proofs.Measures.{phase_near}
+use Rattle.sim_session.specs.declared.drawn.TheConstants.{MOST_CYCLES}
 use Rattle.sim_session.proofs.distances.phase_of.Goals as goal
 
-plain : (n k : ℤ) → pos 16000000000 ≤ℤ n → n ≤ℤ pos 490000000000 → unsigned_abs k ≤ 1000000 →
+plain : (n k : ℤ) → pos 16000000000 ≤ℤ n → n ≤ℤ pos 490000000000 → unsigned_abs k ≤ MOST_CYCLES →
     to_z w64 (of_z w64 (to_z w64 (of_z w64 n) +ℤ to_z w64 (of_z w64 (pos 1000 *ℤ to_z w64 (of_z w64 k))))) ≡ n +ℤ (pos 1000 *ℤ k)
 plain n k a b s = omega (arith, ints)
 
-fits : (n k : ℤ) → pos 16000000000 ≤ℤ n → n ≤ℤ pos 490000000000 → unsigned_abs k ≤ 1000000 → FitsSigned w64 (to_z w64 (of_z w64 n) +ℤ to_z w64 (of_z w64 (pos 1000 *ℤ to_z w64 (of_z w64 k))))
+fits : (n k : ℤ) → pos 16000000000 ≤ℤ n → n ≤ℤ pos 490000000000 → unsigned_abs k ≤ MOST_CYCLES → FitsSigned w64 (to_z w64 (of_z w64 n) +ℤ to_z w64 (of_z w64 (pos 1000 *ℤ to_z w64 (of_z w64 k))))
 fits n k a b s = omega (arith, ints)
 
-low : (n k p : ℤ) → pos 16000000000 ≤ℤ n → unsigned_abs k ≤ 1000000 → p ≡ n +ℤ (pos 1000 *ℤ k) → pos 0 ≤ℤ p
+low : (n k p : ℤ) → pos 16000000000 ≤ℤ n → unsigned_abs k ≤ MOST_CYCLES → p ≡ n +ℤ (pos 1000 *ℤ k) → pos 0 ≤ℤ p
 low n k p a s e = omega (arith, ints)
 
-high : (n k p : ℤ) → n ≤ℤ pos 490000000000 → unsigned_abs k ≤ 1000000 → p ≡ n +ℤ (pos 1000 *ℤ k) → p <ℤ pos 10000000000000
+high : (n k p : ℤ) → n ≤ℤ pos 490000000000 → unsigned_abs k ≤ MOST_CYCLES → p ≡ n +ℤ (pos 1000 *ℤ k) → p <ℤ pos 10000000000000
 high n k p a s e = omega (arith, ints)
 
 pub overflow_add-result : goal.overflow_add-result

@@ -2,9 +2,10 @@ use Rattle.std.proofs.Common.{◌≡◌, ◌≤◌, List, [], ◌∷◌, ℤ, po
 use Rattle.std.proofs.lemmas.Int.{ints}
 use Rattle.sim_session.specs.Values.{AreSmall}
 use Rattle.sim_session.proofs.Steps.{same_three}
+use Rattle.sim_session.specs.declared.drawn.TheConstants.{MOST_CYCLES}
 use Rattle.sim_session.proofs.drawn.difference.Goals as goal
 
-plain : (a x : ℤ) → unsigned_abs a ≤ 1000000 → unsigned_abs x ≤ 1000000 → to_z w64 (of_z w64 (to_z w64 (of_z w64 a) -ℤ to_z w64 (of_z w64 x))) ≡ a -ℤ x
+plain : (a x : ℤ) → unsigned_abs a ≤ MOST_CYCLES → unsigned_abs x ≤ MOST_CYCLES → to_z w64 (of_z w64 (to_z w64 (of_z w64 a) -ℤ to_z w64 (of_z w64 x))) ≡ a -ℤ x
 plain a x h k = omega (arith, ints)
 
 all : (r s : List ℤ) (a b c x y z : ℤ) → r ≡ a ∷ b ∷ c ∷ [] → s ≡ x ∷ y ∷ z ∷ [] → AreSmall r → AreSmall s →

@@ -3,6 +3,7 @@ use Rattle.std.proofs.lemmas.List.Elements.{All-push}
 use Rattle.sim_session.specs.Sequence.{state_after, drawn_within}
 use Rattle.sim_session.specs.Values.{l5_cycles, cycles_from, base_cycles, rover_cycles, truth_of, first_of, AreSmall}
 use Rattle.sim_session.proofs.Steps.{counted, one_more}
+use Rattle.sim_session.specs.declared.drawn.TheConstants.{MOST_CYCLES}
 use Rattle.sim_session.proofs.draws.Draws.all_cycles.Goals as goal
 
 -- the rover's draws are two further on, and that on L5 one
@@ -33,8 +34,8 @@ loop-k-preserved c =
       rover = λ seed e. c.in_ok-push-2.ensures.items ∙ one_more (rover_cycles seed sats with_third) satellite c.loop-k.all.rover.items rover.result (now.rover seed e) (is_rover seed e);
       truth = λ seed e. c.in_ok-push-3.ensures.items ∙ one_more (truth_of seed sats with_third) satellite c.loop-k.all.truth.items c.difference.result (now.truth seed e)
           (c.difference.ensures
-          (drawn_within 1000000 seed (7 + 4 * satellite)) (drawn_within 1000000 seed (7 + 4 * satellite + 1)) (l5_cycles with_third seed (6 + 4 * sats + 2 * satellite))
-          (drawn_within 1000000 seed (5 + 4 * satellite)) (drawn_within 1000000 seed (5 + 4 * satellite + 1)) (l5_cycles with_third seed (5 + 4 * sats + 2 * satellite)) (is_rover seed e) (is_base seed e));
+          (drawn_within MOST_CYCLES seed (7 + 4 * satellite)) (drawn_within MOST_CYCLES seed (7 + 4 * satellite + 1)) (l5_cycles with_third seed (6 + 4 * sats + 2 * satellite))
+          (drawn_within MOST_CYCLES seed (5 + 4 * satellite)) (drawn_within MOST_CYCLES seed (5 + 4 * satellite + 1)) (l5_cycles with_third seed (5 + 4 * sats + 2 * satellite)) (is_rover seed e) (is_base seed e));
       base_size = subst (λ (t : List (List ℤ)). All AreSmall t) (sym c.in_ok-push.ensures.items) (All-push AreSmall c.loop-k.all.base.items base.result now.base_size base.ensures.size);
       rover_size = subst (λ (t : List (List ℤ)). All AreSmall t) (sym c.in_ok-push-2.ensures.items) (All-push AreSmall c.loop-k.all.rover.items rover.result now.rover_size rover.ensures.size);
     }
