@@ -13,6 +13,7 @@ use Rattle.obs_rows.specs.declared.sessions.Session.{Session}
 use Rattle.obs_rows.specs.declared.bands.TheConstants.{L2_LETTERS}
 use Rattle.obs_rows.specs.Letters.{is_letter}
 use Rattle.obs_rows.specs.Ranges.{IsWithin}
+use Rattle.obs_rows.specs.declared.limits.TheConstants.{MOST_SATELLITES}
 use Rattle.form_tables.specs.declared.sizes.TheConstants.{MOST_INTEGERS}
 use Rattle.form_tables.proofs.TableLaws.{zero_item}
 use Rattle.int_search.specs.declared.answer.TwoBest.{TwoBest}
@@ -96,7 +97,7 @@ carried_pair p = record {
   tag_in = p.tag_in;
   group_in = wider p.group p.group_in;
   some_rows = subst (λ (n : ℕ). 1 ≤ n) (sym (length-map p.rows carried_row)) p.some_rows;
-  few_rows = subst (λ (n : ℕ). n ≤ 15) (sym (length-map p.rows carried_row)) p.few_rows;
+  few_rows = subst (λ (n : ℕ). n ≤ MOST_SATELLITES) (sym (length-map p.rows carried_row)) p.few_rows;
   arcs_rise = rising p.rows p.arcs_rise;
 }
 

@@ -13,6 +13,7 @@ use Rattle.obs_rows.specs.declared.pair_rows.PairRows.{PairRows}
 use Rattle.obs_rows.specs.Arcs.{IsOfPair}
 use Rattle.obs_rows.specs.Pairs.{HasItsArcs, ArePairs}
 use Rattle.obs_rows.specs.Unused.{IsZeroOff, HasUsedRows}
+use Rattle.obs_rows.specs.declared.limits.TheConstants.{MOST_PAIRS}
 use Rattle.cert_migrate.specs.declared.old_arcs.OldArc.{OldArc}
 use Rattle.cert_migrate.specs.declared.old_rows.OldRow.{OldRow}
 use Rattle.cert_migrate.specs.declared.old_pairs.OldPair.{OldPair}
@@ -58,7 +59,7 @@ pair_has_arcs arcs o p i h =
 
 pub pairs_like : (arcs : List OldArc) (os : List OldPair) (ps : List PairRows) → AllZip IsLikePair os ps → AreOldPairs arcs os → ArePairs (map lifted_arc arcs) ps
 pairs_like arcs os ps i h = record {
-  few = subst (λ (n : ℕ). n ≤ 3600) (sym (AllZip-long IsLikePair os ps i)) h.few;
+  few = subst (λ (n : ℕ). n ≤ MOST_PAIRS) (sym (AllZip-long IsLikePair os ps i)) h.few;
   rising = zip_all_pairs IsLikePair (λ p q. p.number < q.number) (λ p q. p.number < q.number)
       (λ o o' p p' e f less. subst (λ (n : ℕ). n < p'.number) (sym e.number) (subst (λ (n : ℕ). o.number < n) (sym f.number) less)) os ps i h.rising;
   rows_have_arcs = zip_all IsLikePair (HasOldArcs arcs) (HasItsArcs (map lifted_arc arcs)) (pair_has_arcs arcs) os ps i h.rows_have_arcs;

@@ -17,6 +17,7 @@ use Rattle.obs_rows.specs.Letters.{is_letter}
 use Rattle.obs_rows.specs.Ranges.{IsBelow}
 use Rattle.obs_rows.specs.Arcs.{is_free, free_count, IsArcInRange, AreArcs, IsOfPair}
 use Rattle.obs_rows.specs.Pairs.{HasItsArcs, ArePairs}
+use Rattle.obs_rows.specs.declared.limits.TheConstants.{MOST_PAIRS}
 use Rattle.int_search.specs.declared.answer.TwoBest.{TwoBest}
 use Rattle.int_search.specs.Vectors.{IsSmall}
 use Rattle.cert_data.specs.declared.tails.Tail.{Tail}
@@ -100,7 +101,7 @@ pair_has_arcs arcs p o i h =
 
 pub pairs_moved : (arcs : List Arc) (ps : List PairRows) (os : List OldPair) → AllZip IsPairOf ps os → ArePairs arcs ps → AreOldPairs (map old_arc arcs) os
 pairs_moved arcs ps os i h = record {
-  few = subst (λ (n : ℕ). n ≤ 3600) (sym (AllZip-long IsPairOf ps os i)) h.few;
+  few = subst (λ (n : ℕ). n ≤ MOST_PAIRS) (sym (AllZip-long IsPairOf ps os i)) h.few;
   rising = zip_all_pairs IsPairOf (λ p q. p.number < q.number) (λ p q. p.number < q.number)
       (λ p p' o o' e f less. subst (λ (n : ℕ). n < o'.number) (sym e.number) (subst (λ (n : ℕ). p.number < n) (sym f.number) less)) ps os i h.rising;
   rows_have_arcs = zip_all IsPairOf (HasItsArcs arcs) (HasOldArcs (map old_arc arcs)) (pair_has_arcs arcs) ps os i h.rows_have_arcs;

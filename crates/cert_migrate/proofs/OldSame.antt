@@ -8,7 +8,7 @@ use Rattle.obs_rows.specs.declared.rows.Row.{Row}
 use Rattle.obs_rows.specs.declared.pair_rows.PairRows.{PairRows}
 use Rattle.obs_rows.specs.declared.sessions.Session.{Session}
 use Rattle.obs_rows.specs.Ranges.{IsWithin}
-use Rattle.obs_rows.specs.declared.limits.TheConstants.{MOST_RATIO, MOST_BUDGET}
+use Rattle.obs_rows.specs.declared.limits.TheConstants.{MOST_RATIO, MOST_BUDGET, MOST_PAIRS, MOST_SATELLITES}
 use Rattle.int_search.specs.declared.answer.TwoBest.{TwoBest}
 use Rattle.integer_form.specs.Kept.{IsZeroFrom}
 use Rattle.cert_data.specs.declared.tails.Tail.{Tail}
@@ -70,11 +70,11 @@ pair_same p q number tag group rows = λ i. record {
   tag = tag i;
   group = group i;
   rows = rows i;
-  number_in = is_prop→PathP (λ j. number j < 3600) (λ j. le_prop) p.number_in q.number_in i;
+  number_in = is_prop→PathP (λ j. number j < MOST_PAIRS) (λ j. le_prop) p.number_in q.number_in i;
   tag_in = is_prop→PathP (λ j. (tag j).0 < 2 ^ 63) (λ j. le_prop) p.tag_in q.tag_in i;
   group_in = is_prop→PathP (λ j. unsigned_abs (group j) < 2 ^ 50) (λ j. le_prop) p.group_in q.group_in i;
   some_rows = is_prop→PathP (λ j. 1 ≤ length (rows j)) (λ j. le_prop) p.some_rows q.some_rows i;
-  few_rows = is_prop→PathP (λ j. length (rows j) ≤ 15) (λ j. le_prop) p.few_rows q.few_rows i;
+  few_rows = is_prop→PathP (λ j. length (rows j) ≤ MOST_SATELLITES) (λ j. le_prop) p.few_rows q.few_rows i;
   arcs_rise = is_prop→PathP (λ j. AllPairs (λ r s. r.arc < s.arc) (rows j)) (λ j. rise_prop (rows j)) p.arcs_rise q.arcs_rise i;
 }
 

@@ -7,6 +7,7 @@ use Rattle.std.proofs.lemmas.Slice.Zip.{AllZip-long}
 use Rattle.obs_rows.specs.declared.rows.Row.{Row}
 use Rattle.obs_rows.specs.declared.pair_rows.PairRows.{PairRows}
 use Rattle.obs_rows.specs.Ranges.{IsWithin}
+use Rattle.obs_rows.specs.declared.limits.TheConstants.{MOST_SATELLITES}
 use Rattle.int_search.specs.declared.answer.TwoBest.{TwoBest}
 use Rattle.cert_data.specs.declared.tails.Tail.{Tail}
 use Rattle.cert_data.specs.declared.tails.Tail.TheVariants as now
@@ -66,7 +67,7 @@ old_pair p group = record {
   tag_in = p.tag_in;
   group_in = group;
   some_rows = subst (λ (n : ℕ). 1 ≤ n) (sym (length-map p.rows old_row)) p.some_rows;
-  few_rows = subst (λ (n : ℕ). n ≤ 15) (sym (length-map p.rows old_row)) p.few_rows;
+  few_rows = subst (λ (n : ℕ). n ≤ MOST_SATELLITES) (sym (length-map p.rows old_row)) p.few_rows;
   arcs_rise = rows_rise_moved p.rows (map old_row p.rows) (rows_zip p.rows) p.arcs_rise;
 }
 

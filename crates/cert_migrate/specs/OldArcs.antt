@@ -1,6 +1,7 @@
 -- The arcs of a certificate of version 1.
 use Rattle.std.specs.Prelude.{◌≡◌, ◌^◌, ◌<◌, ◌≤◌, ℕ, Bool, not, List, length, count_by, All, Some, slice_get}
 use Rattle.obs_rows.specs.Ranges.{IsBelow}
+use Rattle.obs_rows.specs.declared.limits.TheConstants.{MOST_PAIRS}
 use Rattle.cert_migrate.specs.declared.old_arcs.OldArc.{OldArc}
 use Rattle.cert_migrate.specs.declared.old_rows.OldRow.{OldRow}
 
@@ -15,7 +16,7 @@ pub record IsOldArcInRange (a : OldArc) : Type 0 where
   pub sat_from : 1 ≤ a.sat
   pub sat_to : a.sat ≤ 32
   pub order : a.first ≤ a.last
-  pub last_in : a.last < 3600
+  pub last_in : a.last < MOST_PAIRS
   pub shifts_in : All (IsBelow (2 ^ 40)) a.shift
 
 -- 2 to 200 arcs, of which 1 to 20 are free

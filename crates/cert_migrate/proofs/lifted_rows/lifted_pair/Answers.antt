@@ -2,6 +2,7 @@ use Rattle.std.proofs.Common.{ℕ, ◌≤◌, List, sym, subst}
 use Rattle.std.specs.List.{AllZip}
 use Rattle.std.proofs.lemmas.Slice.Zip.{AllZip-long}
 use Rattle.obs_rows.specs.declared.rows.Row.{Row}
+use Rattle.obs_rows.specs.declared.limits.TheConstants.{MOST_SATELLITES}
 use Rattle.cert_migrate.specs.declared.old_rows.OldRow.{OldRow}
 use Rattle.cert_migrate.specs.declared.old_pairs.OldPair.{OldPair}
 use Rattle.cert_migrate.specs.Lifted.{IsLiftedRow}
@@ -20,6 +21,6 @@ invariant_of-result c =
       tag_in = old.tag_in;
       group_in = group_below old.group old.group_in;
       some_rows = subst (λ (n : ℕ). 1 ≤ n) (sym (AllZip-long IsLiftedRow old.rows c.new.result zip)) old.some_rows;
-      few_rows = subst (λ (n : ℕ). n ≤ 15) (sym (AllZip-long IsLiftedRow old.rows c.new.result zip)) old.few_rows;
+      few_rows = subst (λ (n : ℕ). n ≤ MOST_SATELLITES) (sym (AllZip-long IsLiftedRow old.rows c.new.result zip)) old.few_rows;
       arcs_rise = rows_rise old.rows c.new.result zip old.arcs_rise;
     }

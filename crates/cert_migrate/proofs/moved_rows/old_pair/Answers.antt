@@ -3,6 +3,7 @@ use Rattle.std.specs.List.{AllZip}
 use Rattle.std.proofs.lemmas.Slice.Zip.{AllZip-long}
 use Rattle.obs_rows.specs.declared.rows.Row.{Row}
 use Rattle.obs_rows.specs.declared.pair_rows.PairRows.{PairRows}
+use Rattle.obs_rows.specs.declared.limits.TheConstants.{MOST_SATELLITES}
 use Rattle.cert_migrate.specs.declared.old_rows.OldRow.{OldRow}
 use Rattle.cert_migrate.specs.Carriers.{IsRowOf}
 use Rattle.cert_migrate.proofs.MovedSessions.{rows_rise_moved}
@@ -19,6 +20,6 @@ invariant_of-result c =
       tag_in = pair.tag_in;
       group_in = group_kept pair.group c.requires;
       some_rows = subst (λ (n : ℕ). 1 ≤ n) (sym (AllZip-long IsRowOf pair.rows c.new.result zip)) pair.some_rows;
-      few_rows = subst (λ (n : ℕ). n ≤ 15) (sym (AllZip-long IsRowOf pair.rows c.new.result zip)) pair.few_rows;
+      few_rows = subst (λ (n : ℕ). n ≤ MOST_SATELLITES) (sym (AllZip-long IsRowOf pair.rows c.new.result zip)) pair.few_rows;
       arcs_rise = rows_rise_moved pair.rows c.new.result zip pair.arcs_rise;
     }
