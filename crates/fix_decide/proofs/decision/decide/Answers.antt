@@ -33,9 +33,9 @@ pub returns-in_err-top-clause-sum : goal.returns-in_err-top-clause-sum
 returns-in_err-top-clause-sum c =
     let are_wide : List ℤ → Type 0 = AreWide c.args.session.now.arcs (fine_signals c.args.session.now.signals) c.args.session.now.pairs (first_of c.args.best.now) in
     let wide : are_wide (move_of c.args.form.now (first_of c.args.best.now)) = subst are_wide c.in_ok-moved.ensures.ok (c.in_err-top.ensures.refused.0 refl) in
-    let told : IsErrAnd c.from_residual-in_err-top.result (λ (e : Overwidth). e.place ≡ Sum) =
+    let of_sum : IsErrAnd c.from_residual-in_err-top.result (λ (e : Overwidth). e.place ≡ Sum) =
     let is_error = err_from_is_err_and c.from_residual-in_err-top.result c.from_residual-in_err-top.ensures.1 in rw (is_error.1, is_error.2) c.in_err-top.ensures.place in
-    (λ e. (λ w. false≢true (c.in_ok-moved.ensures.refused.1 w), wide), λ w. told)
+    (λ e. (λ w. false≢true (c.in_ok-moved.ensures.refused.1 w), wide), λ w. of_sum)
 
 pub is_separated-requires-clause-p2_to : goal.is_separated-requires-clause-p2_to
 is_separated-requires-clause-p2_to c =

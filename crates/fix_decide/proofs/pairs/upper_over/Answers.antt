@@ -26,14 +26,14 @@ use Rattle.fix_decide.proofs.pairs.upper_over.Goals as goal
 no_more : (s a : ℤ) → s +ℤ pos 0 ≡ a → s ≡ a +ℤ pos 0
 no_more s a e = omega (arith, lins)
 
--- the rows told, their places and what the move gives of them, as the loop has them
-seen : (arcs : List Arc) (ss : List ℕ) (m : List ℤ) (s : ℕ) (told rows : List Row) (firsts places : List (Option ℕ)) (phase : Option ℕ) (moves given : List RowReach) →
-    told ≡ rows → phase ≡ position (λ t. t == s) (phases ss) →
-    ((k : ℕ) (d : Row) → k < length told → slice_index_or firsts k None ≡ first_place arcs (length (phases ss)) (slice_index_or told k d).arc) →
+-- the rows, their places and what the move gives of them, as the loop has them
+seen : (arcs : List Arc) (ss : List ℕ) (m : List ℤ) (s : ℕ) (all rows : List Row) (firsts places : List (Option ℕ)) (phase : Option ℕ) (moves given : List RowReach) →
+    all ≡ rows → phase ≡ position (λ t. t == s) (phases ss) →
+    ((k : ℕ) (d : Row) → k < length all → slice_index_or firsts k None ≡ first_place arcs (length (phases ss)) (slice_index_or all k d).arc) →
     ((k : ℕ) → slice_index_or places k None ≡ place_from (slice_index_or firsts k None) phase) →
-    moves ≡ map (row_reach m) told → given ≡ moves → AreSeen arcs ss m s rows places given
-seen arcs ss m s told rows firsts places phase moves given e f g h i j = subst (λ (l : List Row). AreSeen arcs ss m s l places given) e
-    (record { are_places = λ k d inside. h k ∙ are_places arcs ss s told firsts phase f g k d inside; are_moves = j ∙ i })
+    moves ≡ map (row_reach m) all → given ≡ moves → AreSeen arcs ss m s rows places given
+seen arcs ss m s all rows firsts places phase moves given e f g h i j = subst (λ (l : List Row). AreSeen arcs ss m s l places given) e
+    (record { are_places = λ k d inside. h k ∙ are_places arcs ss s all firsts phase f g k d inside; are_moves = j ∙ i })
 
 pub places_of-places-requires-clause-phase : goal.places_of-places-requires-clause-phase
 places_of-places-requires-clause-phase c =
@@ -59,12 +59,12 @@ returns-in_err-sum-clause-refused c =
     let k : ℕ = c.loop-signal.signal-index in
     let inside : k < length c.args.signals.now = search rules in
     let signal : ℕ = get_or c.args.signals.now k 0 in
-    let told : AreSeen c.args.arcs.now c.args.signals.now c.args.moved.now (get_or c.args.signals.now c.loop-signal.signal-index 0) c.args.pair.now.rows
+    let are_seen : AreSeen c.args.arcs.now c.args.signals.now c.args.moved.now (get_or c.args.signals.now c.loop-signal.signal-index 0) c.args.pair.now.rows
     c.places_of-places.result c.as_slice.result.now =
     seen c.args.arcs.now c.args.signals.now c.args.moved.now (get_or c.args.signals.now c.loop-signal.signal-index 0) c.as_slice-rows.result.now c.args.pair.now.rows
     c.first_places-firsts.result c.places_of-places.result c.phase_place.result c.row_reaches-moves.result.items c.as_slice.result.now c.as_slice-rows.ensures c.phase_place.ensures
     c.first_places-firsts.ensures.value c.places_of-places.ensures c.row_reaches-moves.ensures.value c.as_slice.ensures.value in
-    (λ e. (k, signal, inside, get_or_default c.args.signals.now k signal 0 inside, c.in_err-sum.ensures.wide c.args.arcs.now c.args.signals.now c.args.moved.now told), λ w. c.from_residual.ensures.0)
+    (λ e. (k, signal, inside, get_or_default c.args.signals.now k signal 0 inside, c.in_err-sum.ensures.wide c.args.arcs.now c.args.signals.now c.args.moved.now are_seen), λ w. c.from_residual.ensures.0)
 
 pub loop-signal-preserved : goal.loop-signal-preserved
 loop-signal-preserved c =
@@ -73,7 +73,7 @@ loop-signal-preserved c =
     let f : ℕ → ℤ = signal_upper c.args.arcs.now signals c.args.z.now c.args.moved.now c.args.pair.now in
     let inside : k < length signals = search rules in
     let few = c.requires.counted.few in
-    let told : AreSeen c.args.arcs.now c.args.signals.now c.args.moved.now (get_or c.args.signals.now c.loop-signal.signal-index 0) c.args.pair.now.rows
+    let are_seen : AreSeen c.args.arcs.now c.args.signals.now c.args.moved.now (get_or c.args.signals.now c.loop-signal.signal-index 0) c.args.pair.now.rows
     c.places_of-places.result c.as_slice.result.now =
     seen c.args.arcs.now c.args.signals.now c.args.moved.now (get_or c.args.signals.now c.loop-signal.signal-index 0) c.as_slice-rows.result.now c.args.pair.now.rows
     c.first_places-firsts.result c.places_of-places.result c.phase_place.result c.row_reaches-moves.result.items c.as_slice.result.now c.as_slice-rows.ensures c.phase_place.ensures
@@ -86,11 +86,11 @@ loop-signal-preserved c =
     (times_below (k + 1) (length signals) (2 ^ 104) (omega arith) (omega arith) (omega arith)) in
     record {
       value = next sum_so_far _ q (f (get_or signals k 0)) (sum (map f (drop (k + 1) signals))) (sum (map f signals))
-          (ap (λ (x : List ℕ). sum_so_far +ℤ sum (map f x)) (sym rest_is) ∙ c.loop-signal.invariant.value) (c.in_ok-sum.ensures.value c.args.arcs.now signals c.args.moved.now told) step_fits.is;
+          (ap (λ (x : List ℕ). sum_so_far +ℤ sum (map f x)) (sym rest_is) ∙ c.loop-signal.invariant.value) (c.in_ok-sum.ensures.value c.args.arcs.now signals c.args.moved.now are_seen) step_fits.is;
       from = step_fits.from;
       to = step_fits.to;
       narrow = below_more (λ j. IsWideFor c.args.arcs.now signals c.args.z.now c.args.moved.now c.args.pair.now.rows (get_or signals j 0) → ⊥) k
-          c.loop-signal.invariant.narrow (c.in_ok-sum.ensures.narrow c.args.arcs.now signals c.args.moved.now told);
+          c.loop-signal.invariant.narrow (c.in_ok-sum.ensures.narrow c.args.arcs.now signals c.args.moved.now are_seen);
     }
 
 pub returns-clause-above : goal.returns-clause-above
