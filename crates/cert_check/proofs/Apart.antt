@@ -5,7 +5,7 @@ use Rattle.obs_rows.specs.declared.sessions.Session.{Session}
 use Rattle.integer_form.specs.declared.faults.LowerFault.{LowerFault}
 use Rattle.integer_form.specs.declared.form.Form.{Form}
 use Rattle.integer_form.specs.FloatPoint.{HasWide}
-use Rattle.integer_form.specs.ReportedRefusals.{told}
+use Rattle.integer_form.specs.ReportedRefusals.{fault_of}
 use Rattle.int_search.specs.declared.answer.TwoBest.{TwoBest}
 use Rattle.int_search.specs.Answers.{IsTwoBest}
 use Rattle.fix_decide.specs.Widths.{AreWide}
@@ -19,7 +19,7 @@ pub same_refusal : (s : Session) (why too : LowerFault) → IsRefused s why → 
 same_refusal s why too a b =
     let whole = one_elimination s.arcs (counted s.signals s.scale) s.pairs a.normal b.normal a.h b.h a.of_rows b.of_rows a.exponent b.exponent in
     let same : a.reported.0 ≡ b.reported.0 = cc (a.reported.1.0, b.reported.1.0, whole) in
-    a.reported.1.1 ∙ ap told same ∙ sym b.reported.1.1
+    a.reported.1.1 ∙ ap fault_of same ∙ sym b.reported.1.1
 
 -- a form that is refused is none
 pub no_form : (s : Session) (why : LowerFault) (f : Form) → IsRefused s why → IsFormOf s f → ⊥

@@ -6,7 +6,7 @@ use Rattle.integer_form.specs.declared.faults.LowerFault.{LowerFault}
 use Rattle.integer_form.specs.declared.faults.LowerFault.TheVariants as fault
 use Rattle.integer_form.specs.declared.faults.Place.{Place}
 use Rattle.integer_form.specs.declared.faults.Place.TheVariants.{Factor, Entry, Float, Search, Sum}
-use Rattle.integer_form.specs.ReportedRefusals.{told}
+use Rattle.integer_form.specs.ReportedRefusals.{fault_of}
 use Rattle.cert_data.specs.declared.tails.Tail.{Tail}
 use Rattle.cert_data.specs.declared.verdicts.Verdict.{Verdict}
 use Rattle.cert_data.specs.declared.verdicts.Verdict.TheVariants.{Certified, Not}
@@ -32,7 +32,7 @@ gave_up s budget (Not (cause.Overwidth Search)) a = tt
 gave_up s budget _ a = absurd a
 
 -- no elimination is refused for the baseline or the upper sum
-other_place : (place : Place) (r : Refusal) → fault.Overwidth place ≡ told r → (place ≡ Factor → ⊥) → (place ≡ Entry → ⊥) → ⊥
+other_place : (place : Place) (r : Refusal) → fault.Overwidth place ≡ fault_of r → (place ≡ Factor → ⊥) → (place ≡ Entry → ⊥) → ⊥
 other_place place (weak j a) e f g = absurd cc
 other_place place wide_factor e f g = f cc
 other_place place wide_entry e f g = g cc

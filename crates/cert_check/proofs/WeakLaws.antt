@@ -7,7 +7,7 @@ use Rattle.quadratic_form.specs.Forms.{Column}
 use Rattle.quadratic_form.specs.Elimination.{Factor, Refusal, weak, wide_factor, wide_entry, kept, factors, next, all_small, form_small, with_factor, steps, StepsAnswer, StepAnswer}
 use Rattle.normal_sum.specs.declared.normal.Normal.{Normal}
 use Rattle.integer_form.specs.declared.faults.LowerFault.TheVariants.{Weak}
-use Rattle.integer_form.specs.ReportedRefusals.{told, IsToldAs}
+use Rattle.integer_form.specs.ReportedRefusals.{fault_of, IsReportedAs}
 use Rattle.lower_form.specs.FirstRounding.{first_form}
 use Rattle.lower_form.specs.Forms.{elimination_of}
 use Rattle.obs_rows.specs.declared.sessions.Session.{Session}
@@ -76,16 +76,16 @@ weak_of true k a i p f e = weak_of_steps 0 k a i p (sym f) e
 weak_of false k a i p f e = absurd cc
 
 -- ---- a refusal by a weak pivot
-pub told_weak : (column : ℕ) (pivot : ℤ) (refusal : Refusal) → Weak column pivot ≡ told refusal → refusal ≡ weak column pivot
-told_weak column pivot (weak j a) e = cc
-told_weak column pivot wide_factor e = absurd cc
-told_weak column pivot wide_entry e = absurd cc
+pub reported_weak : (column : ℕ) (pivot : ℤ) (refusal : Refusal) → Weak column pivot ≡ fault_of refusal → refusal ≡ weak column pivot
+reported_weak column pivot (weak j a) e = cc
+reported_weak column pivot wide_factor e = absurd cc
+reported_weak column pivot wide_entry e = absurd cc
 
 pub weak_fits : (s : Session) (column : ℕ) (pivot : ℤ) → IsRefused s (Weak column pivot) → IsWeak column pivot
 weak_fits s column pivot h =
     let normal : Normal = h.normal in
-    let is_told : IsToldAs (Weak column pivot) (elimination_of h.h normal) = h.reported in
-    let is_pivot : IsPivot 0 (normal.columns - 1) column pivot = weak_of (form_small (first_form h.h normal)) (normal.columns - 1) (first_form h.h normal) column pivot refl (is_told.1.0 ∙ ap Err (told_weak column pivot is_told.0 is_told.1.1)) in
+    let is_reported : IsReportedAs (Weak column pivot) (elimination_of h.h normal) = h.reported in
+    let is_pivot : IsPivot 0 (normal.columns - 1) column pivot = weak_of (form_small (first_form h.h normal)) (normal.columns - 1) (first_form h.h normal) column pivot refl (is_reported.1.0 ∙ ap Err (reported_weak column pivot is_reported.0 is_reported.1.1)) in
     record { column_to = small normal.columns column normal.columns_to is_pivot.column; pivot_in = is_pivot.size }
   where
     small : (c i : ℕ) → c ≤ MOST_COLUMNS → i < 0 + (c - 1) → i < MOST_FACTORS

@@ -11,7 +11,7 @@ use Rattle.integer_form.specs.declared.form.Form.{Form}
 use Rattle.integer_form.specs.declared.faults.Place.{Place}
 use Rattle.integer_form.specs.declared.faults.LowerFault.{LowerFault}
 use Rattle.integer_form.specs.FloatPoint.{HasWide}
-use Rattle.integer_form.specs.ReportedRefusals.{IsToldAs}
+use Rattle.integer_form.specs.ReportedRefusals.{IsReportedAs}
 use Rattle.lower_form.specs.Forms.{elimination_of}
 use Rattle.int_search.specs.declared.answer.TwoBest.{TwoBest}
 use Rattle.int_search.specs.Answers.{IsTwoBest, IsPlainCountOver, IsSearchTooWide}
@@ -29,7 +29,7 @@ pub record IsRefused (s : Session) (fault : LowerFault) : Type 0 where
   pub of_rows : IsNormalOf s.arcs (counted s.signals s.scale) s.pairs normal
   pub h : ℕ
   pub exponent : IsExponent h (form_of normal)
-  pub reported : IsToldAs fault (elimination_of h normal)
+  pub reported : IsReportedAs fault (elimination_of h normal)
 
 -- a refusal of the elimination as a tail
 abbrev pub tail_of : LowerFault → Tail

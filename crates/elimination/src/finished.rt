@@ -1,6 +1,6 @@
 //! The second half of an elimination: the steps of the integer columns.
 ghost use Rattle.std.specs.Prelude.{◌-◌, IfOk, IfErr};
-ghost use Rattle.integer_form.specs.ReportedRefusals.{IsToldAs};
+ghost use Rattle.integer_form.specs.ReportedRefusals.{IsReportedAs};
 ghost use Rattle.elimination.specs.Finish.{IsFinishOf, finish_of};
 
 use crate::steps::take_steps;
@@ -13,7 +13,7 @@ use integer_form::{Form, FrontForm, LowerFault, put_factors};
 #[inline(never)]
 pub fn finish(front: &FrontForm) -> Result<Form, LowerFault>
     ensures finished { IfOk result (λ f. IsFinishOf front.now f) }
-    ensures refused { IfErr result (λ e. IsToldAs e (finish_of front.now)) }
+    ensures refused { IfErr result (λ e. IsReportedAs e (finish_of front.now)) }
 {
     let columns = front.columns;
     let end = columns - 1;

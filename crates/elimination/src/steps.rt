@@ -5,7 +5,7 @@ ghost use Rattle.quadratic_form.specs.Places.{form_from};
 ghost use Rattle.form_tables.specs.Tables.{entry};
 ghost use Rattle.elimination.specs.Stops.{refusal_of};
 ghost use Rattle.integer_form.specs.Factors.{stored};
-ghost use Rattle.integer_form.specs.ReportedRefusals.{told};
+ghost use Rattle.integer_form.specs.ReportedRefusals.{fault_of};
 
 use crate::step::{StepFault, step};
 use form_tables::{FactorTable, MOST_COLUMNS, MOST_FACTORS, NormalTable};
@@ -24,7 +24,7 @@ impl Stopped {
     pub fn fault(self) -> LowerFault
         requires column_in { self.column ≤ MOST_COLUMNS }
         requires pivot_size { unsigned_abs self.pivot ≤ 2 ^ 52 }
-        ensures { result ≡ told (refusal_of self.column self.pivot self.stop) }
+        ensures { result ≡ fault_of (refusal_of self.column self.pivot self.stop) }
     {
         match self.stop {
             StepFault::Weak => LowerFault::Weak {

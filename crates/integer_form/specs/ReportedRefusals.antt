@@ -5,11 +5,11 @@ use Rattle.integer_form.specs.declared.faults.Place.TheVariants.{Factor as Place
 use Rattle.integer_form.specs.declared.faults.LowerFault.{LowerFault}
 use Rattle.integer_form.specs.declared.faults.LowerFault.TheVariants.{Weak, Overwidth}
 
-abbrev pub told : Refusal → LowerFault
-told (weak j a) = Weak j a
-told wide_factor = Overwidth PlaceOfFactor
-told wide_entry = Overwidth PlaceOfEntry
+abbrev pub fault_of : Refusal → LowerFault
+fault_of (weak j a) = Weak j a
+fault_of wide_factor = Overwidth PlaceOfFactor
+fault_of wide_entry = Overwidth PlaceOfEntry
 
 -- the answer is a refusal, and this fault reports it
-abbrev pub IsToldAs : LowerFault → StepsAnswer → Type 0
-IsToldAs fault answer = (refusal : Refusal) × ((answer ≡ Err refusal) × (fault ≡ told refusal))
+abbrev pub IsReportedAs : LowerFault → StepsAnswer → Type 0
+IsReportedAs fault answer = (refusal : Refusal) × ((answer ≡ Err refusal) × (fault ≡ fault_of refusal))

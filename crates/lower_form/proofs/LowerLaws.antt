@@ -11,7 +11,7 @@ use Rattle.integer_form.specs.declared.form.Form.{Form}
 use Rattle.integer_form.specs.declared.faults.LowerFault.{LowerFault}
 use Rattle.integer_form.specs.Factors.{stored}
 use Rattle.integer_form.specs.Kept.{form_of_table, constant_form}
-use Rattle.integer_form.specs.ReportedRefusals.{IsToldAs}
+use Rattle.integer_form.specs.ReportedRefusals.{IsReportedAs}
 use Rattle.elimination.specs.Taken.{before}
 use Rattle.lower_form.specs.FirstRounding.{first_form}
 use Rattle.lower_form.specs.Fronts.{front_of}
@@ -121,11 +121,11 @@ lower_is n r f a b = record {
     together = refl
 
 -- a refusal of the front, and of the finish, is that of the whole
-pub front_told : (n : Normal) (e : LowerFault) → ((h : ℕ) → IsExponent h (form_of n) → IsToldAs e (front_of h n)) → (h : ℕ) → IsExponent h (form_of n) → IsToldAs e (elimination_of h n)
-front_told n e t h k = let is_told : IsToldAs e (front_of h n) = t h k in (is_told.0, (front_stops h n is_told.0 is_told.1.0, is_told.1.1))
+pub front_reported : (n : Normal) (e : LowerFault) → ((h : ℕ) → IsExponent h (form_of n) → IsReportedAs e (front_of h n)) → (h : ℕ) → IsExponent h (form_of n) → IsReportedAs e (elimination_of h n)
+front_reported n e t h k = let is_reported : IsReportedAs e (front_of h n) = t h k in (is_reported.0, (front_stops h n is_reported.0 is_reported.1.0, is_reported.1.1))
 
-pub finish_told : (n : Normal) (r : FrontForm) (e : LowerFault) → IsFrontOf n r → IsToldAs e (finish_of r) → (h : ℕ) → IsExponent h (form_of n) → IsToldAs e (elimination_of h n)
-finish_told n r e a t h k = (
+pub finish_reported : (n : Normal) (r : FrontForm) (e : LowerFault) → IsFrontOf n r → IsReportedAs e (finish_of r) → (h : ℕ) → IsExponent h (form_of n) → IsReportedAs e (elimination_of h n)
+finish_reported n r e a t h k = (
   t.0,
   (
     ap (λ (m : ℕ). elimination_of m n) (exponent_unique h r.h (form_of n) k a.exponent) ∙ front_then r.h n (stored r.d r.l r.columns 0 3, form_of_table r.p (r.columns - 3)) a.taken

@@ -7,7 +7,7 @@ ghost use Rattle.normal_sum.specs.Normals.{IsNormalOf};
 ghost use Rattle.normal_sum.specs.Values.{form_of};
 ghost use Rattle.integer_form.specs.declared.front_form.FrontForm.{FrontForm};
 ghost use Rattle.integer_form.specs.Forms.{columns_of};
-ghost use Rattle.integer_form.specs.ReportedRefusals.{IsToldAs};
+ghost use Rattle.integer_form.specs.ReportedRefusals.{IsReportedAs};
 ghost use Rattle.elimination.specs.Finish.{IsFinishOf};
 ghost use Rattle.lower_form.specs.Fronts.{BoundsAllData};
 ghost use Rattle.lower_form.specs.Forms.{IsFrontOf, IsLowerOf, elimination_of};
@@ -25,7 +25,7 @@ pub fn lower(normal: &Normal) -> Result<Form, LowerFault>
     ensures lower { IfOk result (λ f. IsLowerOf normal.now f) }
     ensures halves { IfOk result (λ f. (r : FrontForm) × (IsFrontOf normal.now r × IsFinishOf r f)) }
     ensures few { IfOk result (λ f. f.h ≤ 77) }
-    ensures refused { IfErr result (λ e. (h : ℕ) → IsExponent h (form_of normal.now) → IsToldAs e (elimination_of h normal.now)) }
+    ensures refused { IfErr result (λ e. (h : ℕ) → IsExponent h (form_of normal.now) → IsReportedAs e (elimination_of h normal.now)) }
     ensures bound { IfOk result (λ f. (arcs : List Arc) (ss : List ℕ) (pairs : List PairRows) → IsNormalOf arcs ss pairs normal.now → BoundsAllData arcs ss pairs f.h (columns_of f)) }
 {
     let first = front(normal)?;

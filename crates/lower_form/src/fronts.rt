@@ -9,7 +9,7 @@ ghost use Rattle.normal_sum.specs.Normals.{IsNormalOf};
 ghost use Rattle.normal_sum.specs.Values.{form_of};
 ghost use Rattle.elimination.specs.Stops.{refusal_of};
 ghost use Rattle.integer_form.specs.Factors.{stored};
-ghost use Rattle.integer_form.specs.ReportedRefusals.{IsToldAs};
+ghost use Rattle.integer_form.specs.ReportedRefusals.{IsReportedAs};
 ghost use Rattle.integer_form.specs.Kept.{form_of_table};
 ghost use Rattle.lower_form.specs.Fronts.{front_of, BoundsAllData};
 ghost use Rattle.lower_form.specs.Forms.{IsFrontOf};
@@ -63,7 +63,7 @@ pub(crate) fn lower_front(
     ensures few { IfOk result (λ h. h ≤ 77) }
     ensures taken { IfOk result (λ h. front_of h normal.now ≡ Ok (stored kept.new factors.new normal.now.columns 0 3, form_from (entry table.new) 3 (normal.now.columns - 3))) }
     ensures outside { (r i : ℕ) → (3 ≤ i) ⊎ ((r ≤ i) ⊎ (normal.now.columns ≤ r)) → entry factors.new r i ≡ entry factors.old r i }
-    ensures refused { IfErr result (λ e. (h : ℕ) → IsExponent h (form_of normal.now) → IsToldAs e (front_of h normal.now)) }
+    ensures refused { IfErr result (λ e. (h : ℕ) → IsExponent h (form_of normal.now) → IsReportedAs e (front_of h normal.now)) }
     ensures bound { IfOk result (λ h. (arcs : List Arc) (ss : List ℕ) (pairs : List PairRows) →
         IsNormalOf arcs ss pairs normal.now → BoundsAllData arcs ss pairs h (form_from (entry table.new) 3 (normal.now.columns - 3))) }
 {
@@ -82,7 +82,7 @@ pub(crate) fn lower_front(
 pub fn front(normal: &Normal) -> Result<FrontForm, LowerFault>
     ensures front { IfOk result (λ r. IsFrontOf normal.now r) }
     ensures few { IfOk result (λ r. r.h ≤ 77) }
-    ensures refused { IfErr result (λ e. (h : ℕ) → IsExponent h (form_of normal.now) → IsToldAs e (front_of h normal.now)) }
+    ensures refused { IfErr result (λ e. (h : ℕ) → IsExponent h (form_of normal.now) → IsReportedAs e (front_of h normal.now)) }
     ensures bound { IfOk result (λ r. (arcs : List Arc) (ss : List ℕ) (pairs : List PairRows) →
         IsNormalOf arcs ss pairs normal.now → BoundsAllData arcs ss pairs r.h (form_of_table r.p (r.columns - 3))) }
 {
@@ -133,7 +133,7 @@ fn refill_by_columns(
     requires columns { front.old.columns ≡ normal.now.columns }
     ensures front { OnOk result (IsFrontOf normal.now front.new) }
     ensures few { OnOk result (front.new.h ≤ 77) }
-    ensures refused { IfErr result (λ e. (h : ℕ) → IsExponent h (form_of normal.now) → IsToldAs e (front_of h normal.now)) }
+    ensures refused { IfErr result (λ e. (h : ℕ) → IsExponent h (form_of normal.now) → IsReportedAs e (front_of h normal.now)) }
     ensures clean { IsClean normal.now.columns room.new }
     ensures columns { front.new.columns ≡ normal.now.columns }
 {
@@ -158,7 +158,7 @@ pub fn refill_front(
     requires columns { front.old.columns ≡ normal.now.columns }
     ensures front { OnOk result (IsFrontOf normal.now front.new) }
     ensures few { OnOk result (front.new.h ≤ 77) }
-    ensures refused { IfErr result (λ e. (h : ℕ) → IsExponent h (form_of normal.now) → IsToldAs e (front_of h normal.now)) }
+    ensures refused { IfErr result (λ e. (h : ℕ) → IsExponent h (form_of normal.now) → IsReportedAs e (front_of h normal.now)) }
     ensures clean { IsClean normal.now.columns room.new }
     ensures columns { front.new.columns ≡ normal.now.columns }
 {

@@ -11,7 +11,7 @@ use Rattle.integer_form.specs.Factors.{stored}
 use Rattle.integer_form.specs.Kept.{AreKept, IsZeroFrom, IsEliminated, form_of_table, constant_form}
 use Rattle.integer_form.specs.FloatPoint.{solved, float_point, baseline_at}
 use Rattle.integer_form.specs.declared.faults.LowerFault.{LowerFault}
-use Rattle.integer_form.specs.ReportedRefusals.{IsToldAs}
+use Rattle.integer_form.specs.ReportedRefusals.{IsReportedAs}
 use Rattle.normal_sum.specs.Values.{form_of}
 use Rattle.lower_form.specs.FirstRounding.{first_form}
 use Rattle.lower_form.specs.Fronts.{front_of}
@@ -79,8 +79,8 @@ same_answer n d l p e = subst (λ (m : ℕ). answer_of (stored d l m 0 3) (form_
 same_front : (n : ℕ) (d : List ℤ) (l p : List (List ℤ)) → n ≡ 4 → answer_of (stored d l n 0 3) (form_of_table p (n - 3)) ≡ answer_of (stored (three d) l n 0 3) (form_of_table p (n - 3))
 same_front n d l p e = refl
 
-pub told_of_front : (n : Normal) (e : LowerFault) → n.columns ≡ 4 → ((h : ℕ) → IsExponent h (form_of n) → IsToldAs e (front_of h n)) → (h : ℕ) → IsExponent h (form_of n) → IsToldAs e (elimination_of h n)
-told_of_front n e four reported h k = subst (IsToldAs e) (sym (same_steps h n four)) (reported h k)
+pub reported_by_front : (n : Normal) (e : LowerFault) → n.columns ≡ 4 → ((h : ℕ) → IsExponent h (form_of n) → IsReportedAs e (front_of h n)) → (h : ℕ) → IsExponent h (form_of n) → IsReportedAs e (elimination_of h n)
+reported_by_front n e four reported h k = subst (IsReportedAs e) (sym (same_steps h n four)) (reported h k)
 
 -- a form of a matrix, whose float point is the baseline of its front
 pub record HasNumbers (n : Normal) (x : List ℤ) : Type 0 where

@@ -7,7 +7,7 @@ use Rattle.obs_rows.specs.Signals.{counted}
 use Rattle.normal_sum.specs.declared.normal.Normal.{Normal}
 use Rattle.normal_sum.specs.Normals.{IsNormalOf}
 use Rattle.normal_sum.specs.Values.{form_of}
-use Rattle.integer_form.specs.ReportedRefusals.{IsToldAs}
+use Rattle.integer_form.specs.ReportedRefusals.{IsReportedAs}
 use Rattle.lower_form.specs.Forms.{elimination_of}
 use Rattle.lower_form.proofs.Exponents.{has_exponent}
 use Rattle.integer_form.specs.declared.form.Form.{Form}
@@ -54,7 +54,7 @@ settled_form s x float settled = (
 pub record IsRefusedOver (s : Session) (fault : LowerFault) : Type 0 where
   pub normal : Normal
   pub of_rows : IsNormalOf s.arcs (counted s.signals s.scale) s.pairs normal
-  pub reported : (h : ℕ) → IsExponent h (form_of normal) → IsToldAs fault (elimination_of h normal)
+  pub reported : (h : ℕ) → IsExponent h (form_of normal) → IsReportedAs fault (elimination_of h normal)
 
 -- is so over the one that there is
 over_one : (s : Session) (f : LowerFault) → IsRefusedOver s f → IsRefused s f

@@ -13,7 +13,7 @@ use Rattle.integer_form.specs.declared.faults.Place.{Place}
 use Rattle.integer_form.specs.declared.faults.Place.TheVariants.{Y, Factor as FactorPlace, Entry, Float, Point, Search, Sum}
 use Rattle.integer_form.specs.Factors.{stored}
 use Rattle.integer_form.specs.FloatPoint.{HasWide}
-use Rattle.integer_form.specs.ReportedRefusals.{told}
+use Rattle.integer_form.specs.ReportedRefusals.{fault_of}
 use Rattle.int_search.specs.declared.answer.TwoBest.{TwoBest}
 use Rattle.int_search.specs.Answers.{IsTwoBest}
 use Rattle.fix_decide.specs.Widths.{IsWide}
@@ -33,7 +33,7 @@ use Rattle.track_form.proofs.Lists.{not_mapped, any_mapped, not_all_and_any}
 
 -- ---- refusals
 -- a refusal names one of two places
-two_places : (place : Place) (r : Refusal) → fault.Overwidth place ≡ told r → (place ≡ FactorPlace) ⊎ (place ≡ Entry)
+two_places : (place : Place) (r : Refusal) → fault.Overwidth place ≡ fault_of r → (place ≡ FactorPlace) ⊎ (place ≡ Entry)
 two_places place (weak j a) e = absurd cc
 two_places place wide_factor e = inl cc
 two_places place wide_entry e = inr cc

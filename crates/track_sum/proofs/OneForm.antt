@@ -16,7 +16,7 @@ use Rattle.integer_form.specs.declared.form.Form.{Form}
 use Rattle.integer_form.specs.FloatPoint.{solved}
 use Rattle.integer_form.specs.Forms.{columns_of}
 use Rattle.integer_form.specs.Kept.{form_of_table}
-use Rattle.integer_form.specs.ReportedRefusals.{IsToldAs, told}
+use Rattle.integer_form.specs.ReportedRefusals.{IsReportedAs, fault_of}
 use Rattle.elimination.specs.Finish.{finish_of}
 use Rattle.lower_form.specs.Fronts.{front_of}
 use Rattle.lower_form.proofs.Exponents.{exponent_unique}
@@ -160,8 +160,8 @@ no_form arcs ss pairs why fs f a b =
 abbrev refused : Refusal → StepsAnswer
 refused x = Err x
 
-one_told : (a b : LowerFault) (r s : StepsAnswer) → r ≡ s → IsToldAs a r → IsToldAs b s → a ≡ b
-one_told a b r s e t u = t.1.1 ∙ ap told (same_refusal t.0 u.0 (sym t.1.0 ∙ e ∙ u.1.0)) ∙ sym u.1.1
+one_reported : (a b : LowerFault) (r s : StepsAnswer) → r ≡ s → IsReportedAs a r → IsReportedAs b s → a ≡ b
+one_reported a b r s e t u = t.1.1 ∙ ap fault_of (same_refusal t.0 u.0 (sym t.1.0 ∙ e ∙ u.1.0)) ∙ sym u.1.1
   where
     same_refusal : (x y : Refusal) → refused x ≡ refused y → x ≡ y
     same_refusal x y e = cc
@@ -170,7 +170,7 @@ one_pair : (arcs : List Arc) (ss : List ℕ) (p : PairRows) (a b : LowerFault) �
 one_pair arcs ss p a b s t =
     let same = same_normal arcs ss (p ∷ []) s.normal t.normal s.of_rows t.of_rows in
     let same_exponent : s.h ≡ t.h = exponent_unique s.h t.h (form_of t.normal) (one_exponent arcs ss (p ∷ []) s.normal t.normal s.h s.of_rows t.of_rows s.exponent) t.exponent in
-    one_told a b (front_of s.h s.normal) (front_of t.h t.normal) (same_front s.h s.normal t.normal same ∙ ap (λ (e : ℕ). front_of e t.normal) same_exponent) s.reported t.reported
+    one_reported a b (front_of s.h s.normal) (front_of t.h t.normal) (same_front s.h s.normal t.normal same ∙ ap (λ (e : ℕ). front_of e t.normal) same_exponent) s.reported t.reported
 
 pub one_first : (arcs : List Arc) (ss : List ℕ) (pairs : List PairRows) (a b : LowerFault) → IsFirstRefused arcs ss pairs a → IsFirstRefused arcs ss pairs b → a ≡ b
 one_first arcs ss [] a b s t = absurd (omega (arith, s.inside))
@@ -192,4 +192,4 @@ one_first arcs ss (q ∷ rest) a b s t = by_order (less_or s.place t.place)
 
 pub one_finish : (arcs : List Arc) (ss : List ℕ) (pairs : List PairRows) (a b : LowerFault) → IsFinishRefused arcs ss pairs a → IsFinishRefused arcs ss pairs b → a ≡ b
 one_finish arcs ss pairs a b s t =
-    one_told a b (finish_of s.sum) (finish_of t.sum) (same_finish s.sum t.sum (one_sum arcs ss pairs s.fronts t.fronts s.sum t.sum s.of_fronts t.of_fronts)) s.reported t.reported
+    one_reported a b (finish_of s.sum) (finish_of t.sum) (same_finish s.sum t.sum (one_sum arcs ss pairs s.fronts t.fronts s.sum t.sum s.of_fronts t.of_fronts)) s.reported t.reported

@@ -16,7 +16,7 @@ use Rattle.integer_form.specs.declared.front_form.FrontForm.{FrontForm}
 use Rattle.integer_form.specs.declared.form.Form.{Form}
 use Rattle.integer_form.specs.FloatPoint.{HasWide}
 use Rattle.integer_form.specs.Kept.{form_of_table}
-use Rattle.integer_form.specs.ReportedRefusals.{IsToldAs}
+use Rattle.integer_form.specs.ReportedRefusals.{IsReportedAs}
 use Rattle.elimination.specs.Finish.{IsFinishOf, finish_of}
 use Rattle.int_search.specs.declared.answer.TwoBest.{TwoBest}
 use Rattle.int_search.specs.Answers.{IsTwoBest}
@@ -49,7 +49,7 @@ pub record IsFinishRefused (arcs : List Arc) (ss : List ℕ) (pairs : List PairR
   pub fronts : List FrontForm
   pub sum : FrontForm
   pub of_fronts : IsSumOfFronts arcs ss pairs fronts sum
-  pub reported : IsToldAs fault (finish_of sum)
+  pub reported : IsReportedAs fault (finish_of sum)
 
 -- the upper sum of each pair, at its own move
 abbrev pub pair_uppers : List Arc → List ℕ → List ℤ → List PairRows → List (List ℤ) → List ℤ

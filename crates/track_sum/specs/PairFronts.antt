@@ -10,7 +10,7 @@ use Rattle.normal_sum.specs.Normals.{IsNormalOf}
 use Rattle.normal_sum.specs.Values.{form_of}
 use Rattle.integer_form.specs.declared.front_form.FrontForm.{FrontForm}
 use Rattle.integer_form.specs.declared.faults.LowerFault.{LowerFault}
-use Rattle.integer_form.specs.ReportedRefusals.{IsToldAs}
+use Rattle.integer_form.specs.ReportedRefusals.{IsReportedAs}
 use Rattle.integer_form.specs.FloatPoint.{baseline_at}
 use Rattle.lower_form.specs.Forms.{IsFrontOf}
 use Rattle.lower_form.specs.Fronts.{front_of}
@@ -28,7 +28,7 @@ pub record IsRefusedPair (arcs : List Arc) (ss : List ℕ) (p : PairRows) (fault
   pub of_rows : IsNormalOf arcs ss (p ∷ []) normal
   pub h : ℕ
   pub exponent : IsExponent h (form_of normal)
-  pub reported : IsToldAs fault (front_of h normal)
+  pub reported : IsReportedAs fault (front_of h normal)
 
 abbrev pub HasFront : List Arc → List ℕ → PairRows → Type 0
 HasFront arcs ss p = (f : FrontForm) × IsFrontOfPair arcs ss p f

@@ -10,7 +10,7 @@ ghost use Rattle.obs_rows.specs.declared.limits.TheConstants.{MOST_PAIRS};
 ghost use Rattle.form_tables.specs.Tables.{entry, zero_rows};
 ghost use Rattle.form_tables.specs.declared.sizes.TheConstants.{MOST_COLUMNS};
 ghost use Rattle.integer_form.specs.declared.front_form.FrontForm.{FrontForm};
-ghost use Rattle.integer_form.specs.ReportedRefusals.{IsToldAs};
+ghost use Rattle.integer_form.specs.ReportedRefusals.{IsReportedAs};
 ghost use Rattle.elimination.specs.Finish.{IsFinishOf, finish_of};
 ghost use Rattle.track_sum.specs.Parts.{part_at};
 ghost use Rattle.track_sum.specs.PairFronts.{IsFirstRefused};
@@ -222,7 +222,7 @@ pub struct TrackForm {
 fn finished(summed: SummedFronts) -> Result<TrackForm, LowerFault>
     ensures form { IfOk result (λ f. IsFinishOf summed.sum f.form) }
     ensures factors { IfOk result (λ f. f.factors.items ≡ summed.factors.items) }
-    ensures refused { IfErr result (λ e. IsToldAs e (finish_of summed.sum)) }
+    ensures refused { IfErr result (λ e. IsReportedAs e (finish_of summed.sum)) }
 {
     let SummedFronts { sum, factors } = summed;
     let form = finish(&sum)?;

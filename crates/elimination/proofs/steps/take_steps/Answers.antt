@@ -28,9 +28,9 @@ returns-in-Err-clause-refused c =
     let size : unsigned_abs (entry c.loop-j.table j j) ≤ 2 ^ 52 = c.loop-j.invariant.entries j j (omega arith) (omega arith) (omega (arith, c.loop-j-test.true, c.requires.end_in)) in
     let pivot_kept : to_z w128 (of_z w128 c.at-pivot.result) ≡ entry c.loop-j.table j j =
     as_w128 c.at-pivot.result (omega (arith, subst (λ (z : ℤ). unsigned_abs z ≤ 2 ^ 52) (sym c.at-pivot.ensures.value) size)) ∙ c.at-pivot.ensures.value in
-    let refusal_told = refusal_of j (entry c.loop-j.table j j) c.in-Err.stop in
-    c.loop-j.invariant.so_far ∙ ap (λ (x : StepsAnswer). before factors_before x) (open_it ∙ steps_err j left (column_at c.loop-j.table j n) (form_after c.loop-j.table j n) refusal_told c.in-Err.ensures.refused)
-    ∙ before_err factors_before refusal_told
+    let refusal = refusal_of j (entry c.loop-j.table j j) c.in-Err.stop in
+    c.loop-j.invariant.so_far ∙ ap (λ (x : StepsAnswer). before factors_before x) (open_it ∙ steps_err j left (column_at c.loop-j.table j n) (form_after c.loop-j.table j n) refusal c.in-Err.ensures.refused)
+    ∙ before_err factors_before refusal
     ∙ ap (λ (z : ℤ). let answer : StepsAnswer = Err (refusal_of j z c.in-Err.stop) in answer) (sym pivot_kept)
 
 pub loop-j-preserved : goal.loop-j-preserved

@@ -3,7 +3,7 @@ use Rattle.std.proofs.lemmas.Bool.{false≢true}
 use Rattle.integer_form.specs.FloatPoint.{item, HasWide}
 use Rattle.lower_form.specs.Rooms.{IsClean}
 use Rattle.round_steps.proofs.StepLaws.{refused_elimination}
-use Rattle.round_steps.proofs.FrontNumbers.{HasNumbers, numbers_of_front, told_of_front}
+use Rattle.round_steps.proofs.FrontNumbers.{HasNumbers, numbers_of_front, reported_by_front}
 use Rattle.round_steps.proofs.coarse.numbers_by_front.Goals as goal
 
 pub refill_front-requires-clause-clean : goal.refill_front-requires-clause-clean
@@ -20,7 +20,7 @@ invariant_of-tables c = record {
 
 pub returns-in-Err-clause-refused : goal.returns-in-Err-clause-refused
 returns-in-Err-clause-refused c = λ last. refused_elimination last c.args.session.now c.in-Err.fault c.tail_of.result c.tail_of.ensures
-    (record { normal = c.args.tables.now.normal; of_rows = c.requires.of_rows; reported = told_of_front c.args.tables.now.normal c.in-Err.fault c.requires.no_integers c.in-Err.ensures.refused })
+    (record { normal = c.args.tables.now.normal; of_rows = c.requires.of_rows; reported = reported_by_front c.args.tables.now.normal c.in-Err.fault c.requires.no_integers c.in-Err.ensures.refused })
 
 pub returns-in-Err-baseline_of-clause-refused : goal.returns-in-Err-baseline_of-clause-refused
 returns-in-Err-baseline_of-clause-refused c =

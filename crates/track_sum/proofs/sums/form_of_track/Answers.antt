@@ -3,7 +3,7 @@ use Rattle.std.proofs.lemmas.Result.{IfOk-at_ok, IfErr-at_err, IfOk-weaker, IfEr
 use Rattle.obs_rows.specs.declared.arcs.Arc.{Arc}
 use Rattle.obs_rows.specs.Signals.{fine_signals}
 use Rattle.integer_form.specs.declared.front_form.FrontForm.{FrontForm}
-use Rattle.integer_form.specs.ReportedRefusals.{IsToldAs}
+use Rattle.integer_form.specs.ReportedRefusals.{IsReportedAs}
 use Rattle.elimination.specs.Finish.{IsFinishOf, finish_of}
 use Rattle.track_sum.specs.declared.factors.PairFactors.{PairFactors}
 use Rattle.track_sum.specs.PairFronts.{IsFirstRefused}
@@ -37,7 +37,7 @@ returns-in-Ok-clause-refused c =
     let fine : List ℕ = fine_signals c.args.signals in
     let sum : (fs : List FrontForm) × IsSumOfFronts arcs fine c.args.pairs.now fs c.in-Ok.summed.sum =
     IfOk-at_ok (λ s. (fs : List FrontForm) × IsSumOfFronts arcs fine c.args.pairs.now fs s.sum) c.in-Ok.is c.in_ok-summed.ensures.sum in
-    IfErr-weaker c.finished.result (λ e. IsToldAs e (finish_of c.in-Ok.summed.sum)) (λ e. IsFirstRefused arcs fine c.args.pairs.now e ⊎ IsFinishRefused arcs fine c.args.pairs.now e)
+    IfErr-weaker c.finished.result (λ e. IsReportedAs e (finish_of c.in-Ok.summed.sum)) (λ e. IsFirstRefused arcs fine c.args.pairs.now e ⊎ IsFinishRefused arcs fine c.args.pairs.now e)
     (λ e reported. inr (record { fronts = sum.0; sum = c.in-Ok.summed.sum; of_fronts = sum.1; reported = reported })) c.finished.ensures.refused
 
 pub returns-in-Err-clause-refused : goal.returns-in-Err-clause-refused

@@ -3,7 +3,7 @@ use Rattle.std.proofs.lemmas.Result.{IfErr-weaker, on_ok_weaker}
 use Rattle.quadratic_form.specs.Lowering.{IsExponent}
 use Rattle.normal_sum.specs.Values.{form_of}
 use Rattle.obs_rows.specs.Signals.{fine_signals}
-use Rattle.integer_form.specs.ReportedRefusals.{IsToldAs}
+use Rattle.integer_form.specs.ReportedRefusals.{IsReportedAs}
 use Rattle.lower_form.specs.Fronts.{front_of}
 use Rattle.lower_form.proofs.Exponents.{has_exponent}
 use Rattle.lower_form.specs.Rooms.{IsClean}
@@ -26,7 +26,7 @@ returns-clause-front c = on_ok_weaker
 pub returns-clause-refused : goal.returns-clause-refused
 returns-clause-refused c =
     let some = has_exponent (form_of c.refill_pair.new.normal) in
-    IfErr-weaker c.refill_front.result (λ e. (h : ℕ) → IsExponent h (form_of c.refill_pair.new.normal) → IsToldAs e (front_of h c.refill_pair.new.normal)) (IsRefusedPair c.args.arcs.now (fine_signals c.args.signals) c.args.pair.now)
+    IfErr-weaker c.refill_front.result (λ e. (h : ℕ) → IsExponent h (form_of c.refill_pair.new.normal) → IsReportedAs e (front_of h c.refill_pair.new.normal)) (IsRefusedPair c.args.arcs.now (fine_signals c.args.signals) c.args.pair.now)
     (λ e reported. record { normal = c.refill_pair.new.normal; of_rows = c.refill_pair.ensures; h = some.0; exponent = some.1; reported = reported some.0 some.1 }) c.refill_front.ensures.refused
 
 pub returns-clause-columns : goal.returns-clause-columns
