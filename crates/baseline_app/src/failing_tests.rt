@@ -21,7 +21,7 @@ fn run_fix(alloc: Global, made: &Made, room: usize, fails: Fails) -> Result<Ran,
 }
 
 // The name in the line about a read fault, as its place in the words, or 3 for any other text.
-fn name_told(err: &[u8]) -> usize {
+fn reported_name(err: &[u8]) -> usize {
     [
         b"read fault: B\n".as_slice(),
         b"read fault: R\n",
@@ -37,34 +37,34 @@ fn run_failing_at(alloc: Global, made: &Made, call: u64) -> Result<Ran, AllocErr
     run_fix(alloc, made, ROOM, Fails::at(alloc, Some(call), None, None)?)
 }
 
-// Of the calls on the files, which name is told as the first fails, and so on, up to the run in which none does.
-fn names_told(alloc: Global, made: &Made) -> Result<Vec<usize>, AllocError> {
-    let mut told = Vec::new(alloc);
+// Of the calls on the files, which name is reported as the first fails, and so on, up to the run in which none does.
+fn reported_names(alloc: Global, made: &Made) -> Result<Vec<usize>, AllocError> {
+    let mut names = Vec::new(alloc);
     for call in 0..200 {
         let ran = run_failing_at(alloc, made, call)?;
         if ran.status == Status::Done {
             break;
         }
         let is_fault = ran.status == Status::ReadFault && ran.out.bytes().is_empty();
-        told.push(if is_fault {
-            name_told(ran.err.bytes())
+        names.push(if is_fault {
+            reported_name(ran.err.bytes())
         } else {
             3
         })?;
     }
-    Ok(told)
+    Ok(names)
 }
 
-// How often a name is told.
-fn times(told: &[usize], name: usize) -> usize {
-    told.iter().filter(|at| **at == name).count()
+// How often a name is reported.
+fn times(names: &[usize], name: usize) -> usize {
+    names.iter().filter(|at| **at == name).count()
 }
 
 // Whether they are in the order of the words, and each stands there once at least for its opening, for its bytes and for its end.
-fn are_in_turn(told: &[usize]) -> bool {
-    told.is_sorted()
-        && (0..3).all(|name| times(told, name) >= 3)
-        && told.iter().all(|name| *name < 3)
+fn are_in_turn(names: &[usize]) -> bool {
+    names.is_sorted()
+        && (0..3).all(|name| times(names, name) >= 3)
+        && names.iter().all(|name| *name < 3)
 }
 
 // Each file is opened and read in turn, so the calls that fail name B, then R, then N, until no call is left.
@@ -72,10 +72,10 @@ fn are_in_turn(told: &[usize]) -> bool {
 fn each_call_on_the_files_fails(rt: HostRuntime) -> Result<(), Fail> {
     let alloc = rt.alloc();
     let made = make(alloc, 1, 60, 8, 12, b'G')?;
-    let told = names_told(alloc, &made)?;
-    assert!(rt; are_in_turn(&told));
+    let names = reported_names(alloc, &made)?;
+    assert!(rt; are_in_turn(&names));
     let whole = run_fix(alloc, &made, ROOM, Fails::none(alloc))?;
-    let ran = run_failing_at(alloc, &made, told.len() as u64)?;
+    let ran = run_failing_at(alloc, &made, names.len() as u64)?;
     assert_eq!(rt; whole.status, Status::Done);
     expect_run(
         &rt,
@@ -94,8 +94,8 @@ fn each_sink_fails(rt: HostRuntime) -> Result<(), Fail> {
     let alloc = rt.alloc();
     let made = make(alloc, 1, 60, 8, 12, b'G')?;
     let whole = run_fix(alloc, &made, ROOM, Fails::none(alloc))?;
-    let (text, told) = (whole.out.bytes(), whole.err.bytes());
-    // the room for out, the calls of out and of err that fail; then the status, how much of the text is written, and what is told.
+    let (text, reports) = (whole.out.bytes(), whole.err.bytes());
+    // the room for out, the calls of out and of err that fail; then the status, how much of the text is written, and what is reported.
     // The last row's calls are never made.
     let rows = [
         (7, None, None, Status::WriteFault, 7, WRITE_FAULT),
@@ -116,14 +116,14 @@ fn each_sink_fails(rt: HostRuntime) -> Result<(), Fail> {
             Some(1),
             Status::Done,
             text.len(),
-            told,
+            reports,
         ),
     ];
     for row in rows.iter() {
-        let (room, out, err, status, written, told) = *row;
+        let (room, out, err, status, written, reports) = *row;
         let ran = run_fix(alloc, &made, room, Fails::at(alloc, None, out, err)?)?;
         let written = text.get(..written).ok_or("a short text")?;
-        expect_run(&rt, &ran, status, written, told);
+        expect_run(&rt, &ran, status, written, reports);
     }
     Ok(())
 }

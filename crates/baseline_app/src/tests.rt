@@ -167,7 +167,7 @@ fn wrong_words_open_no_file(rt: HostRuntime) -> Result<(), Fail> {
 }
 
 #[test]
-fn an_empty_name_is_told(rt: HostRuntime) -> Result<(), Fail> {
+fn an_empty_name_is_reported(rt: HostRuntime) -> Result<(), Fail> {
     let alloc = rt.alloc();
     let mut files = files_of(alloc, "", b"zero 1\nz 2\n", Vec::new(alloc))?;
     let ran = run_over(
