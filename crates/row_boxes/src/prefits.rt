@@ -74,7 +74,7 @@ fn step_box(low: i128) -> Observed
 }
 
 // ⌊amount · L1_CYCLE / 1000⌋. Here and below the divisor is known when the program is built, which then multiplies in place of
-// dividing 128 bits.
+// dividing 128 bits. Each carrier has its own functions: the product with a known number is linear, and proved as it stands.
 fn l1_below(amount: i64) -> i128
     requires { unsigned_abs amount < 2 ^ 48 }
     ensures { IsFloor (amount *ℤ L1_CYCLE) 1000 result }
