@@ -8,7 +8,7 @@
 //! the head of its module.
 #![tactic(auto)]
 
-ghost use Rattle.std.specs.Prelude.{◌≡◌, [], ◌++◌, IfOk};
+ghost use Rattle.std.specs.Prelude.{◌≡◌, [], IfOk};
 ghost use Rattle.job_answers.specs.Answers.{ending_of};
 ghost use Rattle.job_answers.specs.Endings.{ending};
 ghost use Rattle.job_answers.specs.Statuses.{IsVerdictStatus};

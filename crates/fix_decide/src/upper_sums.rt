@@ -1,5 +1,5 @@
 //! The upper sum of a session.
-ghost use Rattle.std.specs.Prelude.{◌≡◌, ◌^◌, ◌<◌, ◌≤◌, ◌↔◌, length, All, pos, ◌*ℤ◌, ◌≤ℤ◌, IsErr, IfOk, IfErr};
+ghost use Rattle.std.specs.Prelude.{◌≡◌, ◌^◌, ◌≤◌, ◌↔◌, length, All, pos, ◌*ℤ◌, ◌≤ℤ◌, IsErr, IfOk, IfErr};
 ghost use Rattle.obs_rows.specs.declared.units.TheConstants.{MOST_FREE_ARCS};
 ghost use Rattle.obs_rows.specs.Arcs.{free_count};
 ghost use Rattle.obs_rows.specs.Ranges.{IsBelow};

@@ -1,5 +1,5 @@
 //! Maps of drawn forms.
-ghost use Rattle.std.specs.Prelude.{◌+◌, ◌-◌, ◌*◌, ◌^◌, ◌<◌, ◌≤◌, unsigned_abs};
+ghost use Rattle.std.specs.Prelude.{◌+◌, ◌*◌, ◌^◌, ◌<◌, ◌≤◌, unsigned_abs};
 ghost use Rattle.form_tables.specs.declared.sizes.TheConstants.{MOST_INTEGERS, MOST_COLUMNS, MOST_FACTORS};
 ghost use Rattle.form_tables.specs.Matrices.{EntriesBelow};
 ghost use Rattle.decorrelate.specs.Starts.{AreWeightsBehind};

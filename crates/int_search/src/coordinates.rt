@@ -1,5 +1,5 @@
 //! The form in the coordinates of a map.
-ghost use Rattle.std.specs.Prelude.{◌≡◌, ◌≢◌, ℕ, ◌+◌, ◌-◌, ◌^◌, ◌<◌, ◌≤◌, unsigned_abs, true, false, IfSome, MatchOption};
+ghost use Rattle.std.specs.Prelude.{◌≡◌, ◌≢◌, ℕ, ◌+◌, ◌^◌, ◌<◌, ◌≤◌, unsigned_abs, true, false, IfSome, MatchOption};
 ghost use Rattle.form_tables.specs.Tables.{entry, IsZeroOutside};
 ghost use Rattle.form_tables.specs.declared.sizes.TheConstants.{MOST_INTEGERS};
 ghost use Rattle.form_tables.specs.Matrices.{EntriesBelow};

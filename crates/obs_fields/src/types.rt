@@ -1,5 +1,5 @@
 //! The list of the observation types of a system (`SYS / # / OBS TYPES`, in RINEX 2 `# / TYPES OF OBSERV`).
-ghost use Rattle.std.specs.Prelude.{◌≡◌, ◌+◌, ◌-◌, ◌*◌, ◌<◌, ◌≤◌, ◌++◌, ◌∷◌, [], min, length, IfOk, OnOk, IfErr, Ok, Err};
+ghost use Rattle.std.specs.Prelude.{◌≡◌, ◌+◌, ◌<◌, ◌≤◌, ◌++◌, ◌∷◌, [], min, length, IfOk, OnOk, IfErr, Ok, Err};
 ghost use Rattle.decimal_text.specs.Fixed.{are_blank};
 ghost use Rattle.rinex_head.specs.Fields.{whole_of};
 ghost use Rattle.obs_fields.specs.Layouts.{first_name_of, name_in, types_column_of, types_count_in, further_mark_in};

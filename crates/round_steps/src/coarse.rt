@@ -1,6 +1,6 @@
 //! What a coarse round makes of its session. It counts no integers, so the front of its normal matrix says its float point: the
 //! rest of an elimination, with its tables of all columns, has nothing to do.
-ghost use Rattle.std.specs.Prelude.{◌≡◌, ℕ, ◌<◌, Bool, IfOk, IfErr};
+ghost use Rattle.std.specs.Prelude.{◌≡◌, ℕ, Bool, IfOk, IfErr};
 ghost use Rattle.normal_sum.specs.Normals.{IsNormalOf};
 ghost use Rattle.obs_rows.specs.Signals.{counted};
 ghost use Rattle.integer_form.specs.FloatPoint.{item};

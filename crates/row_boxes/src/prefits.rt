@@ -1,5 +1,5 @@
 //! Observed less computed.
-ghost use Rattle.std.specs.Prelude.{IsTrue, not, ◌≡◌, ◌+◌, ◌*◌, ◌^◌, ◌<◌, ◌≤◌, ℤ, pos, ◌+ℤ◌, ◌-ℤ◌, ◌*ℤ◌, ◌≤ℤ◌, unsigned_abs};
+ghost use Rattle.std.specs.Prelude.{IsTrue, not, ◌≡◌, ◌+◌, ◌*◌, ◌^◌, ◌<◌, ◌≤◌, pos, ◌+ℤ◌, ◌-ℤ◌, ◌*ℤ◌, ◌≤ℤ◌, unsigned_abs};
 ghost use Rattle.whole_math.specs.Rounding.{IsFloor, IsCeil};
 ghost use Rattle.rational.specs.Rational.{Rational, InBox, sub_r};
 ghost use Rattle.obs_rows.specs.declared.units.TheConstants.{SIGNALS};

@@ -1,5 +1,5 @@
 //! The observations of one satellite in one pair.
-ghost use Rattle.std.specs.Prelude.{◌≡◌, ◌⊎◌, ◌-◌, ◌^◌, ◌<◌, ◌≤◌, None, All, ℤ, pos, ◌+ℤ◌, ◌*ℤ◌, ◌≤ℤ◌, unsigned_abs, IfSome};
+ghost use Rattle.std.specs.Prelude.{◌≡◌, ◌⊎◌, ◌-◌, ◌^◌, ◌<◌, ◌≤◌, None, All, pos, ◌+ℤ◌, ◌*ℤ◌, ◌≤ℤ◌, unsigned_abs, IfSome};
 ghost use Rattle.obs_rows.specs.declared.units.TheConstants.{SIGNALS};
 ghost use Rattle.obs_rows.specs.Ranges.{IsScale, IsWithin, IsBelow};
 ghost use Rattle.obs_rows.specs.Data.{number_at};

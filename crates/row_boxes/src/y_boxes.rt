@@ -1,5 +1,5 @@
 //! The y boxes of rows, and the group of a pair.
-ghost use Rattle.std.specs.Prelude.{◌≡◌, ◌+◌, ◌^◌, ◌<◌, ◌≤◌, ℤ, pos, ◌+ℤ◌, ◌-ℤ◌, ◌*ℤ◌, ◌≤ℤ◌, unsigned_abs, IfSome, None};
+ghost use Rattle.std.specs.Prelude.{◌≡◌, ◌+◌, ◌^◌, ◌<◌, ◌≤◌, pos, ◌+ℤ◌, ◌-ℤ◌, ◌*ℤ◌, ◌≤ℤ◌, unsigned_abs, IfSome, None};
 ghost use Rattle.rational.specs.Rational.{Rational, InBox, Near, of_whole, sub_r};
 ghost use Rattle.obs_rows.specs.Ranges.{IsScale};
 ghost use Rattle.row_boxes.specs.Terms.{y_width, in_row_unit, iota_exponent};

@@ -1,5 +1,5 @@
 //! The rows of all pairs.
-ghost use Rattle.std.specs.Prelude.{◌≡◌, ◌++◌, [], All, Err, length, IfOk, IfSome, OnOk};
+ghost use Rattle.std.specs.Prelude.{◌≡◌, ◌++◌, All, Err, length, IfOk, IfSome, OnOk};
 ghost use Rattle.obs_rows.specs.ReceiverPoints.{IsReceiverPoint};
 ghost use Rattle.obs_rows.specs.Ranges.{IsScale, IsSystem};
 ghost use Rattle.obs_rows.specs.Arcs.{AreArcs};

@@ -2,7 +2,6 @@
 ghost use Rattle.std.specs.Prelude.{◌≡◌, IfOk, IfSome};
 ghost use Rattle.cert_data.specs.Tails.{IsTailOf};
 ghost use Rattle.obs_rows.specs.Signals.{fine_signals};
-ghost use Rattle.obs_rows.specs.ReceiverPoints.{IsReceiverPoint};
 ghost use Rattle.row_build.specs.Halves.{AreBaseHalves};
 ghost use Rattle.slip_arcs.specs.Linked.{IsCutOf};
 

@@ -1,5 +1,5 @@
 //! The mask's rule, decided exactly at a place on a grid of 2^-17 m.
-ghost use Rattle.std.specs.Prelude.{◌≡◌, ◌+◌, ◌*◌, ◌^◌, ◌<◌, ◌≤◌, ◌↔◌, ℤ, pos, ◌+ℤ◌, ◌*ℤ◌, ◌≤ℤ◌, unsigned_abs, IsTrue};
+ghost use Rattle.std.specs.Prelude.{◌≡◌, ◌+◌, ◌*◌, ◌^◌, ◌<◌, ◌≤◌, ◌↔◌, pos, ◌+ℤ◌, ◌*ℤ◌, ◌≤ℤ◌, unsigned_abs, IsTrue};
 ghost use Rattle.signal_travel.specs.Grid.{grid, offset, dot3, IsAboveWhole};
 ghost use Rattle.obs_rows.specs.declared.limits.TheConstants.{MOST_COORDINATE};
 

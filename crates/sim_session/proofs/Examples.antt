@@ -1,5 +1,5 @@
 -- The first draw of seed 1, by computation.
-use Rattle.std.proofs.Common.{◌≡◌, ℤ, negsuc, refl}
+use Rattle.std.proofs.Common.{◌≡◌, negsuc, refl}
 use Rattle.sim_session.specs.Sequence.{state_after, draw, drawn_within}
 use Rattle.sim_session.specs.declared.drawn.TheConstants.{MOST_OFFSET}
 

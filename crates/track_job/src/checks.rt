@@ -1,5 +1,4 @@
 //! The command `check-track`.
-ghost use Rattle.std.specs.Prelude.{◌≡◌, ◌++◌};
 ghost use Rattle.track_job.specs.CheckJobs.{check_track_job};
 
 use cert_jobs::verdict_output;

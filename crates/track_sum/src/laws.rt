@@ -1,5 +1,5 @@
 //! What the pairs of a track say together: the laws behind its form, its upper sum and its decision. The bodies are empty.
-ghost use Rattle.std.specs.Prelude.{◌≡◌, ◌≢◌, ℕ, ◌+◌, ◌*◌, ◌^◌, ◌<◌, ◌≤◌, List, [], ◌∷◌, ◌++◌, length, All, ℤ, pos, ◌+ℤ◌, ◌*ℤ◌, ◌≤ℤ◌, unsigned_abs};
+ghost use Rattle.std.specs.Prelude.{◌≡◌, ◌≢◌, ℕ, ◌^◌, ◌<◌, ◌≤◌, List, [], ◌∷◌, ◌++◌, length, All, ℤ, pos, ◌+ℤ◌, ◌*ℤ◌, ◌≤ℤ◌, unsigned_abs};
 ghost use Rattle.std.specs.List.{AllZip};
 ghost use Rattle.rational.specs.Rational.{Rational, of_whole, mul_r, ◌≤ʳ◌, ◌<ʳ◌};
 ghost use Rattle.whole_math.specs.Vectors.{len};

@@ -1,5 +1,5 @@
 //! Which whole number fits the differences best.
-ghost use Rattle.std.specs.Prelude.{◌≡◌, ◌+◌, ◌-◌, ◌*◌, ◌^◌, ◌<◌, ◌≤◌, ℤ, pos, neg_ℤ, ◌-ℤ◌, ◌*ℤ◌, ◌≤ℤ◌, length};
+ghost use Rattle.std.specs.Prelude.{◌≡◌, ◌+◌, ◌-◌, ◌*◌, ◌^◌, ◌<◌, ◌≤◌, pos, neg_ℤ, ◌-ℤ◌, ◌*ℤ◌, ◌≤ℤ◌, length};
 ghost use Rattle.whole_math.specs.Rounding.{IsCeil};
 ghost use Rattle.zero_rows.specs.Sums.{square, sum_at, total, IsLowest, AreSmall};
 ghost use Rattle.zero_rows.specs.Verdicts.{IsVerdict};

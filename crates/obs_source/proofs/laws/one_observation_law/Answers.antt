@@ -1,4 +1,4 @@
-use Rattle.std.proofs.Common.{◌≡◌, Ok, sym, ◌∙◌}
+use Rattle.std.proofs.Common.{sym, ◌∙◌}
 use Rattle.obs_source.proofs.FormatLaws.{file_given}
 use Rattle.obs_source.proofs.laws.one_observation_law.Goals as goal
 

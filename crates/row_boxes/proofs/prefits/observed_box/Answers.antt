@@ -1,4 +1,4 @@
-use Rattle.std.proofs.Common.{◌≡◌, ℕ, zero, suc, Bool, true, false, IsTrue, not, refl, ◌<◌, ◌*ℤ◌, ◌≤ℤ◌, ℤ, pos, arith, sym, subst}
+use Rattle.std.proofs.Common.{◌≡◌, ℕ, zero, suc, Bool, true, false, IsTrue, not, refl, ◌<◌, ◌*ℤ◌, ◌≤ℤ◌, pos, arith, sym, subst}
 use Rattle.std.proofs.lemmas.Int.{ints}
 use Rattle.std.proofs.lemmas.Bool.{false≢true}
 use Rattle.whole_math.specs.Rounding.{IsFloor, IsCeil}
