@@ -28,8 +28,8 @@ impl Inverse {
     /// About a · 2^shift over the number, if that isn't too large.
     /// Nothing is claimed of the result: it is a guess, which `floor_near` tests at run time.
     pub fn quotient(&self, a: i64, shift: u32) -> i64 {
-        let down = 64u32.saturating_sub(shift).saturating_sub(self.bits);
-        share(a << 1, self.value) >> down.min(63)
+        let down = 64u32.wrapping_sub(shift).wrapping_sub(self.bits);
+        share(a << 1, self.value) >> down % 64
     }
 }
 

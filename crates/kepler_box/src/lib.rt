@@ -18,7 +18,7 @@ ghost use Rattle.kepler_box.specs.Steps.{IsMeanAnomaly, IsAngle, IsEccentricity,
 mod rough;
 
 use iv_core::{Iv, middle_between, signed_upper_half};
-use rough::rough_step;
+use rough::{rough_solution, rough_step};
 use trig_box::{PairBox, PointPair, pair_box};
 
 // After fourteen a further step leads at most 3 units away, wherever the first began.
@@ -136,6 +136,14 @@ fn aimed(m: i64, means: i64, shapes: i64) -> i64
 {
     let near = rough_step(means, shapes, rough_step(means, shapes, m));
     in_reach(m, rough_step(means, shapes, near))
+}
+
+// The same by a shorter search
+fn aimed_once(m: i64, shapes: i64) -> i64
+    requires mean { IsMeanAnomaly m }
+    ensures { IsAngle result }
+{
+    in_reach(m, rough_solution(shapes, m))
 }
 
 // The angle from which a further step leads at most 3 units away. Newton's rule leads near it.
@@ -321,6 +329,24 @@ pub fn anomaly_box(m: &Iv<56>, e: &Iv<60>) -> Anomaly
     let means = m.lo().wrapping_add(m.hi());
     let shapes = e.lo().wrapping_add(e.hi());
     let guess = aimed(middle_between(m.lo(), m.hi()), means, shapes);
+    match found_at(m, e, guess) {
+        Some(found) => found,
+        None => anomaly_by_steps(m, e),
+    }
+}
+
+/// `anomaly_box` by a shorter search, which may lead to an angle a unit or so away: it serves where what is made of the boxes is
+/// widened by far more.
+pub fn quick_anomaly_box(m: &Iv<56>, e: &Iv<60>) -> Anomaly
+    requires mean { IsWithin (12 * 2 ^ 56) m.now }
+    requires mean_narrow { width_of m.now ≤ℤ pos (2 ^ 4) }
+    requires eccentricity_low { pos 0 ≤ℤ e.now.lo }
+    requires eccentricity_high { e.now.hi ≤ℤ pos (2 ^ 55) }
+    requires eccentricity_narrow { width_of e.now ≤ℤ pos 2 }
+    ensures { IsAnomalyBox m.now e.now result }
+{
+    let shapes = e.lo().wrapping_add(e.hi());
+    let guess = aimed_once(middle_between(m.lo(), m.hi()), shapes);
     match found_at(m, e, guess) {
         Some(found) => found,
         None => anomaly_by_steps(m, e),
