@@ -15,7 +15,7 @@ use crate::record::ClockRecord;
 use crate::shape::ECCENTRICITY;
 use gps_time::Tick;
 use iv_core::{Iv, middle_between};
-use kepler_box::anomaly_box;
+use kepler_box::quick_anomaly_box;
 use sized_box::SizedBox;
 
 /// The greatest time since the reference epoch, at 2^-60 of 10^4 s.
@@ -83,7 +83,7 @@ fn sine_near(
     ensures { (m e x c s : Rational) → IsNearBox 56 mean.now.held.lo mean.now.held.hi (two_to_minus 35) m →
         Holds eccentricity.now.held e → SolvesKepler m e x c s → Holds result.held s }
 {
-    let sine = anomaly_box(&mean.held, &eccentricity.held).sin;
+    let sine = quick_anomaly_box(&mean.held, &eccentricity.held).sin;
     SizedBox::new(Iv::from_ends(sine.lo() - PAD, sine.hi() + PAD))
 }
 
