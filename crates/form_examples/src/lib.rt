@@ -29,4 +29,6 @@ mod search_reduced_case;
 #[cfg(test)]
 mod search_session_cases;
 #[cfg(test)]
+mod track_part_tests;
+#[cfg(test)]
 mod track_sum_tests;

@@ -12,7 +12,7 @@ use lower_form::nearest_shift;
 use whole_math::floor_shift;
 
 /// The least e with 2^e at least twice this number.
-pub(crate) fn least_power(count: usize) -> u32
+pub fn least_power(count: usize) -> u32
     requires few { count ≤ MOST_PAIRS }
     ensures enough { 2 * count ≤ 2 ^ result }
     ensures least { (k : ℕ) → 2 * count ≤ 2 ^ k → result ≤ k }
@@ -91,7 +91,7 @@ fn other_part(entry: i64, shift: u32) -> i128
 }
 
 /// What a pair adds to the entry in row r and column c.
-pub(crate) fn part(front: &FrontForm, shift: u32, r: usize, c: usize) -> i128
+pub fn part(front: &FrontForm, shift: u32, r: usize, c: usize) -> i128
     requires few { shift ≤ 90 }
     requires row_in { r < front.now.columns - 3 }
     requires column_in { c < front.now.columns - 3 }
