@@ -200,3 +200,28 @@ spelled_15 l1 l5 is = rw (some_l5 l5 is) refl
 
 pub spelled_125 : (l1 l2 l5 : ℕ) → IsTrue (is_letter L2_LETTERS l2) → IsTrue (is_letter L5_LETTERS l5) → signals_line Two l1 l2 l5 ≡ codes "signals 125" ++ letters_text (l1 ∷ l2 ∷ l5 ∷ [])
 spelled_125 l1 l2 l5 two five = rw (some_l5 l5 five, some_l2 l2 two) refl
+
+-- a word and three numbers that were read one by one
+pub three_put : (word line numbers a b end : List ℕ) (x y z : ℤ) → bytes_eq (take (length word) line) word ≡ true → numbers ≡ drop (length word) line → numbers ≡ 32 ∷ (signed_decimal x ++ a)
+    → a ≡ 32 ∷ (signed_decimal y ++ b) → b ≡ 32 ∷ (signed_decimal z ++ end) → length end ≡ 0 → line ≡ word ++ behind_blanks (x ∷ y ∷ z ∷ [])
+three_put word line numbers a b end x y z test left en ea eb none =
+    behind_word word line test
+    ∙ ap (λ (l : List ℕ). word ++ l)
+    (sym left ∙ en ∙ ap (λ (l : List ℕ). 32 ∷ (signed_decimal x ++ l)) (ea ∙ ap (λ (l : List ℕ). 32 ∷ (signed_decimal y ++ l)) (eb ∙ ap (λ (l : List ℕ). 32 ∷ (signed_decimal z ++ l)) (empty end none))))
+  where
+    empty : (l : List ℕ) → length l ≡ 0 → l ≡ []
+    empty [] e = refl
+    empty (k ∷ l) e = absurd (omega (arith, e))
+
+-- a word and four numbers that were read one by one
+pub four_put : (word line numbers a b d end : List ℕ) (x y z w : ℤ) → bytes_eq (take (length word) line) word ≡ true → numbers ≡ drop (length word) line → numbers ≡ 32 ∷ (signed_decimal x ++ a)
+    → a ≡ 32 ∷ (signed_decimal y ++ b) → b ≡ 32 ∷ (signed_decimal z ++ d) → d ≡ 32 ∷ (signed_decimal w ++ end) → length end ≡ 0 → line ≡ word ++ behind_blanks (x ∷ y ∷ z ∷ w ∷ [])
+four_put word line numbers a b d end x y z w test left en ea eb ed none =
+    behind_word word line test
+    ∙ ap (λ (l : List ℕ). word ++ l)
+    (sym left ∙ en ∙ ap (λ (l : List ℕ). 32 ∷ (signed_decimal x ++ l)) (ea ∙ ap (λ (l : List ℕ). 32 ∷ (signed_decimal y ++ l)) (eb ∙ ap (λ (l : List ℕ). 32 ∷ (signed_decimal z ++ l))
+    (ed ∙ ap (λ (l : List ℕ). 32 ∷ (signed_decimal w ++ l)) (nothing end none)))))
+  where
+    nothing : (l : List ℕ) → length l ≡ 0 → l ≡ []
+    nothing [] e = refl
+    nothing (k ∷ l) e = absurd (omega (arith, e))

@@ -19,6 +19,13 @@ pub guessed_nearest : (n a q t : ℤ) → pos 0 <ℤ a → t ≡ pos 2 *ℤ (n -
 guessed_nearest n a q t p h l u = nearest_unique n q (unsigned_abs a) (abs_pos a p) (subst (λ (m : ℤ). ((pos 2 *ℤ (q *ℤ m)) ≤ℤ ((pos 2 *ℤ n) +ℤ m)) ×
     (((pos 2 *ℤ n) +ℤ m) <ℤ ((pos 2 *ℤ (q *ℤ m)) +ℤ (pos 2 *ℤ m)))) (positive_is a p) (half_left n (q *ℤ a) a t h l u))
 
+-- the same by what is left and half of a, which is at least 0 and below a
+twice_left : (r h a : ℤ) → (pos 2 *ℤ h) ≤ℤ a → a ≤ℤ ((pos 2 *ℤ h) +ℤ pos 1) → pos 0 ≤ℤ (r +ℤ h) → (r +ℤ h) <ℤ a → (neg_ℤ a ≤ℤ (pos 2 *ℤ r)) × ((pos 2 *ℤ r) <ℤ a)
+twice_left r h a to from l u = (omega (arith, polys), omega (arith, polys))
+
+pub guessed_by_half : (n a q r h : ℤ) → pos 0 <ℤ a → (pos 2 *ℤ h) ≤ℤ a → a ≤ℤ ((pos 2 *ℤ h) +ℤ pos 1) → r ≡ n -ℤ (q *ℤ a) → pos 0 ≤ℤ (r +ℤ h) → (r +ℤ h) <ℤ a → q ≡ nearest_div n (unsigned_abs a)
+guessed_by_half n a q r h p to from e l u = let within = twice_left r h a to from l u in guessed_nearest n a q (pos 2 *ℤ r) p (ap (λ z. pos 2 *ℤ z) e) within.0 within.1
+
 -- ---- the quotient upward
 -- x / a is the quotient upward where what is left is above -a and at most 0
 left_below : (n x a t : ℤ) → t ≡ pos 2 *ℤ (n -ℤ x) → (pos 2 *ℤ neg_ℤ a) <ℤ t → t ≤ℤ pos 0 → (n ≤ℤ x) × (x <ℤ (n +ℤ a))
@@ -72,6 +79,9 @@ unit_near x g e =
 
 pub unit_size : (x g : ℤ) → unsigned_abs x ≤ 2 ^ 114 → unsigned_abs (x -ℤ (pos (2 ^ 52) *ℤ g)) ≤ 2 ^ 52 → unsigned_abs g ≤ 2 ^ 62 + 1
 unit_size x g h e = omega (arith, polys)
+
+pub short_size : (x g : ℤ) → unsigned_abs x ≤ 2 ^ 112 → unsigned_abs (x -ℤ (pos (2 ^ 52) *ℤ g)) ≤ 2 ^ 52 → unsigned_abs g ≤ 2 ^ 60 + 1
+short_size x g h e = omega (arith, polys)
 
 -- 2^52 times what a guess g of p q / a leaves, by what the ratio and the guess miss
 left_over : (p q a s g : ℤ) → pos (2 ^ 52) *ℤ ((p *ℤ q) -ℤ (g *ℤ a)) ≡ (a *ℤ ((s *ℤ q) -ℤ (pos (2 ^ 52) *ℤ g))) -ℤ (q *ℤ ((s *ℤ a) -ℤ (pos (2 ^ 52) *ℤ p)))

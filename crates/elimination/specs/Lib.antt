@@ -4,3 +4,4 @@ pub mod Taken
 pub mod Finish
 pub mod Shares
 pub mod RowSteps
+pub mod NearShares

@@ -86,7 +86,7 @@ pub(crate) fn pivot_share(a: i128) -> PivotShare
 }
 
 /// p · q
-fn long_product(p: i64, q: i64) -> i128
+pub(crate) fn long_product(p: i64, q: i64) -> i128
     requires p_size { unsigned_abs p ≤ 2 ^ 62 }
     requires q_size { unsigned_abs q ≤ 2 ^ 52 }
     ensures value { result ≡ p *ℤ q }
@@ -110,7 +110,7 @@ fn missed(ratio: i64, p: i64, a: i64) -> i128
 }
 
 /// Whether the ratio is near p / a.
-fn is_near_share(ratio: i64, p: i64, a: i64) -> bool
+pub(crate) fn is_near_share(ratio: i64, p: i64, a: i64) -> bool
     requires ratio_size { unsigned_abs ratio ≤ 2 ^ 62 }
     requires p_size { unsigned_abs p ≤ 2 ^ 52 }
     requires a_size { unsigned_abs a ≤ 2 ^ 52 }
@@ -137,7 +137,7 @@ pub(crate) fn share_by(p: i128, a: i128, pivot: &PivotShare) -> Share
 }
 
 /// product / 2^52 to the nearest
-fn nearest_unit(product: i128) -> i64
+pub(crate) fn nearest_unit(product: i128) -> i64
     requires { unsigned_abs product ≤ 2 ^ 114 }
     ensures size { unsigned_abs result ≤ 2 ^ 62 + 1 }
     ensures near { unsigned_abs (product -ℤ (pos (2 ^ 52) *ℤ result)) ≤ 2 ^ 52 }

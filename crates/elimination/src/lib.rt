@@ -14,6 +14,8 @@
 
 mod entries;
 mod finished;
+mod near_entries;
+mod near_rows;
 mod row_entries;
 mod row_steps;
 mod shares;
@@ -24,8 +26,8 @@ mod three_steps;
 
 pub use entries::is_small;
 pub use finished::finish;
+pub use near_rows::step_through;
 pub use row_steps::{PivotRows, PivotTable};
 pub use step::StepFault;
 pub use steps::{Stopped, take_steps};
 pub use tables::{fill_form_table, first_kept, form_table, front_factors, put_row};
-pub use three_steps::step_through;

@@ -23,7 +23,7 @@ pub type PivotTable = Table<BASELINE_COLUMNS, MOST_COLUMNS>;
 #[derive(Clone, Copy)]
 pub struct PivotRows {
     pub rows: PivotTable,
-    shares: [PivotShare; BASELINE_COLUMNS],
+    pub(crate) shares: [PivotShare; BASELINE_COLUMNS],
 }
 
 /// A pivot is at least this.
@@ -65,7 +65,7 @@ fn step_others(
 
 /// Writes the factor of column j in row r, where p and a stand in the column and on the diagonal of the row of j; false where it
 /// is too large.
-fn write_factor(
+pub(crate) fn write_factor(
     factors: &mut FrontTable,
     j: usize,
     r: usize,
@@ -100,7 +100,7 @@ fn write_factor(
 }
 
 /// Takes the own entry of row r through a step with the pivot a, in whose row p stands; false where it is too large.
-fn step_own(
+pub(crate) fn step_own(
     row: &mut [i64; MOST_COLUMNS],
     r: usize,
     p: i64,

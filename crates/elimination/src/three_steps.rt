@@ -9,7 +9,7 @@ ghost use Rattle.elimination.specs.StepEntries.{is_small};
 ghost use Rattle.elimination.specs.RowSteps.{left_after, HasFactors};
 
 use crate::row_entries::other_left;
-use crate::row_steps::{PivotRows, PivotTable, step_by_step, step_start};
+use crate::row_steps::{PivotRows, PivotTable, step_start};
 use crate::shares::{RowShares, Share};
 use form_tables::{BASELINE_COLUMNS, FrontTable, MOST_COLUMNS};
 
@@ -59,7 +59,13 @@ fn two_left(number: i64, rows: &PivotTable, r: usize, c: usize, shares: &RowShar
 
 /// What the three steps leave of a number in row r and column c, off the diagonal.
 #[inline(always)]
-fn three_left(number: i64, rows: &PivotTable, r: usize, c: usize, shares: &RowShares) -> Option<i64>
+pub(crate) fn three_left(
+    number: i64,
+    rows: &PivotTable,
+    r: usize,
+    c: usize,
+    shares: &RowShares,
+) -> Option<i64>
     requires row { BASELINE_COLUMNS ≤ r }
     requires after { r < c }
     requires column_in { c < MOST_COLUMNS }
@@ -143,8 +149,11 @@ fn three_shares(
     })
 }
 
-/// Takes row r through the three steps, and writes its factors; false where an entry or a factor is too large.
-fn step_through_all(
+/// Takes row r through the three steps, and writes its factors; false where an entry or a factor is too large. The shares of its
+/// entries may be of any size.
+#[cold]
+#[inline(never)]
+pub(crate) fn far_through(
     row: &mut [i64; MOST_COLUMNS],
     pivots: &PivotRows,
     factors: &mut FrontTable,
@@ -169,37 +178,5 @@ fn step_through_all(
     match three_shares(row, pivots, factors, r, columns) {
         Some(shares) => three_others(row, &pivots.rows, r, columns, &shares),
         None => false,
-    }
-}
-
-/// Takes row r through the steps of the first columns, and writes its factors; false where an entry or a factor is too large.
-pub fn step_through(
-    row: &mut [i64; MOST_COLUMNS],
-    pivots: &PivotRows,
-    factors: &mut FrontTable,
-    count: usize,
-    r: usize,
-    columns: usize,
-) -> bool
-    requires count { count ≤ BASELINE_COLUMNS }
-    requires row { count ≤ r }
-    requires row_in { r < columns }
-    requires columns_in { columns ≤ MOST_COLUMNS }
-    requires positive { (j : ℕ) → j < count → pos 0 <ℤ entry pivots.now.rows j j }
-    requires pivots { (j c : ℕ) → j < count → j ≤ c → c < columns → unsigned_abs (entry pivots.now.rows j c) ≤ 2 ^ 52 }
-    requires entries { (c : ℕ) → r ≤ c → c < columns → unsigned_abs (item row.old c) ≤ 2 ^ 52 }
-    requires below { EntriesBelow (2 ^ 52) factors.old }
-    requires outside { IsBelowDiagonal columns factors.old }
-    ensures value { result ≡ true → (c : ℕ) → r ≤ c → c < columns → item row.new c ≡ left_after pivots.now.rows columns r c count (item row.old c) }
-    ensures small { result ≡ true → (k c : ℕ) → suc k ≤ count → r ≤ c → c < columns → is_small (left_after pivots.now.rows columns r c (suc k) (item row.old c)) ≡ true }
-    ensures factors { result ≡ true → (j : ℕ) → j < count → HasFactors pivots.now.rows factors.new j r }
-    ensures others { (i m : ℕ) → i ≢ r → entry factors.new i m ≡ entry factors.old i m }
-    ensures below { EntriesBelow (2 ^ 52) factors.new }
-    ensures outside { IsBelowDiagonal columns factors.new }
-{
-    if count == BASELINE_COLUMNS {
-        step_through_all(row, pivots, factors, r, columns)
-    } else {
-        step_by_step(row, pivots, factors, count, r, columns)
     }
 }

@@ -1,8 +1,8 @@
 //! The eccentric anomaly: boxes of all solutions of Kepler's equation M = E − e·sin E (IS-GPS-200, table 20-IV).
 //!
 //! `anomaly_box` holds every solution of Kepler's equation for every mean anomaly and eccentricity of its boxes
-//! (`holds`), and says how near its boxes the solutions are whose mean anomaly lies outside (`near`). It takes no
-//! memory and is never refused.
+//! (`holds`), and says how near its boxes the solutions are whose mean anomaly lies outside (`near`). `quick_anomaly_box` says the
+//! same of a box that it finds by a shorter search. They take no memory and are never refused.
 #![tactic(auto)]
 
 ghost use Rattle.std.specs.Prelude.{◌≡◌, ◌+◌, ◌-◌, ◌*◌, ◌^◌, ◌<◌, ◌≤◌, pos, ◌+ℤ◌, ◌-ℤ◌, ◌*ℤ◌, ℤ, ◌≤ℤ◌, unsigned_abs, IfSome};

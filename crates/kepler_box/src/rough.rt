@@ -4,7 +4,7 @@ use trig_box::rough_pair;
 
 /// The next angle by Newton's rule, from a rough pair. `means` and `shapes` are the sums of the ends of the mean anomaly's box
 /// and of the eccentricity's, so that the right side's middle is meant. The change is in units of 2^-60, so that only the last sum
-/// is rounded.
+/// is rounded. It ensures nothing, since its sums may wrap: what an angle leads to is tested.
 pub fn rough_step(means: i64, shapes: i64, angle: i64) -> i64 {
     let (cos, sin) = rough_pair(angle);
     let apart = means.wrapping_sub(angle.wrapping_mul(2));
@@ -69,7 +69,7 @@ fn last_offset(pulls: &Pulls, x: i64) -> i64 {
 }
 
 /// About the solution by one rough pair, that of the mean anomaly: a third of the work of three steps, which end at the same angle or
-/// the next. `shapes` is the sum of the ends of the eccentricity's box.
+/// the next. `shapes` is the sum of the ends of the eccentricity's box. It ensures nothing either.
 pub fn rough_solution(shapes: i64, mean: i64) -> i64 {
     let (cos, sin) = rough_pair(mean);
     let pulls = Pulls {

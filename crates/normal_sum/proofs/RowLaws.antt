@@ -1,5 +1,5 @@
 -- What is added in the columns of one row of a table, whatever the width of the factor.
-use Rattle.std.proofs.Common.{◌≡◌, ◌≢◌, ◌⊎◌, inl, inr, ℕ, ◌+◌, ◌^◌, ◌<◌, ◌≤◌, List, length, ℤ, pos, ◌+ℤ◌, ◌*ℤ◌, unsigned_abs, slice_index_or, arith, sym, ◌∙◌, subst, refl}
+use Rattle.std.proofs.Common.{◌≡◌, ◌≢◌, ◌⊎◌, inl, inr, ⊎_elim, ℕ, ◌+◌, ◌^◌, ◌<◌, ◌≤◌, List, length, ℤ, pos, ◌+ℤ◌, ◌*ℤ◌, unsigned_abs, slice_index_or, arith, sym, ◌∙◌, subst, refl}
 use Rattle.std.specs.Prelude.{slice_index}
 use Rattle.form_tables.specs.declared.sizes.TheConstants.{BASELINE_COLUMNS, MOST_COLUMNS}
 use Rattle.form_tables.specs.Tables.{entry}
@@ -10,12 +10,12 @@ use Rattle.normal_sum.proofs.ColumnLaws.{AddedIn, none_added, one_more, untouche
 -- in the first n columns of a list, from the diagonal on and after those of the baseline; the rest of the table as it was
 pub record RowAdded (row : ℕ) (columns : List ℕ) (n : ℕ) (old new : List (List ℤ)) (add : ℕ → ℤ) : Type 0 where
   pub added : AddedIn (λ j. (row ≤ j) × (BASELINE_COLUMNS ≤ j)) columns n (entry old row) (entry new row) add
-  pub baseline : (j : ℕ) → j < BASELINE_COLUMNS → entry new row j ≡ entry old row j
+  pub before : (j : ℕ) → (j < row) ⊎ (j < BASELINE_COLUMNS) → entry new row j ≡ entry old row j
   pub others : (i j : ℕ) → i ≢ row → entry new i j ≡ entry old i j
 
 pub row_start : (row : ℕ) (columns : List ℕ) (old : List (List ℤ)) (add : ℕ → ℤ) → RowAdded row columns 0 old old add
 row_start row columns old add =
-    record { added = none_added (λ j. (row ≤ j) × (BASELINE_COLUMNS ≤ j)) columns (entry old row) add; baseline = λ j h. refl; others = λ i j d. refl }
+    record { added = none_added (λ j. (row ≤ j) × (BASELINE_COLUMNS ≤ j)) columns (entry old row) add; before = λ j h. refl; others = λ i j d. refl }
 
 -- the next entry is as it was
 pub next_fits : (row : ℕ) (values : List ℤ) (columns : List ℕ) (k : ℕ) (old now : List (List ℤ)) (add : ℕ → ℤ) → AreColumnsFrom row values columns → k < length columns → RowAdded row columns k old now add →
@@ -31,10 +31,11 @@ pub row_next : (row : ℕ) (values : List ℤ) (columns : List ℕ) (k : ℕ) (o
     entry new row (slice_index columns k) ≡ entry now row (slice_index columns k) +ℤ add (slice_index columns k) →
     ((i j : ℕ) → (i ≢ row) ⊎ (j ≢ slice_index columns k) → entry new i j ≡ entry now i j) → RowAdded row columns (k + 1) old new add
 row_next row values columns k old now new add are h so_far there others =
+    let from : row ≤ slice_index columns k = are.from k 0 h in
     let behind : BASELINE_COLUMNS ≤ slice_index columns k = are.behind k 0 h in
     record {
       added = one_more (λ j. (row ≤ j) × (BASELINE_COLUMNS ≤ j)) columns k (entry old row) (entry now row) (entry new row) add are.rising h so_far.added (λ j p d. others row j (inr d)) (λ p. there);
-      baseline = λ j l. others row j (inr (λ e. omega (arith, e, l, behind))) ∙ so_far.baseline j l;
+      before = λ j w. others row j (inr (⊎_elim (λ (l : j < row). λ e. omega (arith, e, l, from)) (λ (l : j < BASELINE_COLUMNS). λ e. omega (arith, e, l, behind)) w)) ∙ so_far.before j w;
       others = λ i j d. others i j (inl d) ∙ so_far.others i j d;
     }
 

@@ -99,6 +99,7 @@ fn add_axis(
     ensures added { (j : ℕ) → axis ≤ j → j < BASELINE_COLUMNS → entry table.new axis j ≡ entry table.old axis j +ℤ (direction_spread rows.now axis j *ℤ share) }
     ensures size { (j : ℕ) → axis ≤ j → j < BASELINE_COLUMNS → unsigned_abs (entry table.new axis j) ≤ unsigned_abs (entry table.old axis j) + 2 ^ 95 }
     ensures behind { (i j : ℕ) → BASELINE_COLUMNS ≤ j → entry table.new i j ≡ entry table.old i j }
+    ensures below { (i j : ℕ) → j < i → entry table.new i j ≡ entry table.old i j }
     ensures others { (i j : ℕ) → i ≢ axis → entry table.new i j ≡ entry table.old i j }
 {
     for other in axis..BASELINE_COLUMNS {
@@ -115,6 +116,7 @@ pub(crate) fn add_directions(table: &mut NormalTable, rows: &[Row], share: i64)
     ensures added { (i j : ℕ) → i ≤ j → j < BASELINE_COLUMNS → entry table.new i j ≡ entry table.old i j +ℤ (direction_spread rows.now i j *ℤ share) }
     ensures size { (i j : ℕ) → i ≤ j → j < BASELINE_COLUMNS → unsigned_abs (entry table.new i j) ≤ unsigned_abs (entry table.old i j) + 2 ^ 95 }
     ensures behind { (i j : ℕ) → BASELINE_COLUMNS ≤ j → entry table.new i j ≡ entry table.old i j }
+    ensures below { (i j : ℕ) → j < i → entry table.new i j ≡ entry table.old i j }
 {
     let sums = [
         direction_sum(rows, 0),

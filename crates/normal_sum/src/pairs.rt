@@ -35,6 +35,7 @@ pub(crate) fn add_pair(
     requires entry_size { (i j : ℕ) → i ≤ j → j < MOST_COLUMNS → unsigned_abs (entry table.old i j) ≤ LAST_PAIR * 2 ^ 108 }
     ensures added { (i j : ℕ) → i ≤ j → j < MOST_COLUMNS → entry table.new i j ≡ entry table.old i j +ℤ matrix_entry (pair_groups arcs.now signals.now pair.now) i j }
     ensures size { (i j : ℕ) → i ≤ j → j < MOST_COLUMNS → unsigned_abs (entry table.new i j) ≤ unsigned_abs (entry table.old i j) + 2 ^ 108 }
+    ensures below { (i j : ℕ) → j < i → entry table.new i j ≡ entry table.old i j }
 {
     let firsts = first_places(arcs, signals, pair.rows.as_slice());
     for signal in signals {

@@ -93,7 +93,7 @@ fn add_to_row(
     requires value_size { (j : ℕ) → j < MOST_COLUMNS → unsigned_abs (slice_index_or values.now j (pos 0)) ≤ 2 ^ 38 }
     requires entry_size { (j : ℕ) → row ≤ j → BASELINE_COLUMNS ≤ j → j < MOST_COLUMNS → unsigned_abs (entry table.old row j) ≤ 2 ^ 120 }
     ensures added { (j : ℕ) → row ≤ j → BASELINE_COLUMNS ≤ j → j < MOST_COLUMNS → entry table.new row j ≡ entry table.old row j +ℤ (factor *ℤ slice_index_or values.now j (pos 0)) }
-    ensures baseline { (j : ℕ) → j < BASELINE_COLUMNS → entry table.new row j ≡ entry table.old row j }
+    ensures before { (j : ℕ) → (j < row) ⊎ (j < BASELINE_COLUMNS) → entry table.new row j ≡ entry table.old row j }
     ensures others { (i j : ℕ) → i ≢ row → entry table.new i j ≡ entry table.old i j }
 {
     for column in columns {
@@ -137,7 +137,7 @@ fn add_short_to_row(
     requires value_size { (j : ℕ) → j < MOST_COLUMNS → unsigned_abs (slice_index_or values.now j (pos 0)) ≤ 2 ^ 38 }
     requires entry_size { (j : ℕ) → row ≤ j → BASELINE_COLUMNS ≤ j → j < MOST_COLUMNS → unsigned_abs (entry table.old row j) ≤ 2 ^ 120 }
     ensures added { (j : ℕ) → row ≤ j → BASELINE_COLUMNS ≤ j → j < MOST_COLUMNS → entry table.new row j ≡ entry table.old row j +ℤ (factor *ℤ slice_index_or values.now j (pos 0)) }
-    ensures baseline { (j : ℕ) → j < BASELINE_COLUMNS → entry table.new row j ≡ entry table.old row j }
+    ensures before { (j : ℕ) → (j < row) ⊎ (j < BASELINE_COLUMNS) → entry table.new row j ≡ entry table.old row j }
     ensures others { (i j : ℕ) → i ≢ row → entry table.new i j ≡ entry table.old i j }
 {
     for column in columns {
@@ -160,7 +160,7 @@ fn add_product_row(
     requires value_size { (j : ℕ) → j < MOST_COLUMNS → unsigned_abs (slice_index_or values.now j (pos 0)) ≤ 2 ^ 38 }
     requires entry_size { (j : ℕ) → row ≤ j → BASELINE_COLUMNS ≤ j → j < MOST_COLUMNS → unsigned_abs (entry table.old row j) ≤ 2 ^ 120 }
     ensures added { (j : ℕ) → row ≤ j → BASELINE_COLUMNS ≤ j → j < MOST_COLUMNS → entry table.new row j ≡ entry table.old row j +ℤ ((weight *ℤ slice_index_or values.now row (pos 0)) *ℤ slice_index_or values.now j (pos 0)) }
-    ensures baseline { (j : ℕ) → j < BASELINE_COLUMNS → entry table.new row j ≡ entry table.old row j }
+    ensures before { (j : ℕ) → (j < row) ⊎ (j < BASELINE_COLUMNS) → entry table.new row j ≡ entry table.old row j }
     ensures others { (i j : ℕ) → i ≢ row → entry table.new i j ≡ entry table.old i j }
 {
     let value = values[row];
@@ -186,7 +186,7 @@ pub(crate) fn add_product(
     requires value_size { (j : ℕ) → j < MOST_COLUMNS → unsigned_abs (slice_index_or values.now j (pos 0)) ≤ 2 ^ 38 }
     requires entry_size { (i j : ℕ) → i ≤ j → BASELINE_COLUMNS ≤ j → j < MOST_COLUMNS → unsigned_abs (entry table.old i j) ≤ 2 ^ 120 }
     ensures added { (i j : ℕ) → i ≤ j → BASELINE_COLUMNS ≤ j → j < MOST_COLUMNS → entry table.new i j ≡ entry table.old i j +ℤ ((weight *ℤ slice_index_or values.now i (pos 0)) *ℤ slice_index_or values.now j (pos 0)) }
-    ensures baseline { (i j : ℕ) → j < BASELINE_COLUMNS → entry table.new i j ≡ entry table.old i j }
+    ensures before { (i j : ℕ) → (j < i) ⊎ (j < BASELINE_COLUMNS) → entry table.new i j ≡ entry table.old i j }
 {
     for k in 0..columns.len() {
         let later = k.max(BASELINE_COLUMNS);

@@ -1,5 +1,5 @@
 //! What the rows of a pair add to the normal matrix after the columns of the baseline, as one signal sees them.
-ghost use Rattle.std.specs.Prelude.{◌≡◌, ◌≢◌, ℕ, ◌+◌, ◌*◌, ◌/◌, ◌^◌, ◌<◌, ◌≤◌, ◌+ℤ◌, ◌*ℤ◌, ◌≤ℤ◌, List, pos, length, map, replicate, unsigned_abs, slice_index_or, IfSome, None};
+ghost use Rattle.std.specs.Prelude.{◌≡◌, ◌≢◌, ◌⊎◌, ℕ, ◌+◌, ◌*◌, ◌/◌, ◌^◌, ◌<◌, ◌≤◌, ◌+ℤ◌, ◌*ℤ◌, ◌≤ℤ◌, List, pos, length, map, replicate, unsigned_abs, slice_index_or, IfSome, None};
 ghost use Rattle.quadratic_form.specs.MatrixEntries.{coefficient, coefficient_sum, product_sum, group_entry};
 ghost use Rattle.obs_rows.specs.declared.arcs.Arc.{Arc};
 ghost use Rattle.form_tables.specs.declared.sizes.TheConstants.{BASELINE_COLUMNS, MOST_COLUMNS, MOST_INTEGERS};
@@ -64,7 +64,7 @@ fn add_in(
         entry table.new i j ≡ entry table.old i j +ℤ ((weight *ℤ slice_index_or values.now i (pos 0)) *ℤ slice_index_or values.now j (pos 0)) }
     ensures sums { (j : ℕ) → j < MOST_COLUMNS → slice_index_or total.new j (pos 0) ≡ slice_index_or total.old j (pos 0) +ℤ slice_index_or values.now j (pos 0) }
     ensures table_size { (i j : ℕ) → i ≤ j → BASELINE_COLUMNS ≤ j → j < MOST_COLUMNS → unsigned_abs (entry table.new i j) ≤ unsigned_abs (entry table.old i j) + 2 ^ 100 }
-    ensures baseline { (i j : ℕ) → j < BASELINE_COLUMNS → entry table.new i j ≡ entry table.old i j }
+    ensures before { (i j : ℕ) → (j < i) ⊎ (j < BASELINE_COLUMNS) → entry table.new i j ≡ entry table.old i j }
     ensures sum_size { (j : ℕ) → j < MOST_COLUMNS → unsigned_abs (slice_index_or total.new j (pos 0)) ≤ unsigned_abs (slice_index_or total.old j (pos 0)) + 2 ^ 34 }
 {
     add_product(table, values, columns, weight);
@@ -93,7 +93,7 @@ fn add_used(
         entry table.new i j ≡ entry table.old i j +ℤ ((weight *ℤ slice_index_or values.now i (pos 0)) *ℤ slice_index_or values.now j (pos 0)) }
     ensures sums { (j : ℕ) → j < MOST_COLUMNS → slice_index_or total.new j (pos 0) ≡ slice_index_or total.old j (pos 0) +ℤ slice_index_or values.now j (pos 0) }
     ensures table_size { (i j : ℕ) → i ≤ j → BASELINE_COLUMNS ≤ j → j < MOST_COLUMNS → unsigned_abs (entry table.new i j) ≤ unsigned_abs (entry table.old i j) + 2 ^ 100 }
-    ensures baseline { (i j : ℕ) → j < BASELINE_COLUMNS → entry table.new i j ≡ entry table.old i j }
+    ensures before { (i j : ℕ) → (j < i) ⊎ (j < BASELINE_COLUMNS) → entry table.new i j ≡ entry table.old i j }
     ensures sum_size { (j : ℕ) → j < MOST_COLUMNS → unsigned_abs (slice_index_or total.new j (pos 0)) ≤ unsigned_abs (slice_index_or total.old j (pos 0)) + 2 ^ 34 }
 {
     let last = BASELINE_COLUMNS + integers;
@@ -132,7 +132,7 @@ fn add_row(
     ensures sums { (arcs : List Arc) (ss : List ℕ) → place ≡ integer_place arcs ss row.now.arc signal → integers ≡ integer_count arcs ss →
         (j : ℕ) → j < MOST_COLUMNS → slice_index_or total.new j (pos 0) ≡ slice_index_or total.old j (pos 0) +ℤ coefficient (signal_row arcs ss signal row.now) j }
     ensures table_size { (i j : ℕ) → i ≤ j → BASELINE_COLUMNS ≤ j → j < MOST_COLUMNS → unsigned_abs (entry table.new i j) ≤ unsigned_abs (entry table.old i j) + 2 ^ 100 }
-    ensures baseline { (i j : ℕ) → j < BASELINE_COLUMNS → entry table.new i j ≡ entry table.old i j }
+    ensures before { (i j : ℕ) → (j < i) ⊎ (j < BASELINE_COLUMNS) → entry table.new i j ≡ entry table.old i j }
     ensures sum_size { (j : ℕ) → j < MOST_COLUMNS → unsigned_abs (slice_index_or total.new j (pos 0)) ≤ unsigned_abs (slice_index_or total.old j (pos 0)) + 2 ^ 34 }
     ensures beyond { (j : ℕ) → BASELINE_COLUMNS + integers < j → j < MOST_COLUMNS → slice_index_or total.new j (pos 0) ≡ slice_index_or total.old j (pos 0) }
     ensures zeros { values.new ≡ replicate MOST_COLUMNS (pos 0) }
@@ -160,7 +160,7 @@ fn add_rows(
     ensures sums { (arcs : List Arc) (ss : List ℕ) → ArePlaces arcs ss signal rows.now places.now → integers ≡ integer_count arcs ss →
         (j : ℕ) → j < MOST_COLUMNS → slice_index_or result j (pos 0) ≡ coefficient_sum (map (signal_row arcs ss signal) rows.now) j }
     ensures table_size { (i j : ℕ) → i ≤ j → BASELINE_COLUMNS ≤ j → j < MOST_COLUMNS → unsigned_abs (entry table.new i j) ≤ unsigned_abs (entry table.old i j) + (length rows.now * 2 ^ 100) }
-    ensures baseline { (i j : ℕ) → j < BASELINE_COLUMNS → entry table.new i j ≡ entry table.old i j }
+    ensures before { (i j : ℕ) → (j < i) ⊎ (j < BASELINE_COLUMNS) → entry table.new i j ≡ entry table.old i j }
     ensures sum_size { (j : ℕ) → j < MOST_COLUMNS → unsigned_abs (slice_index_or result j (pos 0)) ≤ length rows.now * 2 ^ 34 }
     ensures beyond { (j : ℕ) → BASELINE_COLUMNS + integers < j → j < MOST_COLUMNS → slice_index_or result j (pos 0) ≡ pos 0 }
 {
@@ -195,7 +195,7 @@ fn add_phase(
     ensures added { (arcs : List Arc) (ss : List ℕ) → ArePlaces arcs ss signal pair.now.rows places.now → integers ≡ integer_count arcs ss →
         (i j : ℕ) → i ≤ j → BASELINE_COLUMNS ≤ j → j < MOST_COLUMNS → entry table.new i j ≡ entry table.old i j +ℤ group_entry (signal_group arcs ss pair.now signal) i j }
     ensures size { (i j : ℕ) → i ≤ j → BASELINE_COLUMNS ≤ j → j < MOST_COLUMNS → unsigned_abs (entry table.new i j) ≤ unsigned_abs (entry table.old i j) + 2 ^ 105 }
-    ensures baseline { (i j : ℕ) → j < BASELINE_COLUMNS → entry table.new i j ≡ entry table.old i j }
+    ensures before { (i j : ℕ) → (j < i) ⊎ (j < BASELINE_COLUMNS) → entry table.new i j ≡ entry table.old i j }
 {
     let rows = pair.rows.as_slice();
     let total = add_rows(table, rows, signal, places, integers);
@@ -212,7 +212,7 @@ fn add_code(table: &mut NormalTable, pair: &PairRows, signal: usize, integers: u
     ensures added { (arcs : List Arc) (ss : List ℕ) → SeesNone arcs ss signal pair.now.rows → integers ≡ integer_count arcs ss →
         (i j : ℕ) → i ≤ j → BASELINE_COLUMNS ≤ j → j < MOST_COLUMNS → entry table.new i j ≡ entry table.old i j +ℤ group_entry (signal_group arcs ss pair.now signal) i j }
     ensures size { (i j : ℕ) → i ≤ j → BASELINE_COLUMNS ≤ j → j < MOST_COLUMNS → unsigned_abs (entry table.new i j) ≤ unsigned_abs (entry table.old i j) + 2 ^ 105 }
-    ensures baseline { (i j : ℕ) → j < BASELINE_COLUMNS → entry table.new i j ≡ entry table.old i j }
+    ensures before { (i j : ℕ) → (j < i) ⊎ (j < BASELINE_COLUMNS) → entry table.new i j ≡ entry table.old i j }
 {
     add_observations(table, pair.rows.as_slice(), signal, integers);
 }
@@ -236,7 +236,7 @@ pub(crate) fn add_signal(
     ensures added { (arcs : List Arc) (ss : List ℕ) → ArePlacesFrom arcs ss signal pair.now.rows firsts.now phase → integers ≡ integer_count arcs ss →
         (i j : ℕ) → i ≤ j → BASELINE_COLUMNS ≤ j → j < MOST_COLUMNS → entry table.new i j ≡ entry table.old i j +ℤ group_entry (signal_group arcs ss pair.now signal) i j }
     ensures size { (i j : ℕ) → i ≤ j → BASELINE_COLUMNS ≤ j → j < MOST_COLUMNS → unsigned_abs (entry table.new i j) ≤ unsigned_abs (entry table.old i j) + 2 ^ 105 }
-    ensures baseline { (i j : ℕ) → j < BASELINE_COLUMNS → entry table.new i j ≡ entry table.old i j }
+    ensures before { (i j : ℕ) → (j < i) ⊎ (j < BASELINE_COLUMNS) → entry table.new i j ≡ entry table.old i j }
 {
     match phase {
         None => add_code(table, pair, signal, integers),

@@ -1,5 +1,5 @@
 //! The normal matrix of one pair's rows and of a session.
-ghost use Rattle.std.specs.Prelude.{◌≡◌, ◌≢◌, ◌∷◌, [], ℕ, ◌^◌, ◌<◌, ◌≤◌, pos, length, All};
+ghost use Rattle.std.specs.Prelude.{◌≡◌, ◌≢◌, ◌⊎◌, ◌+◌, ◌∷◌, [], ℕ, ◌^◌, ◌<◌, ◌≤◌, pos, length, All};
 ghost use Rattle.quadratic_form.specs.Rows.{radii};
 ghost use Rattle.quadratic_form.specs.MatrixEntries.{matrix_entry};
 ghost use Rattle.form_tables.specs.Tables.{entry, IsZeroOutside};
@@ -22,7 +22,8 @@ use form_tables::{BASELINE_COLUMNS, MOST_COLUMNS, NormalTable};
 use obs_rows::{Arc, MOST_FREE_ARCS, PairRows, Session, Signals, counted_signals, integer_count};
 use std::slice;
 
-/// Writes the sums over all these pairs into a table of zeros, and gives those of the squares of their radii.
+/// Writes the sums over all these pairs into a table, and gives those of the squares of their radii. The table is zeros but
+/// for places before the diagonal of the first rows, which are written over by the mirror images of the sums.
 fn fill_table(
     table: &mut NormalTable,
     arcs: &[Arc],
@@ -35,7 +36,7 @@ fn fill_table(
     requires free { free_count arcs.now ≤ MOST_FREE_ARCS }
     requires few { length pairs.now ≤ MOST_PAIRS }
     requires integers { integers ≡ integer_count arcs.now signals.now }
-    requires zeros { (i j : ℕ) → entry table.old i j ≡ pos 0 }
+    requires zeros { (i j : ℕ) → (i ≤ j) ⊎ (BASELINE_COLUMNS + integers + 1 ≤ i) → entry table.old i j ≡ pos 0 }
     ensures entries { (i j : ℕ) → entry table.new i j ≡ matrix_entry (signal_groups arcs.now signals.now pairs.now) i j }
     ensures entries_in { EntriesBelow (2 ^ 120) table.new }
     ensures radii { result ≡ radius_list (radii (signal_groups arcs.now signals.now pairs.now)) }
@@ -75,14 +76,22 @@ fn sum_pairs(arcs: &[Arc], signals: &[usize], pairs: &[PairRows]) -> Normal
     }
 }
 
-/// Makes a table of zeros of one that is 0 outside these columns: to clear them costs less than to clear it whole.
-fn clear(table: &mut NormalTable, columns: usize)
+/// The first column to clear of a row: the diagonal's, where mirror images are to be written before it.
+fn first_to_clear(row: usize, mirrored: usize) -> usize
+    ensures { (j : ℕ) → (row ≤ j) ⊎ (mirrored ≤ row) → result ≤ j }
+{
+    if row < mirrored { row } else { 0 }
+}
+
+/// Clears a table that is 0 outside these columns: to clear them costs less than to clear it whole. What stands before the
+/// diagonal of the first rows may stay, since mirror images are to be written over it.
+fn clear(table: &mut NormalTable, columns: usize, mirrored: usize)
     requires columns_in { columns ≤ MOST_COLUMNS }
     requires outside { IsZeroOutside columns columns table.old }
-    ensures { (i j : ℕ) → entry table.new i j ≡ pos 0 }
+    ensures { (i j : ℕ) → (i ≤ j) ⊎ (mirrored ≤ i) → entry table.new i j ≡ pos 0 }
 {
     for row in 0..columns {
-        clear_row(table, row, columns);
+        clear_row(table, row, first_to_clear(row, mirrored), columns);
     }
 }
 
@@ -95,10 +104,11 @@ fn refill(normal: &mut Normal, arcs: &[Arc], signals: &[usize], pairs: &[PairRow
     ensures { IsNormalOf arcs.now signals.now pairs.now normal.new }
 {
     let integers = integer_count(arcs, signals);
-    clear(&mut normal.c, normal.columns);
+    let columns = BASELINE_COLUMNS + integers + 1;
+    clear(&mut normal.c, normal.columns, columns);
     let r = fill_table(&mut normal.c, arcs, signals, integers, pairs);
     normal.r = r;
-    normal.columns = BASELINE_COLUMNS + integers + 1;
+    normal.columns = columns;
 }
 
 /// Writes the normal matrix of one pair's rows over another. It is that of `sum_pair`.

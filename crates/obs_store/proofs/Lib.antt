@@ -1,3 +1,4 @@
 pub mod EpochsLaws
 pub mod SeenLaws
 pub mod StoredLaws
+pub mod LockLaws

@@ -5,3 +5,4 @@ pub mod Stored
 pub mod Epochs
 pub mod Seen
 pub mod Counts
+pub mod Locks

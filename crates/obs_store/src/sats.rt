@@ -2,8 +2,11 @@
 ghost use Rattle.std.specs.Prelude.{◌≡◌, ◌≤◌, ◌<◌, ◌==◌, [], ◌∷◌, ◌++◌, length, false, find, slice_get, slice_index, Some, IfOk, OnOk, OnErr};
 ghost use Rattle.obs_store.specs.Satellites.{AreSatellites, has_satellite};
 ghost use Rattle.obs_store.specs.Seen.{numbers_of};
+ghost use Rattle.obs_store.specs.Locks.{HaveEvenLocks};
 
-use crate::stored::{StoredSat, StoredValue, count_of_values, find_sat, has_number, sat_at};
+use crate::stored::{
+    StoredSat, StoredValue, count_of_values, find_sat, has_number, has_odd_lock, sat_at,
+};
 use crate::{SatObs, SatValues, SatView};
 use std::alloc::{AllocError, Global};
 use std::marker::Model;
@@ -79,6 +82,14 @@ impl Satellites {
         ensures { result ≡ has_satellite number self.now }
     {
         has_number(&self.sats, number)
+    }
+
+    /// Whether lock may have been lost: where not, no value's digit says so. One look at the stored values serves all satellites.
+    #[tactic(auto, using(crate::proofs::LockLaws::none_lost))]
+    pub fn may_be_lost(&self) -> bool
+        ensures { result ≡ false → HaveEvenLocks self.now }
+    {
+        has_odd_lock(&self.values)
     }
 
     /// Adds a satellite that isn't there yet; after an `Err` the satellites are as before.

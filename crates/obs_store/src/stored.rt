@@ -1,5 +1,5 @@
 //! How the satellites of an epoch are stored: the values that are there, and no others.
-ghost use Rattle.std.specs.Prelude.{◌≡◌, ◌≢◌, ◌<◌, ◌≤◌, ◌==◌, length, find, slice_get, slice_index_or, Some, None};
+ghost use Rattle.std.specs.Prelude.{◌≡◌, ◌≢◌, ◌<◌, ◌≤◌, ◌==◌, ◌%◌, length, find, slice_get, slice_index_or, Some, None};
 ghost use Rattle.std.specs.Option.{option_map, option_copied};
 ghost use Rattle.std.specs.List.{list_any};
 ghost use Rattle.obs_store.specs.Kinds.{slot_of, slot_count};
@@ -42,6 +42,13 @@ pub fn has_kind(stored: &[StoredValue], kind: ObsType) -> bool
     ensures { result ≡ list_any (λ v. slot_of v.kind == slot_of kind) stored.now }
 {
     stored.iter().any(|one| one.kind.slot() == kind.slot())
+}
+
+/// Whether bit 0 of the loss-of-lock digit of one of these values is set.
+pub fn has_odd_lock(stored: &[StoredValue]) -> bool
+    ensures { result ≡ list_any (λ v. v.lock % 2 == 1) stored.now }
+{
+    stored.iter().any(|one| one.lock % 2 == 1)
 }
 
 /// How many values a satellite has.

@@ -1,7 +1,8 @@
 //! The used satellites of one pair.
-ghost use Rattle.std.specs.Prelude.{◌≡◌, ◌≤◌, ◌⊎◌, IfOk, OnOk};
+ghost use Rattle.std.specs.Prelude.{◌≡◌, ◌≤◌, ◌⊎◌, ℕ, false, IfOk, OnOk};
 ghost use Rattle.std.specs.Int.{abs_diff};
 ghost use Rattle.obs_rows.specs.UsedSats.{IsSmall};
+ghost use Rattle.screening.specs.declared.amounts.SignalTypes.{SignalTypes};
 ghost use Rattle.screening.specs.Entries.{IsSatNumber};
 ghost use Rattle.screening.specs.Observed.{phases_of};
 ghost use Rattle.screening.specs.Marks.{power_failed, lost_lock};
@@ -9,7 +10,7 @@ ghost use Rattle.screening.specs.Sightings.{setting_with};
 ghost use Rattle.screening.specs.Gathering.{IsPassedOver, IsAdded, AreGathered, IsGathered};
 
 use crate::amounts::SignalTypes;
-use crate::marks::{lost_in, power_failed};
+use crate::marks::{lost_in, may_lose, power_failed};
 use crate::records::RecordTable;
 use crate::rules::Rules;
 use crate::sights::entry_of;
@@ -35,10 +36,12 @@ fn power_up_to(at: &PairAt<'_>) -> bool
     power_failed(at.base_passed) || power_failed(at.rover_passed)
 }
 
-fn lost_up_to(types: &SignalTypes, number: u8, at: &PairAt<'_>) -> bool
+// Whether a phase of the satellite lost lock up to the pair; nothing is looked at where none may have.
+fn lost_up_to(may: bool, types: &SignalTypes, number: u8, at: &PairAt<'_>) -> bool
+    requires { may ≡ false → (types : SignalTypes) (number : ℕ) → lost_lock types number (record { base = at.now.base_passed.now; rover = at.now.rover_passed.now }) ≡ false }
     ensures { result ≡ lost_lock types.now number (record { base = at.now.base_passed.now; rover = at.now.rover_passed.now }) }
 {
-    lost_in(types, number, at.base_passed) || lost_in(types, number, at.rover_passed)
+    may && (lost_in(types, number, at.base_passed) || lost_in(types, number, at.rover_passed))
 }
 
 fn used_sat(entry: &SvPair, lost: bool) -> UsedSat
@@ -59,12 +62,14 @@ fn add_sat(
     rules: &Rules,
     table: &RecordTable<'_>,
     at: &PairAt<'_>,
+    may: bool,
     number: u8,
     sats: &mut Vec<UsedSat>,
     boxes: &mut SvPairList,
 ) -> Result<(), AllocError>
     requires near { abs_diff at.now.base.now.tag.0 at.now.rover.now.tag.0 ≤ 5_000_000 }
     requires number { IsSatNumber number }
+    requires may { may ≡ false → (types : SignalTypes) (number : ℕ) → lost_lock types number (record { base = at.now.base_passed.now; rover = at.now.rover_passed.now }) ≡ false }
     ensures { OnOk result
         (IsPassedOver (setting_with rules.now table.now) at.now.base.now at.now.rover.now number sats.old.items sats.new.items boxes.old boxes.new
         ⊎ IsAdded (setting_with rules.now table.now) at.now.base.now at.now.rover.now (record { base = at.now.base_passed.now; rover = at.now.rover_passed.now })
@@ -76,7 +81,7 @@ fn add_sat(
     let Some(entry) = entry_of(rules, table, at.base, at.rover, at.number, number) else {
         return Ok(());
     };
-    let lost = lost_up_to(&rules.types, number, at);
+    let lost = lost_up_to(may, &rules.types, number, at);
     sats.push(used_sat(&entry, lost))?;
     boxes.push(entry)?;
     Ok(())
@@ -95,9 +100,10 @@ fn sats_of(
         AreGathered (setting_with rules.now table.now) at.now.base.now at.now.rover.now (record { base = at.now.base_passed.now; rover = at.now.rover_passed.now })
         at.now.number 37 boxes.old sats.items boxes.new) }
 {
+    let may = may_lose(at.base_passed, at.rover_passed);
     let mut sats: Vec<UsedSat> = Vec::new(alloc);
     'numbers: for number in 1..37u8 {
-        add_sat(rules, table, at, number, &mut sats, boxes)?;
+        add_sat(rules, table, at, may, number, &mut sats, boxes)?;
     }
     Ok(sats)
 }

@@ -1,8 +1,9 @@
 //! What epochs say of power and of lock.
-ghost use Rattle.std.specs.Prelude.{◌≡◌, ◌<◌, All};
+ghost use Rattle.std.specs.Prelude.{◌≡◌, ◌<◌, ℕ, false, All};
 ghost use Rattle.std.specs.List.{list_any};
 ghost use Rattle.obs_rows.specs.declared.units.TheConstants.{SIGNALS};
-ghost use Rattle.screening.specs.Marks.{is_lost, is_phase_lost, lost_at};
+ghost use Rattle.screening.specs.declared.amounts.SignalTypes.{SignalTypes};
+ghost use Rattle.screening.specs.Marks.{is_lost, is_phase_lost, lost_at, lost_lock};
 
 use crate::amounts::{SignalTypes, value_of};
 use obs_rows::{WAVELENGTHS, fine_signals};
@@ -53,4 +54,21 @@ pub fn lost_in(types: &SignalTypes, number: u8, epochs: &[Epoch]) -> bool
     ensures { result ≡ list_any (lost_at types.now number) epochs.now }
 {
     epochs.iter().any(|epoch| lost_at(types, number, epoch))
+}
+
+// Whether one of these epochs may say that lock was lost, of whatever satellite. That is asked of one epoch alone, as there mostly is.
+fn may_be_lost(epochs: &[Epoch]) -> bool
+    ensures { result ≡ false → (types : SignalTypes) (number : ℕ) → list_any (lost_at types number) epochs.now ≡ false }
+{
+    match epochs {
+        [only] => only.sats.may_be_lost(),
+        _ => true,
+    }
+}
+
+/// The same of the epochs of both files up to a pair. Where it isn't so, the satellites need not be looked at one by one.
+pub fn may_lose(base: &[Epoch], rover: &[Epoch]) -> bool
+    ensures { result ≡ false → (types : SignalTypes) (number : ℕ) → lost_lock types number (record { base = base.now; rover = rover.now }) ≡ false }
+{
+    may_be_lost(base) || may_be_lost(rover)
 }

@@ -104,3 +104,14 @@ pub fn part(front: &FrontForm, shift: u32, r: usize, c: usize) -> i128
         other_part(front.p.at(r, c), shift)
     }
 }
+
+/// What a pair adds to the entry in row r and column c after the diagonal.
+pub(crate) fn later_part(front: &FrontForm, shift: u32, r: usize, c: usize) -> i128
+    requires few { shift ≤ 90 }
+    requires after { r < c }
+    requires column_in { c < front.now.columns - 3 }
+    ensures value { result ≡ part_at (front.now.columns - 3) (2 ^ shift) (entry front.now.p) r c }
+    ensures size { unsigned_abs result ≤ 2 ^ 64 }
+{
+    other_part(front.p.at(r, c), shift)
+}

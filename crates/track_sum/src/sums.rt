@@ -20,7 +20,7 @@ ghost use Rattle.track_sum.specs.Decided.{IsSumOfFronts, IsTrackForm, IsFinishRe
 
 use crate::factors::PairFactors;
 use crate::fronts::{PairRoom, greatest_exponent};
-use crate::parts::{least_power, part};
+use crate::parts::{later_part, least_power, part};
 use elimination::form_table;
 use form_tables::{BASELINE_COLUMNS, NormalTable};
 use lower_form::{Form, FrontForm, LowerFault, finish};
@@ -37,19 +37,35 @@ fn plus(sum: i128, part: i128) -> i128
     sum + part
 }
 
-/// Adds what a front adds to the entry in row r and column c.
-fn add_entry(table: &mut NormalTable, front: &FrontForm, shift: u32, r: usize, c: usize)
-    requires few { shift ≤ 90 }
-    requires row_in { r < front.now.columns - 3 }
-    requires column_in { c < front.now.columns - 3 }
+/// Adds this part to the entry in row r and column c after the baseline's.
+fn add_part(table: &mut NormalTable, part: i128, r: usize, c: usize)
+    requires part_size { unsigned_abs part ≤ 2 ^ 64 }
+    requires row_in { 3 + r < MOST_COLUMNS }
+    requires column_in { 3 + c < MOST_COLUMNS }
     requires size { unsigned_abs (entry table.old (3 + r) (3 + c)) ≤ MOST_PAIRS * 2 ^ 64 }
-    ensures there { entry table.new (3 + r) (3 + c) ≡ entry table.old (3 + r) (3 + c) +ℤ part_at (front.now.columns - 3) (2 ^ shift) (entry front.now.p) r c }
+    ensures there { entry table.new (3 + r) (3 + c) ≡ entry table.old (3 + r) (3 + c) +ℤ part }
     ensures size { unsigned_abs (entry table.new (3 + r) (3 + c)) ≤ unsigned_abs (entry table.old (3 + r) (3 + c)) + 2 ^ 64 }
     ensures others { (i j : ℕ) → (i ≢ 3 + r) ⊎ (j ≢ 3 + c) → entry table.new i j ≡ entry table.old i j }
 {
     let old = table.at(BASELINE_COLUMNS + r, BASELINE_COLUMNS + c);
-    let sum = plus(old, part(front, shift, r, c));
+    let sum = plus(old, part);
     table.set(BASELINE_COLUMNS + r, BASELINE_COLUMNS + c, sum);
+}
+
+/// Adds what a front adds to row r after its own entry.
+fn add_others(table: &mut NormalTable, front: &FrontForm, shift: u32, r: usize)
+    requires few { shift ≤ 90 }
+    requires row_in { r < front.now.columns - 3 }
+    requires sizes { (c : ℕ) → r < c → c < front.now.columns - 3 → unsigned_abs (entry table.old (3 + r) (3 + c)) ≤ MOST_PAIRS * 2 ^ 64 }
+    ensures row { (c : ℕ) → r < c → c < front.now.columns - 3 → entry table.new (3 + r) (3 + c) ≡ entry table.old (3 + r) (3 + c) +ℤ part_at (front.now.columns - 3) (2 ^ shift) (entry front.now.p) r c }
+    ensures sizes { (c : ℕ) → r < c → c < front.now.columns - 3 → unsigned_abs (entry table.new (3 + r) (3 + c)) ≤ unsigned_abs (entry table.old (3 + r) (3 + c)) + 2 ^ 64 }
+    ensures own { entry table.new (3 + r) (3 + r) ≡ entry table.old (3 + r) (3 + r) }
+    ensures others { (i c : ℕ) → i ≢ 3 + r → entry table.new i c ≡ entry table.old i c }
+{
+    let order = front.columns - BASELINE_COLUMNS;
+    for c in r + 1..order {
+        add_part(table, later_part(front, shift, r, c), r, c);
+    }
 }
 
 /// Adds what a front adds to row r, from its own entry on.
@@ -61,10 +77,8 @@ fn add_row(table: &mut NormalTable, front: &FrontForm, shift: u32, r: usize)
     ensures sizes { (c : ℕ) → r ≤ c → c < front.now.columns - 3 → unsigned_abs (entry table.new (3 + r) (3 + c)) ≤ unsigned_abs (entry table.old (3 + r) (3 + c)) + 2 ^ 64 }
     ensures others { (i c : ℕ) → i ≢ 3 + r → entry table.new i c ≡ entry table.old i c }
 {
-    let order = front.columns - BASELINE_COLUMNS;
-    for c in r..order {
-        add_entry(table, front, shift, r, c);
-    }
+    add_part(table, part(front, shift, r, r), r, r);
+    add_others(table, front, shift, r);
 }
 
 /// Adds what a front adds, on the diagonal and after it.

@@ -1,4 +1,5 @@
-use Rattle.std.proofs.Common.{◌≡◌, inl, inr, ℕ, ◌+◌, ◌≤◌, ◌^◌, ◌+ℤ◌, ◌*ℤ◌, ℤ, arith, ap, ◌∙◌, to_z, of_z, below_more, unsigned_abs, sym, subst}
+use Rattle.std.proofs.Common.{◌≡◌, ◌≢◌, inl, inr, ⊎_elim, ℕ, ◌+◌, ◌≤◌, ◌^◌, ◌+ℤ◌, ◌*ℤ◌, ℤ, arith, ap, ◌∙◌, to_z, of_z, below_more, unsigned_abs, sym, subst}
+use Rattle.std.proofs.lemmas.Bool.{cases_eq}
 use Rattle.std.proofs.lemmas.Int.{to_z-of_z}
 use Rattle.std.specs.Int.{w64}
 use Rattle.form_tables.specs.Tables.{entry}
@@ -33,5 +34,7 @@ loop-other-preserved c =
           (subst (λ (z : ℤ). unsigned_abs z ≤ 2 ^ 57) (sym (as_w64 c.direction_spread-spread.result (omega (arith, c.direction_spread-spread.ensures.size)))) c.direction_spread-spread.ensures.size)
           (subst (λ (z : ℤ). unsigned_abs z ≤ 2 ^ 38) (sym (to_z-of_z w64 c.args.share c.ranges.share)) c.requires.share_size)) j within from;
       later = λ i j h. c.add_short_to_entry.ensures.others i j (inr (λ e. omega (arith, e, h))) ∙ c.loop-other.invariant.later i j (omega arith);
+      below = λ i j h. c.add_short_to_entry.ensures.others i j (⊎_elim (λ (e : i ≡ axis). inr (λ f. omega (arith, e, f, h, c.loop-other.auto.other))) (λ (d : i ≢ axis). inl d) (cases_eq i axis))
+          ∙ c.loop-other.invariant.below i j h;
       others = λ i j d. c.add_short_to_entry.ensures.others i j (inl d) ∙ c.loop-other.invariant.others i j d;
     }

@@ -21,4 +21,5 @@ loop-axis-preserved c =
           (c.add_axis.ensures.size j from within)) i h from;
       later = λ i j h. c.add_axis.ensures.others i j (λ e. omega (arith, e, h)) ∙ c.loop-axis.invariant.later i j (omega arith);
       behind = λ i j h. c.add_axis.ensures.behind i j h ∙ c.loop-axis.invariant.behind i j h;
+      below = λ i j h. c.add_axis.ensures.below i j h ∙ c.loop-axis.invariant.below i j h;
     }

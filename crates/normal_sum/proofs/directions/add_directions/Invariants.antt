@@ -10,4 +10,5 @@ invariant-loop-axis l = record {
   size : (i j : ℕ) → i < l.axis → i ≤ j → j < BASELINE_COLUMNS → unsigned_abs (entry l.table i j) ≤ unsigned_abs (entry l.initial.table i j) + 2 ^ 95;
   later : (i j : ℕ) → l.axis ≤ i → entry l.table i j ≡ entry l.initial.table i j;
   behind : (i j : ℕ) → BASELINE_COLUMNS ≤ j → entry l.table i j ≡ entry l.initial.table i j;
+  below : (i j : ℕ) → j < i → entry l.table i j ≡ entry l.initial.table i j;
 }

@@ -1,4 +1,4 @@
-use Rattle.std.proofs.Common.{◌≡◌, ⊎_elim, ℕ, ◌+◌, ◌*◌, ◌/◌, ◌^◌, ◌<◌, ◌≤◌, [], ◌∷◌, List, pos, ◌+ℤ◌, ◌*ℤ◌, to_z, of_z, length, map, drop, get_or, slice_index_or, Option, None, IfSome, arith, sym, ap, ◌∙◌, subst, rules}
+use Rattle.std.proofs.Common.{◌≡◌, inl, inr, ⊎_elim, ℕ, ◌+◌, ◌*◌, ◌/◌, ◌^◌, ◌<◌, ◌≤◌, [], ◌∷◌, List, pos, ◌+ℤ◌, ◌*ℤ◌, to_z, of_z, length, map, drop, get_or, slice_index_or, Option, None, IfSome, arith, sym, ap, ◌∙◌, subst, rules}
 use Rattle.std.proofs.lemmas.Bool.{cases_lt}
 use Rattle.std.proofs.lemmas.List.{drop_more, drop_all}
 use Rattle.std.specs.Int.{w64}
@@ -56,7 +56,7 @@ loop-signal-preserved c =
           (ap (λ (l : List ℕ). entry c.loop-signal.table i j +ℤ matrix_entry (map group l) i j) (sym rest_is) ∙ c.loop-signal.invariant.sums i j hi b hj)
           (c.add_signal.ensures.added arcs signals are c.requires.integers i j hi b hj);
       size = λ i j hi b hj. larger _ _ _ k (c.add_signal.ensures.size i j hi b hj) (c.loop-signal.invariant.size i j hi b hj);
-      baseline = λ i j h. c.add_signal.ensures.baseline i j h ∙ c.loop-signal.invariant.baseline i j h;
+      before = λ i j h. c.add_signal.ensures.before i j h ∙ c.loop-signal.invariant.before i j h;
     }
 
 pub returns-clause-added : goal.returns-clause-added
@@ -69,7 +69,7 @@ returns-clause-added c =
     small_w64 c.total_share.result c.total_share.ensures.from c.total_share.ensures.to ∙ c.total_share.ensures.value in
     λ i j h g. ⊎_elim
     (λ (b : j < BASELINE_COLUMNS). c.add_directions.ensures.added i j h b
-    ∙ ap (λ z. z +ℤ (direction_spread rows i j *ℤ to_z w64 (of_z w64 c.total_share.result))) (c.loop-signal.invariant.baseline i j b)
+    ∙ ap (λ z. z +ℤ (direction_spread rows i j *ℤ to_z w64 (of_z w64 c.total_share.result))) (c.loop-signal.invariant.before i j (inr b))
     ∙ ap (λ z. entry c.args.table.now i j +ℤ (direction_spread rows i j *ℤ z)) share
     ∙ ap (λ (l : List Row). entry c.args.table.now i j +ℤ (direction_spread l i j *ℤ (pos (360360 / length l) *ℤ sum (map weight signals)))) c.as_slice-rows.ensures
     ∙ ap (λ z. entry c.args.table.now i j +ℤ z) (sym (baseline_entries arcs signals c.args.pair.now signals i j (omega arith) b)))
@@ -77,3 +77,6 @@ returns-clause-added c =
     ∙ zero_last _ _ (ap (λ (l : List ℕ). entry c.loop-signal.table i j +ℤ matrix_entry (map (signal_group arcs signals c.args.pair.now) l) i j) (sym past)
     ∙ c.loop-signal.invariant.sums i j h b g))
     (cases_lt j BASELINE_COLUMNS)
+
+pub returns-clause-below : goal.returns-clause-below
+returns-clause-below c = λ i j h. c.add_directions.ensures.below i j h ∙ c.loop-signal.invariant.before i j (inl h)

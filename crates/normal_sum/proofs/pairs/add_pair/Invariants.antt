@@ -1,4 +1,4 @@
-use Rattle.std.proofs.Common.{◌≡◌, ℕ, ◌+◌, ◌*◌, ◌^◌, ◌<◌, ◌≤◌, map, drop, ◌+ℤ◌, unsigned_abs}
+use Rattle.std.proofs.Common.{◌≡◌, ◌⊎◌, ℕ, ◌+◌, ◌*◌, ◌^◌, ◌<◌, ◌≤◌, map, drop, ◌+ℤ◌, unsigned_abs}
 use Rattle.quadratic_form.specs.MatrixEntries.{matrix_entry}
 use Rattle.form_tables.specs.declared.sizes.TheConstants.{BASELINE_COLUMNS, MOST_COLUMNS}
 use Rattle.form_tables.specs.Tables.{entry}
@@ -10,5 +10,5 @@ invariant-loop-signal l = record {
   sums : (i j : ℕ) → i ≤ j → BASELINE_COLUMNS ≤ j → j < MOST_COLUMNS → entry l.table i j +ℤ matrix_entry (map (signal_group l.arcs l.signals l.pair) (drop l.signal-index l.signals)) i j
       ≡ entry l.initial.table i j +ℤ matrix_entry (map (signal_group l.arcs l.signals l.pair) l.signals) i j;
   size : (i j : ℕ) → i ≤ j → BASELINE_COLUMNS ≤ j → j < MOST_COLUMNS → unsigned_abs (entry l.table i j) ≤ unsigned_abs (entry l.initial.table i j) + (l.signal-index * 2 ^ 105);
-  baseline : (i j : ℕ) → j < BASELINE_COLUMNS → entry l.table i j ≡ entry l.initial.table i j;
+  before : (i j : ℕ) → (j < i) ⊎ (j < BASELINE_COLUMNS) → entry l.table i j ≡ entry l.initial.table i j;
 }

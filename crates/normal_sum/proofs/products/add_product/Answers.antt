@@ -1,8 +1,9 @@
-use Rattle.std.proofs.Common.{◌≡◌, ⊎_elim, ℕ, List, ◌≤◌, ◌^◌, ℤ, pos, ◌+ℤ◌, ◌*ℤ◌, unsigned_abs, slice_index_or, get_or, to_z, of_z, arith, sym, ap, ◌∙◌, subst, refl}
+use Rattle.std.proofs.Common.{◌≡◌, ◌⊎◌, ⊎_elim, ℕ, List, ◌<◌, ◌≤◌, ◌^◌, ℤ, pos, ◌+ℤ◌, ◌*ℤ◌, unsigned_abs, slice_index_or, get_or, to_z, of_z, arith, sym, ap, ◌∙◌, subst, refl}
 use Rattle.std.proofs.lemmas.Bool.{cases_eq}
 use Rattle.std.proofs.lemmas.Int.{to_z-of_z}
 use Rattle.std.proofs.lemmas.List.{take_rest}
 use Rattle.std.specs.Int.{w64}
+use Rattle.form_tables.specs.declared.sizes.TheConstants.{BASELINE_COLUMNS}
 use Rattle.form_tables.specs.Tables.{entry}
 use Rattle.normal_sum.specs.Columns.{AreColumnsFrom}
 use Rattle.normal_sum.proofs.RowSums.{product_nothing}
@@ -10,7 +11,7 @@ use Rattle.normal_sum.proofs.ColumnLaws.{none_added, one_more, untouched, all_ad
 use Rattle.normal_sum.proofs.products.add_product.Goals as goal
 
 pub loop-k-init : goal.loop-k-init
-loop-k-init c = record { added = λ j b h. none_added (λ i. i ≤ j) c.args.columns.now _ _; baseline = λ i j h. refl }
+loop-k-init c = record { added = λ j b h. none_added (λ i. i ≤ j) c.args.columns.now _ _; before = λ i j h. refl }
 
 pub add_product_row-requires-clause-columns : goal.add_product_row-requires-clause-columns
 add_product_row-requires-clause-columns c =
@@ -33,10 +34,11 @@ loop-k-preserved c = record {
       (λ i. (to_z w64 (of_z w64 c.args.weight) *ℤ slice_index_or c.args.values.now i (pos 0)) *ℤ slice_index_or c.args.values.now j (pos 0)) c.requires.columns.rising c.loop-k-test.true
       (c.loop-k.invariant.added j b h)
       (λ i m d. c.add_product_row.ensures.others i j d) (λ m. c.add_product_row.ensures.added j m b h);
-  baseline = λ i j h. ⊎_elim
+  before = λ i j h. ⊎_elim
       (λ (e : i ≡ get_or c.args.columns.now c.loop-k.k 0).
-      subst (λ (r : ℕ). entry c.add_product_row.new.table r j ≡ entry c.loop-k.table r j) (sym e) (c.add_product_row.ensures.baseline j h) ∙ c.loop-k.invariant.baseline i j h)
-      (λ (d : i ≡ get_or c.args.columns.now c.loop-k.k 0 → ⊥). c.add_product_row.ensures.others i j d ∙ c.loop-k.invariant.baseline i j h)
+      subst (λ (r : ℕ). entry c.add_product_row.new.table r j ≡ entry c.loop-k.table r j) (sym e)
+      (c.add_product_row.ensures.before j (subst (λ (r : ℕ). (j < r) ⊎ (j < BASELINE_COLUMNS)) e h)) ∙ c.loop-k.invariant.before i j h)
+      (λ (d : i ≡ get_or c.args.columns.now c.loop-k.k 0 → ⊥). c.add_product_row.ensures.others i j d ∙ c.loop-k.invariant.before i j h)
       (cases_eq i (get_or c.args.columns.now c.loop-k.k 0));
 }
 

@@ -1,4 +1,4 @@
-use Rattle.std.proofs.Common.{◌≡◌, ℕ, ◌<◌, ◌≤◌, pos, ◌*ℤ◌, slice_index_or}
+use Rattle.std.proofs.Common.{◌≡◌, ◌⊎◌, ℕ, ◌<◌, ◌≤◌, pos, ◌*ℤ◌, slice_index_or}
 use Rattle.form_tables.specs.Tables.{entry}
 use Rattle.form_tables.specs.declared.sizes.TheConstants.{BASELINE_COLUMNS, MOST_COLUMNS}
 use Rattle.normal_sum.proofs.ColumnLaws.{AddedIn}
@@ -8,5 +8,5 @@ abbrev pub invariant-loop-k : goal.invariant-loop-k
 invariant-loop-k l = record {
   added : (j : ℕ) → BASELINE_COLUMNS ≤ j → j < MOST_COLUMNS → AddedIn (λ i. i ≤ j) l.columns l.k (λ i. entry l.initial.table i j) (λ i. entry l.table i j)
       (λ i. (l.fn.weight *ℤ slice_index_or l.values i (pos 0)) *ℤ slice_index_or l.values j (pos 0));
-  baseline : (i j : ℕ) → j < BASELINE_COLUMNS → entry l.table i j ≡ entry l.initial.table i j;
+  before : (i j : ℕ) → (j < i) ⊎ (j < BASELINE_COLUMNS) → entry l.table i j ≡ entry l.initial.table i j;
 }

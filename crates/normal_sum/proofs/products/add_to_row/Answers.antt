@@ -34,8 +34,8 @@ returns-clause-added c =
     (omega (arith, c.loop-column-test.false, c.loop-column.auto.column-index-end)) c.loop-column.invariant j m b
     ∙ ap (λ z. entry c.args.table.now c.args.row j +ℤ (z *ℤ slice_index_or c.args.values.now j (pos 0))) factor_kept
 
-pub returns-clause-baseline : goal.returns-clause-baseline
-returns-clause-baseline c = c.loop-column.invariant.baseline
+pub returns-clause-before : goal.returns-clause-before
+returns-clause-before c = c.loop-column.invariant.before
 
 pub returns-clause-others : goal.returns-clause-others
 returns-clause-others c = c.loop-column.invariant.others

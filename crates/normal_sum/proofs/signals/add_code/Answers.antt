@@ -1,4 +1,5 @@
-use Rattle.std.proofs.Common.{inl, ◌+◌, ◌*◌, ◌^◌, ◌≤◌, unsigned_abs, arith}
+use Rattle.std.proofs.Common.{◌≡◌, inl, inr, ⊎_elim, ℕ, ◌<◌, ◌+◌, ◌*◌, ◌^◌, ◌≤◌, unsigned_abs, arith}
+use Rattle.std.proofs.lemmas.Bool.{cases_eq}
 use Rattle.form_tables.specs.declared.sizes.TheConstants.{BASELINE_COLUMNS}
 use Rattle.form_tables.specs.Tables.{entry}
 use Rattle.normal_sum.proofs.ObservationLaws.{code_entries}
@@ -22,5 +23,10 @@ returns-clause-added c = λ arcs ss none n i j h b g.
     code_entries arcs ss c.args.pair.now c.args.signal c.args.integers c.args.table.now c.add_observations.new.table c.as_slice.result.now c.as_slice.ensures none n c.add_observations.ensures.axes
     c.add_observations.ensures.square c.add_observations.ensures.others i j b
 
-pub returns-clause-baseline : goal.returns-clause-baseline
-returns-clause-baseline c = λ i j h. c.add_observations.ensures.others i j (inl (λ e. omega (arith, e, h)))
+-- below the diagonal an entry is none of the constant's column, or in a row after the constant's
+pub returns-clause-before : goal.returns-clause-before
+returns-clause-before c = λ i j w.
+    let last : ℕ = BASELINE_COLUMNS + c.args.integers in
+    c.add_observations.ensures.others i j (⊎_elim
+    (λ (e : j ≡ last). inr (⊎_elim (λ (h : j < i). (omega (arith, e, h), λ f. omega (arith, e, f, h))) (λ (h : j < BASELINE_COLUMNS). absurd (omega (arith, e, h))) w))
+    (λ (d : j ≡ last → ⊥). inl d) (cases_eq j last))

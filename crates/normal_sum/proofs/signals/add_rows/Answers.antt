@@ -33,7 +33,7 @@ loop-k-init c = record {
   sums = λ arcs ss p n j h. zero_first _ _ (zero_item MOST_COLUMNS j);
   table_size = λ i j h b g. omega arith;
   beyond = λ j h g. zero_item MOST_COLUMNS j;
-  baseline = λ i j h. refl;
+  before = λ i j h. refl;
   sum_size = λ j h. size_zero _ (zero_item MOST_COLUMNS j);
 }
 
@@ -81,6 +81,6 @@ loop-k-preserved c =
           (c.add_row.ensures.sums arcs ss place n j h);
       table_size = λ i j h b g. larger _ _ _ _ (c.add_row.ensures.table_size i j h b g) (c.loop-k.invariant.table_size i j h b g);
       beyond = λ j h g. c.add_row.ensures.beyond j h g ∙ c.loop-k.invariant.beyond j h g;
-      baseline = λ i j h. c.add_row.ensures.baseline i j h ∙ c.loop-k.invariant.baseline i j h;
+      before = λ i j h. c.add_row.ensures.before i j h ∙ c.loop-k.invariant.before i j h;
       sum_size = λ j h. larger_sum _ _ _ (c.add_row.ensures.sum_size j h) (c.loop-k.invariant.sum_size j h);
     }

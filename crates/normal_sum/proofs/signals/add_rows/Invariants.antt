@@ -1,4 +1,4 @@
-use Rattle.std.proofs.Common.{◌≡◌, ℕ, ◌+◌, ◌*◌, ◌^◌, ◌<◌, ◌≤◌, List, length, map, replicate, drop, pos, ◌+ℤ◌, ◌*ℤ◌, unsigned_abs, slice_index_or}
+use Rattle.std.proofs.Common.{◌≡◌, ◌⊎◌, ℕ, ◌+◌, ◌*◌, ◌^◌, ◌<◌, ◌≤◌, List, length, map, replicate, drop, pos, ◌+ℤ◌, ◌*ℤ◌, unsigned_abs, slice_index_or}
 use Rattle.quadratic_form.specs.MatrixEntries.{coefficient_sum, product_sum}
 use Rattle.form_tables.specs.declared.sizes.TheConstants.{BASELINE_COLUMNS, MOST_COLUMNS}
 use Rattle.form_tables.specs.Tables.{entry}
@@ -20,6 +20,6 @@ invariant-loop-k l = record {
       slice_index_or l.total j (pos 0) +ℤ coefficient_sum (map (signal_row arcs ss l.fn.signal) (drop l.k l.rows)) j ≡ coefficient_sum (map (signal_row arcs ss l.fn.signal) l.rows) j;
   table_size : (i j : ℕ) → i ≤ j → BASELINE_COLUMNS ≤ j → j < MOST_COLUMNS → unsigned_abs (entry l.table i j) ≤ unsigned_abs (entry l.initial.table i j) + (l.k * 2 ^ 100);
   beyond : (j : ℕ) → BASELINE_COLUMNS + l.fn.integers < j → j < MOST_COLUMNS → slice_index_or l.total j (pos 0) ≡ pos 0;
-  baseline : (i j : ℕ) → j < BASELINE_COLUMNS → entry l.table i j ≡ entry l.initial.table i j;
+  before : (i j : ℕ) → (j < i) ⊎ (j < BASELINE_COLUMNS) → entry l.table i j ≡ entry l.initial.table i j;
   sum_size : (j : ℕ) → j < MOST_COLUMNS → unsigned_abs (slice_index_or l.total j (pos 0)) ≤ l.k * 2 ^ 34;
 }

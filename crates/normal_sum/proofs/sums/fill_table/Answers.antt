@@ -1,4 +1,4 @@
-use Rattle.std.proofs.Common.{◌≡◌, ℕ, ◌+◌, ◌*◌, ◌^◌, ◌<◌, ◌≤◌, ◌∷◌, [], List, ℤ, ◌+ℤ◌, pos, length, drop, unsigned_abs, slice_index_or, arith, sym, ap, ◌∙◌, subst, rules, le_of_lt}
+use Rattle.std.proofs.Common.{◌≡◌, inl, inr, ℕ, ◌+◌, ◌*◌, ◌^◌, ◌<◌, ◌≤◌, ◌∷◌, [], List, ℤ, ◌+ℤ◌, pos, length, drop, unsigned_abs, slice_index_or, arith, sym, ap, ◌∙◌, subst, rules, le_of_lt}
 use Rattle.std.proofs.lemmas.List.{drop_more, drop_all}
 use Rattle.std.proofs.lemmas.Int.{ints}
 use Rattle.whole_math.proofs.Order.{lins}
@@ -44,8 +44,9 @@ radii_range i n h k = omega arith
 pub loop-pair-init : goal.loop-pair-init
 loop-pair-init c =
     record {
-      sums = λ i j hi hj. zero_first _ _ (c.requires.zeros i j);
-      size = λ i j hi hj. size_zero _ (c.requires.zeros i j);
+      sums = λ i j hi hj. zero_first _ _ (c.requires.zeros i j (inl hi));
+      size = λ i j hi hj. size_zero _ (c.requires.zeros i j (inl hi));
+      below = λ i j h g. c.requires.zeros i j (inr g);
       radii = radii_start (radii (signal_groups c.args.arcs.now c.args.signals.now c.args.pairs.now));
       radii_size = record {
         u1_from = omega (arith, lins);
@@ -79,6 +80,7 @@ loop-pair-preserved c =
           (sym rest_is) ∙ c.loop-pair.invariant.sums i j hi hj)
           (c.add_pair.ensures.added i j hi hj);
       size = λ i j hi hj. larger _ _ k (c.add_pair.ensures.size i j hi hj) (c.loop-pair.invariant.size i j hi hj);
+      below = λ i j h g. c.add_pair.ensures.below i j h ∙ c.loop-pair.invariant.below i j h g;
       radii = ap (λ (r : Radii). add_radii r (radii (groups later))) (c.add_pair_radii-radii.ensures.value c.args.arcs.now)
           ∙ radii_assoc (radii_of c.loop-pair.radii) (radii mine) (radii (groups later))
           ∙ ap (λ (r : Radii). add_radii (radii_of c.loop-pair.radii) r) (sym (radii_append mine (groups later)))

@@ -7,7 +7,7 @@ use Rattle.normal_sum.proofs.NormalInvariants.{Shaped, shaped, columns_of_sum}
 use Rattle.normal_sum.proofs.sums.sum_pairs.Goals as goal
 
 pub fill_table-r-requires-clause-zeros : goal.fill_table-r-requires-clause-zeros
-fill_table-r-requires-clause-zeros c = λ i j. ap (λ (t : List (List ℤ)). entry t i j) c.zeros-table.ensures.zeros ∙ zero_entry MOST_COLUMNS MOST_COLUMNS i j
+fill_table-r-requires-clause-zeros c = λ i j w. ap (λ (t : List (List ℤ)). entry t i j) c.zeros-table.ensures.zeros ∙ zero_entry MOST_COLUMNS MOST_COLUMNS i j
 
 pub invariant_of-result : goal.invariant_of-result
 invariant_of-result c =

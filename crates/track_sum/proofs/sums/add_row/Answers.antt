@@ -1,30 +1,47 @@
-use Rattle.std.proofs.Common.{◌≡◌, ◌≢◌, inl, inr, ℕ, ◌+◌, ◌-◌, ◌^◌, ◌<◌, ◌≤◌, ℤ, ◌+ℤ◌, unsigned_abs, arith, sym, ap, ◌∙◌, subst, below_more}
+use Rattle.std.proofs.Common.{◌≡◌, ◌≢◌, ◌⊎◌, ⊎_elim, inr, ℕ, ◌+◌, ◌-◌, ◌*◌, ◌^◌, ◌<◌, ◌≤◌, ℤ, ◌+ℤ◌, unsigned_abs, arith, to_z, of_z, sym, ap, ◌∙◌, subst}
+use Rattle.std.specs.Int.{w128}
+use Rattle.whole_math.proofs.Words.{as_w128}
+use Rattle.obs_rows.specs.declared.limits.TheConstants.{MOST_PAIRS}
 use Rattle.form_tables.specs.Tables.{entry}
 use Rattle.track_sum.specs.Parts.{part_at}
 use Rattle.track_sum.proofs.sums.add_row.Goals as goal
 
-apart : (m k : ℕ) → m < k → (3 + m) ≢ (3 + k)
-apart m k h = λ e. absurd (omega (arith, e, h))
+part_word : (x : ℤ) → unsigned_abs x ≤ 2 ^ 64 → to_z w128 (of_z w128 x) ≡ x
+part_word x h = as_w128 x (omega arith)
 
-after : (m k : ℕ) → k + 1 ≤ m → (3 + m) ≢ (3 + k)
-after m k h = λ e. absurd (omega (arith, e, h))
+apart : (r k : ℕ) → r < k → (3 + k) ≢ (3 + r)
+apart r k h = λ e. absurd (omega (arith, e, h))
 
-pub loop-c-preserved : goal.loop-c-preserved
-loop-c-preserved c =
-    let k : ℕ = c.loop-c.c in
+own_or_later : (r k : ℕ) → r ≤ k → (k ≡ r) ⊎ (r < k)
+own_or_later r k h = grind arith
+
+pub add_part-requires-clause-part_size : goal.add_part-requires-clause-part_size
+add_part-requires-clause-part_size c = subst (λ (z : ℤ). unsigned_abs z ≤ 2 ^ 64) (sym (part_word c.part.result c.part.ensures.size)) c.part.ensures.size
+
+pub returns-clause-row : goal.returns-clause-row
+returns-clause-row c =
     let r : ℕ = c.args.r in
-    let n : ℕ = c.args.front.now.columns - 3 in
+    let new : ℕ → ℤ = λ (m : ℕ). entry c.add_others.new.table (3 + c.args.r) (3 + m) in
     let old : ℕ → ℤ = λ (m : ℕ). entry c.args.table.now (3 + c.args.r) (3 + m) in
-    let new : ℕ → ℤ = λ (m : ℕ). entry c.add_entry.new.table (3 + c.args.r) (3 + m) in
-    let part : ℕ → ℤ = λ (m : ℕ). part_at n (2 ^ c.args.shift) (entry c.args.front.now.p) r m in
-    let before : entry c.loop-c.table (3 + c.args.r) (3 + c.loop-c.c) ≡ entry c.args.table.now (3 + c.args.r) (3 + c.loop-c.c) = c.loop-c.invariant.rest k (omega arith) in
-    record {
-      row = λ m h g. below_more (λ (m : ℕ). r ≤ m → new m ≡ old m +ℤ part m) k
-          (λ m g h. c.add_entry.ensures.others (3 + r) (3 + m) (inr (apart m k g)) ∙ c.loop-c.invariant.row m h g)
-          (λ h. c.add_entry.ensures.there ∙ ap (λ (x : ℤ). x +ℤ part k) before) m g h;
-      sizes = λ m h g. below_more (λ (m : ℕ). r ≤ m → unsigned_abs (new m) ≤ unsigned_abs (old m) + 2 ^ 64) k
-          (λ m g h. subst (λ (x : ℤ). unsigned_abs x ≤ unsigned_abs (old m) + 2 ^ 64) (sym (c.add_entry.ensures.others (3 + r) (3 + m) (inr (apart m k g)))) (c.loop-c.invariant.sizes m h g))
-          (λ h. subst (λ (x : ℤ). unsigned_abs (new k) ≤ unsigned_abs x + 2 ^ 64) before c.add_entry.ensures.size) m g h;
-      rest = λ m h. c.add_entry.ensures.others (3 + r) (3 + m) (inr (after m k h)) ∙ c.loop-c.invariant.rest m (omega arith);
-      others = λ i m d. c.add_entry.ensures.others i m (inl d) ∙ c.loop-c.invariant.others i m d;
-    }
+    let part : ℕ → ℤ = λ (m : ℕ). part_at (c.args.front.now.columns - 3) (2 ^ c.args.shift) (entry c.args.front.now.p) r m in
+    let own : new r ≡ old r +ℤ part r = c.add_others.ensures.own ∙ c.add_part.ensures.there ∙ ap (λ (x : ℤ). old r +ℤ x) (part_word c.part.result c.part.ensures.size ∙ c.part.ensures.value) in
+    λ k h g. ⊎_elim
+    (λ (e : k ≡ r). subst (λ (m : ℕ). new m ≡ old m +ℤ part m) (sym e) own)
+    (λ (l : r < k). c.add_others.ensures.row k l g ∙ ap (λ (x : ℤ). x +ℤ part k) (c.add_part.ensures.others (3 + r) (3 + k) (inr (apart r k l))))
+    (own_or_later r k h)
+
+pub returns-clause-sizes : goal.returns-clause-sizes
+returns-clause-sizes c =
+    let r : ℕ = c.args.r in
+    let new : ℕ → ℤ = λ (m : ℕ). entry c.add_others.new.table (3 + c.args.r) (3 + m) in
+    let old : ℕ → ℤ = λ (m : ℕ). entry c.args.table.now (3 + c.args.r) (3 + m) in
+    let own : unsigned_abs (new r) ≤ unsigned_abs (old r) + 2 ^ 64 = subst (λ (z : ℤ). unsigned_abs z ≤ unsigned_abs (old r) + 2 ^ 64) (sym c.add_others.ensures.own) c.add_part.ensures.size in
+    λ k h g. ⊎_elim
+    (λ (e : k ≡ r). subst (λ (m : ℕ). unsigned_abs (new m) ≤ unsigned_abs (old m) + 2 ^ 64) (sym e) own)
+    (λ (l : r < k). subst (λ (z : ℤ). unsigned_abs (new k) ≤ unsigned_abs z + 2 ^ 64) (c.add_part.ensures.others (3 + r) (3 + k) (inr (apart r k l))) (c.add_others.ensures.sizes k l g))
+    (own_or_later r k h)
+
+pub add_others-requires-clause-sizes : goal.add_others-requires-clause-sizes
+add_others-requires-clause-sizes c =
+    let r : ℕ = c.args.r in
+    λ k l g. subst (λ (z : ℤ). unsigned_abs z ≤ MOST_PAIRS * 2 ^ 64) (sym (c.add_part.ensures.others (3 + r) (3 + k) (inr (apart r k l)))) (c.requires.sizes k (omega (arith, l)) g)

@@ -2,7 +2,7 @@ use Rattle.std.proofs.Common.{◌≡◌, ⊎_elim, ℕ, suc, ◌^◌, ◌<◌, �
 use Rattle.form_tables.specs.Tables.{item}
 use Rattle.elimination.specs.StepEntries.{is_small}
 use Rattle.elimination.specs.RowSteps.{left_after}
-use Rattle.elimination.proofs.three_steps.step_through_all.Goals as goal
+use Rattle.elimination.proofs.three_steps.far_through.Goals as goal
 
 pub three_others-requires-clause-entries : goal.three_others-requires-clause-entries
 three_others-requires-clause-entries c = λ k h g. subst (λ (z : ℤ). unsigned_abs z ≤ 2 ^ 52) (sym (c.three_shares.ensures.rest k (omega arith))) (c.requires.entries k (omega arith) g)

@@ -1,7 +1,7 @@
 use Rattle.std.proofs.Common.{◌≡◌, ℕ, arith, sym, ap, ◌∙◌}
 use Rattle.form_tables.specs.Tables.{item}
 use Rattle.elimination.specs.RowSteps.{left_after}
-use Rattle.elimination.proofs.three_steps.step_through.Goals as goal
+use Rattle.elimination.proofs.near_rows.step_through.Goals as goal
 
 pub step_through_all-requires-clause-positive : goal.step_through_all-requires-clause-positive
 step_through_all-requires-clause-positive c =
