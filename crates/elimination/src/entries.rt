@@ -72,12 +72,12 @@ fn within_52(x: i64) -> i64
     x.clamp(-(1 << 52), 1 << 52)
 }
 
-/// The share of 2^30 in the pivot a, to some 60 bits. It takes the one division of a step.
+/// The share of 2^30 in the pivot a, to some 62 bits. It takes the one division of a step.
 pub(crate) fn pivot_share(a: i128) -> PivotShare
     requires { pos 0 <ℤ a }
 {
-    // 29 more than the bits of a
-    let exponent = 157_u32.saturating_sub(a.leading_zeros()).min(90);
+    // 31 more than the bits of a
+    let exponent = 159_u32.saturating_sub(a.leading_zeros()).min(90);
     let whole = 1_i128 << (FACTOR_EXPONENT + exponent);
     PivotShare {
         ratio: within_62(whole / a),

@@ -6,10 +6,10 @@ ghost use Rattle.form_tables.specs.Matrices.{EntriesBelow};
 ghost use Rattle.integer_form.specs.Kept.{IsBelowDiagonal};
 ghost use Rattle.elimination.specs.NearShares.{IsShareOf, AreNearShares};
 ghost use Rattle.elimination.specs.StepEntries.{is_small};
-ghost use Rattle.elimination.specs.RowSteps.{left_entry, left_after, HasFactors};
+ghost use Rattle.elimination.specs.RowSteps.{left_own, left_entry, left_after, HasFactors};
 
-use crate::near_entries::{less_quotients, near_quotient, near_share};
-use crate::row_steps::{PivotRows, PivotTable, step_by_step, step_own, write_factor};
+use crate::near_entries::{less_quotients, near_factor, near_own, near_quotient, near_share};
+use crate::row_steps::{PivotRows, PivotTable, put_factor, step_by_step};
 use crate::shares::{NearShare, NearShares};
 use crate::three_steps::{far_through, three_left};
 use form_tables::{BASELINE_COLUMNS, FrontTable, MOST_COLUMNS};
@@ -133,6 +133,24 @@ fn near_others(
     true
 }
 
+/// Takes the own entry of row r through a step, by the share of its entry in the pivot; false where it is too large.
+fn near_own_step(row: &mut [i64; MOST_COLUMNS], r: usize, later: usize, near: &NearShare) -> bool
+    requires row_in { r < MOST_COLUMNS }
+    requires entry_size { unsigned_abs (item row.old r) ≤ 2 ^ 52 }
+    requires few { later ≤ MOST_COLUMNS }
+    ensures value { result ≡ true → item row.new r ≡ left_own (unsigned_abs near.now.a) later near.now.p (item row.old r) }
+    ensures small { result ≡ true → is_small (item row.new r) ≡ true }
+    ensures others { (c : ℕ) → c ≢ r → item row.new c ≡ item row.old c }
+{
+    match near_own(row[r], later, near) {
+        Some(own) => {
+            row[r] = own;
+            true
+        }
+        None => false,
+    }
+}
+
 /// Takes the own entry of row r through the step of column j, by the share of its entry in the pivot, and writes the row's factor;
 /// false where one of the two is too large.
 fn near_start(
@@ -158,11 +176,11 @@ fn near_start(
     ensures below { EntriesBelow (2 ^ 52) factors.new }
     ensures outside { IsBelowDiagonal columns factors.new }
 {
-    let share = near.share();
-    if !write_factor(factors, j, r, columns, near.p, near.a, &share) {
-        return false;
+    match near_factor(near) {
+        Some(factor) => put_factor(factors, j, r, columns, factor),
+        None => return false,
     }
-    step_own(row, r, near.p, near.a, columns - j - 1, &share)
+    near_own_step(row, r, columns - j - 1, near)
 }
 
 /// Takes the own entry of row r through the three steps, by the shares of its entries in the pivots, and writes its factors; false

@@ -94,7 +94,7 @@ fn count_times(n: i64, a: i64) -> i64
 }
 
 /// n / 2^shift downward.
-fn short_floor(n: i64, shift: u32) -> i64
+pub(crate) fn short_floor(n: i64, shift: u32) -> i64
     requires few { shift < 64 }
     ensures value { result ≡ floor_div n (2 ^ shift) }
     ensures size { unsigned_abs result ≤ unsigned_abs n }
@@ -123,7 +123,7 @@ fn short_loss(n: i64, a: i64) -> i64
 }
 
 /// A number that is below 2^52 in size.
-fn small_only(number: i64) -> Option<i64>
+pub(crate) fn small_only(number: i64) -> Option<i64>
     ensures value { IfSome result (λ x. x ≡ number) }
     ensures small { IfSome result (λ x. is_small x ≡ true) }
 {
@@ -168,6 +168,19 @@ fn long_own(entry: i64, p: i64, a: i64, later: usize, share: &Share) -> Option<i
     }
 }
 
+/// An own entry, less a square over a, the number of later columns and the loss of their factors, where that is below 2^52 in size.
+pub(crate) fn own_by(entry: i64, square: i64, a: i64, later: usize) -> Option<i64>
+    requires entry_size { unsigned_abs entry ≤ 2 ^ 52 }
+    requires square_size { unsigned_abs square ≤ 2 ^ 62 + 2 }
+    requires a_size { unsigned_abs a ≤ 2 ^ 52 }
+    requires few { later ≤ MOST_COLUMNS }
+    ensures value { IfSome result (λ x. x ≡ ((entry -ℤ square) -ℤ pos later) -ℤ ceil_div (pos later *ℤ a) (2 ^ 42)) }
+    ensures small { IfSome result (λ x. is_small x ≡ true) }
+{
+    let count = later as i64;
+    short_less_three(entry, square, count, short_loss(count, a))
+}
+
 /// An own entry, less p² / a upward, the number of later columns and the loss of their factors, with the share of p in a, where
 /// that is below 2^52 in size.
 pub(crate) fn own_left(entry: i64, p: i64, a: i64, later: usize, share: &Share) -> Option<i64>
@@ -181,10 +194,7 @@ pub(crate) fn own_left(entry: i64, p: i64, a: i64, later: usize, share: &Share) 
     ensures small { IfSome result (λ x. is_small x ≡ true) }
 {
     match square_share(p, a, share) {
-        Some(square) => {
-            let count = later as i64;
-            short_less_three(entry, square, count, short_loss(count, a))
-        }
+        Some(square) => own_by(entry, square, a, later),
         None => long_own(entry, p, a, later, share),
     }
 }

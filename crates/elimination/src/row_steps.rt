@@ -63,9 +63,26 @@ fn step_others(
     true
 }
 
+/// Writes a factor of column j in row r.
+pub(crate) fn put_factor(factors: &mut FrontTable, j: usize, r: usize, columns: usize, factor: i64)
+    requires column { j < BASELINE_COLUMNS }
+    requires row { j < r }
+    requires row_in { r < columns }
+    requires columns_in { columns ≤ MOST_COLUMNS }
+    requires small { is_small factor ≡ true }
+    requires below { EntriesBelow (2 ^ 52) factors.old }
+    requires outside { IsBelowDiagonal columns factors.old }
+    ensures value { entry factors.new r j ≡ factor }
+    ensures others { (i m : ℕ) → (i ≢ r) ⊎ (m ≢ j) → entry factors.new i m ≡ entry factors.old i m }
+    ensures below { EntriesBelow (2 ^ 52) factors.new }
+    ensures outside { IsBelowDiagonal columns factors.new }
+{
+    factors.set(r, j, factor);
+}
+
 /// Writes the factor of column j in row r, where p and a stand in the column and on the diagonal of the row of j; false where it
 /// is too large.
-pub(crate) fn write_factor(
+fn write_factor(
     factors: &mut FrontTable,
     j: usize,
     r: usize,
@@ -92,7 +109,7 @@ pub(crate) fn write_factor(
 {
     match factor_by(p, a, share) {
         Some(factor) => {
-            factors.set(r, j, factor);
+            put_factor(factors, j, r, columns, factor);
             true
         }
         None => false,
@@ -100,7 +117,7 @@ pub(crate) fn write_factor(
 }
 
 /// Takes the own entry of row r through a step with the pivot a, in whose row p stands; false where it is too large.
-pub(crate) fn step_own(
+fn step_own(
     row: &mut [i64; MOST_COLUMNS],
     r: usize,
     p: i64,

@@ -1,5 +1,5 @@
 //! Shares of entries in a pivot, about: by them quotients are guessed, and what is guessed is tested.
-ghost use Rattle.std.specs.Prelude.{◌^◌, ◌<◌, ◌≤◌, pos, ◌+ℤ◌, ◌-ℤ◌, ◌*ℤ◌, ◌<ℤ◌, ◌≤ℤ◌, unsigned_abs};
+ghost use Rattle.std.specs.Prelude.{◌^◌, ◌<◌, ◌≤◌, pos, ◌-ℤ◌, ◌*ℤ◌, ◌<ℤ◌, unsigned_abs};
 
 /// About 2^30 / a in units of 2^-exponent, for a pivot a. Nothing is said of it: what is guessed by it is tested.
 #[derive(Clone, Copy, Debug)]
@@ -26,21 +26,17 @@ pub(crate) struct RowShares {
     pub(crate) third: Share,
 }
 
-/// An entry p in the row of a pivot a, with p / a in units of 2^-52, which was seen to be near it.
+/// An entry p in the row of a pivot a, with p / a in units of 2^-61, which was seen to be within one of them.
 #[derive(Clone, Copy, Debug)]
 pub(crate) struct NearShare {
     pub(crate) ratio: i64,
     pub(crate) p: i64,
     pub(crate) a: i64,
-    /// Half of a, downward.
-    pub(crate) half: i64,
-    pub ghost ratio_in: { unsigned_abs ratio ≤ 2 ^ 60 },
+    pub ghost ratio_in: { unsigned_abs ratio ≤ 2 ^ 62 },
     pub ghost p_in: { unsigned_abs p ≤ 2 ^ 52 },
     pub ghost a_in: { unsigned_abs a ≤ 2 ^ 52 },
     pub ghost positive: { pos 0 <ℤ a },
-    pub ghost half_to: { (pos 2 *ℤ half) ≤ℤ a },
-    pub ghost half_from: { a ≤ℤ ((pos 2 *ℤ half) +ℤ pos 1) },
-    pub ghost near: { unsigned_abs ((ratio *ℤ a) -ℤ (pos (2 ^ 52) *ℤ p)) ≤ 2 ^ 60 },
+    pub ghost near: { unsigned_abs ((ratio *ℤ a) -ℤ (pos (2 ^ 61) *ℤ p)) ≤ unsigned_abs a },
 }
 
 /// The shares of a row's entries in the pivots of the baseline's columns, where all were seen to be near.
