@@ -81,6 +81,10 @@ with_lock line at (Some amount) = and_then (lock_of at (column line at)) (λ loc
 unfoldable pub value_in : List ℕ → ℕ → Result (Option Value) Flaw
 value_in line first = and_then (amount_in line first) (λ amount. with_lock line (first + 14) amount)
 
+-- what such a value makes of the values, in the slot of its type
+abbrev pub with_amount : List ℕ → ℕ → ObsType → List (Option Value) → Option ℤ → Result (List (Option Value)) Flaw
+with_amount line first kind values amount = and_then (with_lock line (first + 14) amount) (λ value. Ok (slice_set values (slot_of kind) value))
+
 -- the value in that column, if there is such a column, in the slot of its type
 abbrev pub set_in : List ℕ → ObsType → List (Option Value) → Option ℕ → Result (List (Option Value)) Flaw
 set_in line kind values None = Ok values

@@ -5,7 +5,7 @@
 //! refused at the column and for the reason of its first failing check: `BadField` where columns spell no number,
 //! `BadSat` at a satellite's name, `BadDate` at a date or time that is none, `Types` at a list's count, a name that stands
 //! twice or a line in the place of a further one, `Changed` at a line of an event that changes what the header says.
-//! `satellite` gives nothing for a satellite of another system, `value` nothing for a blank amount or for 0. After an `Err`
+//! `satellite` gives nothing for a satellite of another system; an amount that is blank or 0 is set as missing. After an `Err`
 //! of `set_values` no clause says which of the values are set. Only `kept_types` and `add_kept` take memory, and
 //! their `Err` means that there was none.
 //!
@@ -28,7 +28,7 @@ pub use header_line::HeaderLine;
 pub use labels::{Label, event_line, label_of_line};
 pub use layout::Layout;
 pub use offsets::{delta, position};
-pub use sat_fields::{satellite, set_values, value};
+pub use sat_fields::{satellite, set_values};
 pub use types::{
     KeptType, MOST_TYPES, TypeList, TypeNames, add_kept, first_types, further_types, kept_types,
     listed_types,

@@ -3,12 +3,12 @@ ghost use Rattle.std.specs.Prelude.{◌≡◌, ◌+◌, ◌≤◌, IfOk, IfSome,
 ghost use Rattle.decimal_text.specs.Fixed.{fixed_of};
 ghost use Rattle.rinex_head.specs.Columns.{columns};
 ghost use Rattle.rinex_head.specs.Systems.{last_number_of};
-ghost use Rattle.obs_fields.specs.SatFields.{is_letter, digit_of, number_at, letter_at, satellite_at, has_no_digit_above_0, amount_in, lock_of, value_in, values_in};
+ghost use Rattle.obs_fields.specs.SatFields.{is_letter, digit_of, number_at, letter_at, satellite_at, has_no_digit_above_0, unless_zero, amount_in, lock_of, with_amount, set_in, values_in};
 
 use crate::amounts::usual_amount;
 use crate::{KeptType, Layout};
 use decimal_text::NumberFault;
-use obs_store::{SatValues, Value};
+use obs_store::{ObsType, SatValues, Value};
 use rinex_head::{Flaw, System, What, bad_field, byte_in, field, fixed};
 
 fn bad_satellite(column: u32) -> Flaw
@@ -107,19 +107,24 @@ fn usual_amount_at(line: &[u8], first: usize) -> Option<i64>
     usual_amount(&line[first - 1..first + 13])
 }
 
+// One that is 0 is missing.
+fn unless_zero(amount: i64) -> Option<i64>
+    ensures { result ≡ unless_zero amount }
+{
+    if amount == 0 { None } else { Some(amount) }
+}
+
+// However it is spelled.
+#[inline(never)]
 #[tactic(auto, unfolding(crate::specs::SatFields::amount_in))]
 fn amount(line: &[u8], first: u32) -> Result<Option<i64>, Flaw>
     requires from_one { 1 ≤ first }
     requires near { first ≤ 4900 }
     ensures { result ≡ amount_in line.now first }
 {
-    if let Some(amount) = usual_amount_at(line, first as usize) {
-        return Ok(if amount == 0 { None } else { Some(amount) });
-    }
     let text = field::<14>(line, first as usize);
     match fixed(&text, 3) {
-        Ok(0) => Ok(None),
-        Ok(amount) => Ok(Some(amount)),
+        Ok(amount) => Ok(unless_zero(amount)),
         Err(NumberFault::Blank) => Ok(None),
         Err(NumberFault::TooManyPlaces) if is_all_zero(&text) => Ok(None),
         Err(_) => Err(bad_field(first)),
@@ -136,23 +141,45 @@ fn lock_digit(b: u8, at: u32) -> Result<u8, Flaw>
     }
 }
 
-/// The value in the 14 columns from this one on, and the digit after it.
-// Where it is called it is stored: an answer in memory would be read again right after its parts were written.
+// Sets the value of a type to an amount with the digit after it, which isn't looked at where the amount is missing. Each part goes
+// where it is stored: an answer in memory would be read again right after its parts were written.
 #[inline(always)]
-#[tactic(auto, unfolding(crate::specs::SatFields::value_in))]
-pub fn value(line: &[u8], first: u32) -> Result<Option<Value>, Flaw>
-    requires from_one { 1 ≤ first }
-    requires near { first ≤ 4900 }
-    ensures { result ≡ value_in line.now first }
+fn set_amount(
+    line: &[u8],
+    first: u32,
+    kind: ObsType,
+    amount: Option<i64>,
+    values: &mut SatValues,
+) -> Result<(), Flaw>
+    requires { first ≤ 4900 }
+    ensures ok { OnOk result (with_amount line.now first kind values.old amount ≡ Ok values.new) }
+    ensures err { IfErr result (λ flaw. with_amount line.now first kind values.old amount ≡ Err flaw) }
 {
-    match amount(line, first)? {
-        None => Ok(None),
+    match amount {
+        None => values.set(kind, None),
         Some(amount) => {
             let at = first + 14;
             let lock = lock_digit(byte_in(line, at as usize), at)?;
-            Ok(Some(Value { amount, lock }))
+            values.set(kind, Some(Value { amount, lock }));
         }
     }
+    Ok(())
+}
+
+// Sets the value of a type to that in the 14 columns from this one on, with the digit after it.
+#[inline(always)]
+#[tactic(auto, unfolding(crate::specs::SatFields::amount_in, crate::specs::SatFields::value_in))]
+fn set_value(line: &[u8], first: u32, kind: ObsType, values: &mut SatValues) -> Result<(), Flaw>
+    requires from_one { 1 ≤ first }
+    requires near { first ≤ 4900 }
+    ensures ok { OnOk result (set_in line.now kind values.old (Some first) ≡ Ok values.new) }
+    ensures err { IfErr result (λ flaw. set_in line.now kind values.old (Some first) ≡ Err flaw) }
+{
+    if let Some(usual) = usual_amount_at(line, first as usize) {
+        return set_amount(line, first, kind, unless_zero(usual), values);
+    }
+    let amount = amount(line, first)?;
+    set_amount(line, first, kind, amount, values)
 }
 
 /// Sets the values of the kept types that line number `at` of a satellite has, from 0. After an `Err` some of them may be set.
@@ -169,7 +196,7 @@ pub fn set_values(
 {
     for one in kept {
         match layout.value_column(at, one.number) {
-            Some(column) => values.set(one.kind, value(line, column)?),
+            Some(column) => set_value(line, column, one.kind, values)?,
             None => {}
         }
     }
