@@ -1,13 +1,12 @@
 -- A job whose files are there and admitted ends with status 0 or 1, and the other statuses come with their causes.
-use Rattle.std.proofs.Common.{◌≡◌, ◌≢◌, ◌⊎◌, inl, inr, ℕ, List, Option, Any, sym, ap, ◌∙◌, subst}
+use Rattle.std.proofs.Common.{◌≡◌, ◌≢◌, ◌⊎◌, inl, inr, ℕ, List, Option, sym, ap, ◌∙◌, subst}
 use Rattle.line_source.proofs.Faults.{stop_rose}
-use Rattle.line_source.specs.Openings.{Unread}
 use Rattle.line_source.specs.Causes.{Rose}
 use Rattle.job_answers.specs.declared.status.Status.{Status}
 use Rattle.job_answers.specs.declared.status.Status.TheVariants.{Usage, ReadFault, WriteFault, NoMemory}
 use Rattle.job_answers.specs.Statuses.{IsVerdictStatus, IsJobStatus}
-use Rattle.job_answers.specs.Endings.{Ending, IsRefusedFile}
-use Rattle.job_answers.specs.Delivered.{SinkChange, GainsUnlessFault, IsDelivered}
+use Rattle.job_answers.specs.Endings.{Ending}
+use Rattle.job_answers.specs.Delivered.{SinkChange}
 use Rattle.job_answers.specs.Works.{FileWork, EndsOver}
 use Rattle.job_answers.proofs.TextLaws.{text_status, text_verdict}
 use Rattle.session_files.proofs.SessionLaws.{session_status, session_verdict}
@@ -27,8 +26,6 @@ use Rattle.command_words.specs.declared.sims.Part.TheVariants as part
 use Rattle.command_words.specs.Words.{file_words, IsJob}
 use Rattle.command_words.proofs.OneJob.{one_job}
 use Rattle.sim_jobs.proofs.SimSays.{sim_status, sim_verdict}
-use Rattle.epoch_pair.specs.declared.faults.PairWhat.{PairWhat}
-use Rattle.session_files.specs.Refusals.{pair_line, HaveRefused, AreRefusedWhole}
 use Rattle.sim_jobs.proofs.RunSays.{sim_run_status, sim_run_verdict}
 use Rattle.baseline_app.specs.Jobs.{PartEnds, JobEnds, IsLineOf, IsReadable, IsAnswer}
 use Rattle.baseline_app.specs.Runs.{IsRun, IsComplete}
@@ -136,23 +133,3 @@ run_steady words work result out err run verdict = elim (run.written) [
   | inr (inl by_out) ↦ absurd (subst IsVerdictStatus by_out.fault verdict)
   | inr (inr by_err) ↦ absurd (subst IsVerdictStatus by_err.fault verdict)
 ]
-
--- ---- the refusal that is said
-told_file : (text_of : List ℕ → Option (List ℕ)) (left : Unread) (P Q : List ℕ → Type 0) (name : List ℕ)
-    → ((text : List ℕ) → P text → Q text) → IsRefusedFile text_of left P name → IsRefusedFile text_of left Q name
-told_file text_of left P Q name more (inl refused) = inl (record { at = refused.at; line = more _ refused.line; read = refused.read })
-told_file text_of left P Q name more (inr large) = inr (record { line = more _ large.line; large = large.large })
-
-told_any : (text_of : List ℕ → Option (List ℕ)) (left : Unread) (P Q : List ℕ → Type 0) (names : List (List ℕ))
-    → ((text : List ℕ) → P text → Q text) → Any (IsRefusedFile text_of left P) names ⊎ ((what : PairWhat) × P (pair_line what))
-    → Any (IsRefusedFile text_of left Q) names ⊎ ((what : PairWhat) × Q (pair_line what))
-told_any text_of left P Q names more (inl found) = inl (found.0, found.1, found.2, found.3, told_file text_of left P Q found.1 more found.4)
-told_any text_of left P Q names more (inr pair) = inr (pair.0, more _ pair.1)
-
--- a refusal that is written is that of the ending
-pub refused_told : (text_of : List ℕ → Option (List ℕ)) (left : Unread) (names : List (List ℕ)) (end : Ending) (result : Status)
-    (out err : SinkChange) → IsDelivered end result out err → AreRefusedWhole text_of left names end → HaveRefused text_of left names result (GainsUnlessFault err)
-refused_told text_of left names end result out err (inl written) refused = λ is.
-    told_any text_of left (λ text. end.err ≡ text) (GainsUnlessFault err) names (λ text same. subst (GainsUnlessFault err) same written.err_gains) (refused (sym written.same ∙ is))
-refused_told text_of left names end result out err (inr (inl by_out)) refused = λ is. absurd (cc (by_out.fault, is))
-refused_told text_of left names end result out err (inr (inr by_err)) refused = λ is. absurd (cc (by_err.fault, is))

@@ -1,7 +1,8 @@
 -- What each job does with its files.
-use Rattle.std.proofs.Common.{◌≡◌, ◌≢◌, ◌⊎◌, inl, inr, ℕ, suc, List, [], ◌∷◌, ◌++◌, Result, Ok, Err, Any, All, refl, sym, ap, ◌∙◌, subst, arith}
+use Rattle.std.proofs.Common.{◌≡◌, ◌≢◌, ◌⊎◌, inl, inr, ℕ, suc, List, [], ◌∷◌, ◌++◌, Result, Ok, Err, Any, All, refl, sym, ap, ◌∙◌, subst, append-nil, arith}
 use Rattle.line_source.specs.Causes.{Rose}
 use Rattle.line_source.specs.Openings.{names_of, OpensFirst}
+use Rattle.line_source.specs.Givens.{GivesFirst}
 use Rattle.line_source.proofs.OpeningLaws.{none_first}
 use Rattle.job_answers.specs.declared.output.JobOutput.{JobOutput}
 use Rattle.job_answers.specs.declared.stop.JobStop.{JobStop}
@@ -16,6 +17,7 @@ use Rattle.job_answers.specs.Works.{FileWork, AreAllRead, NamesFault, NoLine, En
 use Rattle.job_answers.specs.TextJobs.{TextJob, TextEnds}
 use Rattle.job_answers.proofs.EndingLaws.{ended_weaker, delivered_status}
 use Rattle.job_answers.proofs.WorkLaws.{none_opened, verdict_over}
+use Rattle.job_answers.proofs.KnownLaws.{none_given, no_more_given}
 use Rattle.command_words.specs.declared.jobs.Job.{Job}
 use Rattle.command_words.specs.declared.sims.Part.{Part}
 use Rattle.command_words.specs.Words.{file_words}
@@ -30,7 +32,7 @@ one_over : (work : FileWork) (names : List (List ℕ)) (IsLine : List ℕ → Ty
 one_over work names IsLine ends more end weaker over = record {
   ends_so = weaker over.ends_so;
   answered = over.answered;
-  refused = λ is. elim (over.refused is) [ inl file ↦ inl file | inr none ↦ absurd none.0 ];
+  refused = λ is. elim (over.refused is) [ inl file ↦ inl file | inr none ↦ absurd none.is ];
   fault = over.fault;
   named = over.named;
 }
@@ -42,6 +44,7 @@ text_asked work r text name word job asked is same words weaker done =
     let at_word : IsDoneOver work (word ∷ []) NoLine (TextEnds text work.text_of word) r = subst (λ (n : List ℕ). IsDoneOver work (n ∷ []) NoLine (TextEnds text work.text_of n) r) same done in
     let is_done : IsDoneOver work (word ∷ []) (IsLineOf asked) (JobEnds asked work.text_of) r = record {
       opened = at_word.opened;
+      given = at_word.given;
       ended = ended_weaker r _ _ (λ end over. one_over work (word ∷ []) (IsLineOf asked) (TextEnds text work.text_of word) (JobEnds asked work.text_of) end (weaker end) over) at_word.ended;
     } in
     subst (λ (j : Job). IsDoneOver work (file_words j) (IsLineOf j) (JobEnds j work.text_of) r) (sym is)
@@ -53,18 +56,19 @@ pub job_asked : (work : FileWork) (r : Result JobOutput JobStop) (job asked : Jo
 job_asked work r job asked is done = subst (λ (j : Job). IsDoneOver work (file_words j) (IsLineOf j) (JobEnds j work.text_of) r) (sym is) done
 
 -- a part of a simulated session opens none
-pub part_done : (work : FileWork) (r : Result JobOutput JobStop) (part : Part) (seed epochs sats bands system : ℕ) → work.left.openings ≡ work.openings
+pub part_done : (work : FileWork) (r : Result JobOutput JobStop) (part : Part) (seed epochs sats bands system : ℕ) → work.left.openings ≡ work.openings → work.left.given ≡ work.given
     → IfEnded r (PartEnds part seed epochs sats bands system) → IsDoneOver work [] NoLine (PartEnds part seed epochs sats bands system) r
-part_done work r part seed epochs sats bands system same ends =
-    let read : AreAllRead work [] = record { opened = ap names_of same ∙ none_opened work.openings; last = tt } in
+part_done work r part seed epochs sats bands system same unread ends =
+    let read : AreAllRead work [] = record { opened = ap names_of same ∙ none_opened work.openings; last = tt; whole = none_given work.given work.left.given (unread ∙ sym (append-nil work.given)) } in
     record {
       opened = none_first [] work.openings work.left.openings same;
+      given = no_more_given [] work.given work.left.given unread;
       ended = ended_weaker r _ _ (λ end so.
           verdict_over work [] NoLine (PartEnds part seed epochs sats bands system) end read (part_verdict part seed epochs sats bands system end so) so) ends;
     }
 
 -- ---- the fault that is named
-among : {X : Type 0} (P : X → Type 0) (earlier : List X) (x : X) (later : List X) → P x → Any P (earlier ++ x ∷ later)
+pub among : {X : Type 0} (P : X → Type 0) (earlier : List X) (x : X) (later : List X) → P x → Any P (earlier ++ x ∷ later)
 among P [] x later holds = (0, x, omega arith, refl, holds)
 among P (y ∷ ys) x later holds = let a = among P ys x later holds in (suc a.0, a.1, omega (arith, a.2), a.3, a.4)
 
@@ -80,9 +84,10 @@ none_sure work names line fault all =
 
 -- ---- what a run does with files
 files_over : (work : FileWork) (job : Job) (end : Ending) (result : Status) (out err : SinkChange) → OpensFirst (file_words job) work.openings work.left.openings
-    → EndsOver work (file_words job) (IsLineOf job) (JobEnds job work.text_of) end → IsDelivered end result out err → UsesFiles work (file_words job) result
-files_over work job end result out err opens over written = record {
+    → GivesFirst (file_words job) work.given work.left.given → EndsOver work (file_words job) (IsLineOf job) (JobEnds job work.text_of) end → IsDelivered end result out err → UsesFiles work (file_words job) result
+files_over work job end result out err opens gives over written = record {
   opened = opens;
+  given = gives;
   sure = λ all is. none_sure work (file_words job) end.err (over.named (delivered_status end result ReadFault out err written is (λ e. absurd (cc (e))))) all;
 }
 
@@ -92,10 +97,11 @@ no_memory_status result status out err = delivered_status (ending NoMemory [] no
 
 pub files_used : (work : FileWork) (job : Job) (r : Result JobOutput JobStop) (result : Status) (out err : SinkChange) → IsDoneOver work (file_words job) (IsLineOf job) (JobEnds job work.text_of) r
     → IsDelivered (end_of r) result out err → UsesFiles work (file_words job) result
-files_used work job (Ok a) result out err done written = files_over work job (ending_of a) result out err done.opened done.ended written
-files_used work job (Err (stop.Ended a)) result out err done written = files_over work job (ending_of a) result out err done.opened done.ended written
+files_used work job (Ok a) result out err done written = files_over work job (ending_of a) result out err done.opened done.given done.ended written
+files_used work job (Err (stop.Ended a)) result out err done written = files_over work job (ending_of a) result out err done.opened done.given done.ended written
 files_used work job (Err stop.NoMemory) result out err done written = record {
   opened = done.opened;
+  given = done.given;
   sure = λ all is. let status_is = no_memory_status result ReadFault out err written is (λ e. absurd (cc (e))) in absurd (cc (status_is));
 }
 

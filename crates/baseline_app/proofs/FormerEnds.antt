@@ -1,5 +1,5 @@
 -- What a job ends with now is what it ended with before, and what a run says with it.
-use Rattle.std.proofs.Common.{◌≡◌, ◌⊎◌, inl, inr, ℕ, List, Option, Result, true, refl, sym, ap, ◌∙◌, subst}
+use Rattle.std.proofs.Common.{◌≡◌, ◌⊎◌, inl, inr, ℕ, List, Option, Result, Any, true, refl, sym, ap, ◌∙◌, subst}
 use Rattle.rinex_head.specs.declared.place.At.{At}
 use Rattle.rinex_head.specs.declared.system.System.{System}
 use Rattle.rinex_head.specs.declared.system.System.TheVariants.{Gps}
@@ -24,14 +24,18 @@ use Rattle.session.specs.Answers.{IsBestAnswer}
 use Rattle.outcome_report.specs.OutcomeText.{is_fixed}
 use Rattle.job_answers.specs.declared.status.Status.{Status}
 use Rattle.job_answers.specs.declared.status.Status.TheVariants.{Refused, ReadFault}
+use Rattle.line_source.specs.Openings.{Unread}
+use Rattle.line_source.specs.Givens.{Given}
+use Rattle.epoch_pair.specs.declared.faults.PairWhat.{PairWhat}
+use Rattle.job_answers.specs.Endings as endings
 use Rattle.job_answers.specs.Endings.{Ending, EndsByFile, IsAdmitted}
 use Rattle.job_answers.specs.Delivered.{SinkChange, GainsUnlessFault, IsDelivered}
-use Rattle.job_answers.specs.Works.{FileWork, NamesFault, IsFaultOf}
+use Rattle.job_answers.specs.Works.{FileWork, RefusesOne, RefusesAll, NamesFault, IsFaultOf}
 use Rattle.job_answers.proofs.EndingLaws.{delivered_status}
 use Rattle.job_answers.specs.TextJobs.{TextJob, EndsOnText, IsTextAdmitted, form_job}
 use Rattle.session_files.specs.SessionFiles.{EndsBySession}
 use Rattle.session_files.specs.SessionJobs.{EndsOnFiles, IsPairLine}
-use Rattle.session_files.specs.Refusals.{IsPairRefused, HaveRefused}
+use Rattle.session_files.specs.Refusals.{pair_line, IsPairRefused}
 use Rattle.file_jobs.specs.Zero.{EndsByRows}
 use Rattle.file_jobs.specs.Listing.{EndsByObs}
 use Rattle.file_jobs.specs.Orbits.{EndsByRecords}
@@ -54,9 +58,9 @@ use Rattle.command_words.specs.declared.sims.Part.TheVariants as part
 use Rattle.command_words.specs.Words.{file_words, IsJob}
 use Rattle.baseline_app.specs.Jobs as present
 use Rattle.baseline_app.specs.Runs as runs
-use Rattle.baseline_app.specs.Former.{FormEnds, CertEnds, EndsWithOutcome, EndsWithTrack, PartEnds, JobEnds, IsCertAdmitted, IsFormerReadable, IsAnswer, IsRun, IsComplete, IsTold, HaveFault}
-use Rattle.baseline_app.proofs.Completes.{asked_ends, refused_told}
-use Rattle.baseline_app.proofs.Files.{fault_among}
+use Rattle.baseline_app.specs.Former.{FormEnds, CertEnds, EndsWithOutcome, EndsWithTrack, PartEnds, JobEnds, IsCertAdmitted, IsFormerReadable, IsAnswer, IsRun, IsComplete, IsTold, IsRefusedFile, HaveRefused, HaveFault}
+use Rattle.baseline_app.proofs.Completes.{asked_ends}
+use Rattle.baseline_app.proofs.Files.{among, fault_among}
 
 -- ---- by the text of one file
 ends_at : (text_of : List ℕ → Option (List ℕ)) (name : List ℕ) (P Q : List ℕ → Ending → Type 0) (end : Ending) → ((text : List ℕ) → P text end → Q text end) → EndsByFile text_of name P end
@@ -192,11 +196,32 @@ is_pair_line (job.CheckTrack cert) line none = absurd none
 is_pair_line (job.Arcs base rover nav options) line is = is
 is_pair_line (job.Sim part seed epochs sats bands system) line none = absurd none
 
+-- a refusal that is written is that of the ending
+file_told : (text_of : List ℕ → Option (List ℕ)) (before : List Given) (left : Unread) (name : List ℕ) (end : Ending) (reports : List ℕ → Type 0) → reports end.err
+    → endings.IsRefusedFile text_of before left name end → IsRefusedFile text_of left reports name
+file_told text_of before left name end reports said (inl refused) =
+    inl (record { at = refused.at; line = subst reports (ap (λ (e : Ending). e.err) refused.end_is) said; read = refused.read })
+file_told text_of before left name end reports said (inr large) =
+    inr (record { line = subst reports (ap (λ (e : Ending). e.err) large.large.end_is) said; large = large.large.large })
+
+refused_told : (work : FileWork) (j : Job) (end : Ending) (reports : List ℕ → Type 0) → reports end.err → RefusesOne work (file_words j) end ⊎ RefusesAll work (file_words j) (present.IsLineOf j) end
+    → Any (IsRefusedFile work.told work.left reports) (file_words j) ⊎ ((what : PairWhat) × reports (pair_line what))
+refused_told work j end reports said (inl one) =
+    inl (subst (Any (IsRefusedFile work.told work.left reports)) (sym one.among)
+    (among (IsRefusedFile work.told work.left reports) one.earlier one.name one.later (file_told work.told one.given work.left one.name end reports said one.refused)))
+refused_told work j end reports said (inr all) =
+    let pair = is_pair_line j all.line all.is in
+    inr (pair.0, subst reports (ap (λ (e : Ending). e.err) all.end_is ∙ pair.1) said)
+
 -- what its text names, err has gained unless it has a fault
 pub have_refused : (words : List (List ℕ)) (work : FileWork) (result : Status) (out err : SinkChange) → runs.IsRun words work result out err → (j : Job) → IsJob words j
-    → HaveRefused work.text_of work.left (file_words j) result (GainsUnlessFault err)
+    → HaveRefused work.told work.left (file_words j) result (GainsUnlessFault err)
 have_refused words work result out err run j asked = elim (asked_ends j words work run.end asked run.answer) [
-  | inl over ↦ refused_told work.text_of work.left (file_words j) run.end result out err run.written (λ is. elim (over.refused is) [ inl file ↦ inl file | inr line ↦ inr (is_pair_line j run.end.err line.0) ])
+  | inl over ↦ elim (run.written) [
+    | inl written ↦ λ is. refused_told work j run.end (GainsUnlessFault err) written.err_gains (over.refused (sym written.same ∙ is))
+    | inr (inl by_out) ↦ λ is. absurd (cc (by_out.fault, is))
+    | inr (inr by_err) ↦ λ is. absurd (cc (by_err.fault, is))
+  ]
   | inr none ↦ λ is. let status_is = delivered_status run.end result Refused out err run.written is (λ e. absurd (cc (e))) in absurd (cc (status_is, none))
 ]
 

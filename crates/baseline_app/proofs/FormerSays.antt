@@ -7,7 +7,7 @@ use Rattle.cert_data.specs.declared.verdicts.Verdict.{Verdict}
 use Rattle.cert_data.specs.declared.verdicts.Verdict.TheVariants.{Certified, Not}
 use Rattle.cert_spelling.specs.Spelling.{spelling}
 use Rattle.cert_spelling.specs.Lengths.{IsWhole}
-use Rattle.cert_check.specs.Verdicts.{IsVerdictOf, IsBestIn, IsBestByRatioIn, IsSameVerdict}
+use Rattle.cert_check.specs.Verdicts.{IsVerdictOf, IsBestIn, IsBestByRatioIn}
 use Rattle.cert_check.proofs.Visits.{rests_within}
 use Rattle.cert_report.specs.VerdictText.{verdict_text}
 use Rattle.cert_report.specs.Residuals.{has_vectors, residuals_text}
@@ -122,7 +122,7 @@ orbit_said text_of name system sat tag status out s = elim (s.answer.found) [
 
 -- ---- commands on a certificate
 check_verdict : (text_of : List ℕ → Option (List ℕ)) (name text : List ℕ) (c : Cert) (v : Verdict) (out : SinkChange) → IsTextOf text_of name text → IsWhole c → text ≡ spelling c
-    → IsVerdictOf c.session c.ratio c.budget c.tail v → ((w : Verdict) → IsVerdictOf c.session c.ratio c.budget c.tail w → IsSameVerdict w v)
+    → IsVerdictOf c.session c.ratio c.budget c.tail v → ((w : Verdict) → IsVerdictOf c.session c.ratio c.budget c.tail w → w ≡ v)
     → (v ≡ Certified → IsBestIn c.session c.tail) → (v ≡ Certified → IsBestByRatioIn c.ratio c.session c.tail) → Appends out.old out.new (verdict_text v)
     → SaysOfCheck text_of name (status_of v) out
 check_verdict text_of name text c Certified out is whole spelled verdict only best by_ratio written = record {
@@ -132,7 +132,7 @@ check_verdict text_of name text c Certified out is whole spelled verdict only be
   whole = whole;
   spelled = spelled;
   certified = verdict;
-  only = only;
+  only = λ w holds. inl (only w holds);
   visits = rests_within c.session c.ratio c.budget c.tail Certified verdict;
   best = best refl;
   by_ratio = by_ratio refl;
@@ -146,7 +146,7 @@ check_verdict text_of name text c (Not cause) out is whole spelled verdict only 
   spelled = spelled;
   cause = cause;
   not_certified = verdict;
-  only = only;
+  only = λ w holds. inl (only w holds);
   visits = rests_within c.session c.ratio c.budget c.tail (Not cause) verdict;
   printed = written;
 }
@@ -188,7 +188,7 @@ migrate_said text_of name status out s =
     }
 
 check_track_verdict : (text_of : List ℕ → Option (List ℕ)) (name text : List ℕ) (c : TrackCert) (v : Verdict) (out : SinkChange) → IsTextOf text_of name text → IsWholeTrackCert c
-    → text ≡ track_spelling c → IsVerdictOn c v → ((w : Verdict) → IsVerdictOn c w → IsSameVerdict w v) → (v ≡ Certified → IsBestFor c) → (v ≡ Certified → IsBestByItsRatio c)
+    → text ≡ track_spelling c → IsVerdictOn c v → ((w : Verdict) → IsVerdictOn c w → w ≡ v) → (v ≡ Certified → IsBestFor c) → (v ≡ Certified → IsBestByItsRatio c)
     → Appends out.old out.new (verdict_text v) → SaysOfCheckTrack text_of name (status_of v) out
 check_track_verdict text_of name text c Certified out is whole spelled verdict only best by_ratio written = record {
   text = text;
@@ -197,7 +197,7 @@ check_track_verdict text_of name text c Certified out is whole spelled verdict o
   whole = whole;
   spelled = spelled;
   certified = verdict;
-  only = only;
+  only = λ w holds. inl (only w holds);
   best = best refl;
   by_ratio = by_ratio refl;
   printed = written;
@@ -210,7 +210,7 @@ check_track_verdict text_of name text c (Not cause) out is whole spelled verdict
   spelled = spelled;
   cause = cause;
   not_certified = verdict;
-  only = only;
+  only = λ w holds. inl (only w holds);
   printed = written;
 }
 
@@ -252,7 +252,7 @@ fix_outcome text_of base rover nav o status out s printed true fixed =
       fix = fixed_answer.fix;
       by_ratio = fixed_answer.by_ratio;
       certified = fixed_answer.certified;
-      only = fixed_answer.only;
+      only = λ w holds. inl (fixed_answer.only w holds);
       stands = fixed_answer.stands;
       printed = subst (λ (t : Answer). Appends out.old out.new (answer_text t)) fixed_answer.answer_is printed;
     }
@@ -284,7 +284,7 @@ track_outcome text_of base rover nav o status out s printed true fixed =
       fix = fixed_answer.fix;
       by_ratio = fixed_answer.by_ratio;
       certified = fixed_answer.certified;
-      only = fixed_answer.only;
+      only = λ w holds. inl (fixed_answer.only w holds);
       stands = fixed_answer.stands;
       printed = subst (λ (t : TrackAnswer). Appends out.old out.new (track_answer_text t)) fixed_answer.answer_is printed;
     }

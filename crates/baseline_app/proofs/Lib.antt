@@ -4,3 +4,8 @@ pub mod Files
 pub mod FormerSays
 pub mod FormerEnds
 pub mod FormerLaws
+pub mod CallLaws
+pub mod FormerViews
+pub mod Agreements
+pub mod PrintedVectors
+pub mod PrintedArcs

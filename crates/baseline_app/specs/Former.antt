@@ -5,7 +5,7 @@ use Rattle.std.specs.declared.option.Option.{Option}
 use Rattle.std.specs.Io.KnownBytes.{Appends}
 use Rattle.line_source.specs.Lines.{lines_of}
 use Rattle.line_source.specs.Causes.{Rose}
-use Rattle.line_source.specs.Openings.{OpensFirst}
+use Rattle.line_source.specs.Openings.{OpensFirst, Unread, IsReadToEnd}
 use Rattle.gps_time.specs.declared.Tick.{Tick}
 use Rattle.rinex_head.specs.declared.place.At.{At}
 use Rattle.rinex_head.specs.declared.system.System.TheVariants.{Gps}
@@ -40,7 +40,7 @@ use Rattle.cert_lines.specs.declared.version.Version.TheVariants.{One}
 use Rattle.cert_spelling.specs.Spelling.{spelling}
 use Rattle.cert_spelling.specs.Lengths.{IsWhole, IsCertificate}
 use Rattle.cert_text.specs.Rules.{reading_of, reading_as}
-use Rattle.cert_check.specs.Verdicts.{IsVerdictOf, IsBestIn, IsBestByRatioIn, IsSameVerdict, IsGivenUp}
+use Rattle.cert_check.specs.Verdicts.{IsVerdictOf, IsBestIn, IsBestByRatioIn}
 use Rattle.cert_check.specs.Visits.{RestsWithin}
 use Rattle.cert_report.specs.VerdictText.{verdict_text}
 use Rattle.cert_report.specs.Residuals.{has_vectors, residuals_text}
@@ -63,12 +63,13 @@ use Rattle.track_job.specs.TrackTexts.{track_answer_text, IsWholeTrackAnswer, tr
 use Rattle.job_answers.specs.declared.status.Status.{Status}
 use Rattle.job_answers.specs.declared.status.Status.TheVariants.{Done, Declined, Refused, ReadFault, WriteFault, NoMemory}
 use Rattle.job_answers.specs.Statuses.{IsVerdictStatus}
-use Rattle.job_answers.specs.Texts.{refusal_line, read_fault_line, no_memory_line}
-use Rattle.job_answers.specs.Endings.{Ending, ending, IsTextOf, IsRefusal, EndsByFile, IsAdmitted}
+use Rattle.job_answers.specs.Texts.{refusal_line, too_large_line, read_fault_line, no_memory_line}
+use Rattle.job_answers.specs.Endings.{Ending, ending, IsTextOf, IsRefusal, EndsByFile, IsAdmitted, HasTooManyBytes}
 use Rattle.job_answers.specs.Delivered.{SinkChange, GainsUnlessFault, IsDelivered}
 use Rattle.job_answers.specs.Works.{FileWork}
 use Rattle.session_files.specs.SessionFiles.{AreFilesOf, EndsBySession}
-use Rattle.session_files.specs.Refusals.{IsPairRefused, HaveRefused}
+use Rattle.epoch_pair.specs.declared.faults.PairWhat.{PairWhat}
+use Rattle.session_files.specs.Refusals.{pair_line, IsPairRefused}
 use Rattle.session_files.specs.Admitted.{AreAdmitted}
 use Rattle.file_jobs.specs.Zero.{optimal_line, beaten_line, EndsByRows}
 use Rattle.file_jobs.specs.Listing.{EndsByObs}
@@ -94,6 +95,18 @@ use Rattle.command_words.specs.declared.sims.Part.TheVariants as part
 use Rattle.command_words.specs.Words.{file_words, IsJob}
 use Rattle.baseline_app.specs.Jobs.{AnswersUsage, IsReadable, SaysOfJob}
 use Rattle.baseline_app.specs.Runs as runs
+use Rattle.cert_data.specs.declared.verdicts.Cause.TheVariants as FormerCause
+use Rattle.integer_form.specs.declared.faults.Place.TheVariants.{Search}
+
+-- the search gave up
+abbrev pub IsGivenUp : Verdict → Type 0
+IsGivenUp (Not FormerCause.Spent) = Unit {0}
+IsGivenUp (Not (FormerCause.Overwidth Search)) = Unit {0}
+IsGivenUp _ = ⊥
+
+-- one verdict, but where a search gave up
+abbrev pub IsSameVerdict : Verdict → Verdict → Type 0
+IsSameVerdict v w = (v ≡ w) ⊎ (IsGivenUp v ⊎ IsGivenUp w)
 
 -- what is said with status 0, and what with status 1
 abbrev pub Said : Type 0 → Type 0 → Status → Type 0
@@ -441,9 +454,36 @@ pub record IsTold (sure : List ℕ → Type 0) (reports : List ℕ → Type 0) (
   pub line : reports (read_fault_line name)
   pub unsure : sure name → ⊥
 
+-- the file's refusal is reported, and the file was read to its end
+pub record IsReadAndRefused (text_of : List ℕ → Option (List ℕ)) (left : Unread) (reports : List ℕ → Type 0) (name : List ℕ) : Type 0 where
+  pub at : At
+  pub line : reports (refusal_line name at)
+  pub read : IsReadToEnd text_of left name
+
+-- it is reported that the file is too large, and it is
+pub record IsRefusedAsLarge (text_of : List ℕ → Option (List ℕ)) (reports : List ℕ → Type 0) (name : List ℕ) : Type 0 where
+  pub line : reports (too_large_line name)
+  pub large : HasTooManyBytes text_of name
+
+abbrev pub IsRefusedFile : (List ℕ → Option (List ℕ)) → Unread → (List ℕ → Type 0) → List ℕ → Type 0
+IsRefusedFile text_of left reports name = IsReadAndRefused text_of left reports name ⊎ IsRefusedAsLarge text_of reports name
+
+-- A refusal is that of one of the files, or of the two together.
+abbrev pub HaveRefused : (List ℕ → Option (List ℕ)) → Unread → List (List ℕ) → Status → (List ℕ → Type 0) → Type 0
+HaveRefused text_of left names status reports = status ≡ Refused → Any (IsRefusedFile text_of left reports) names ⊎ ((what : PairWhat) × reports (pair_line what))
+
 -- A read fault names one of these files, and none that can't fail.
 abbrev pub HaveFault : (List ℕ → Type 0) → List (List ℕ) → Status → (List ℕ → Type 0) → Type 0
 HaveFault sure names status reports = status ≡ ReadFault → Any (IsTold sure reports) names
+
+-- ---- by what is reported alone
+-- the same work, of whose texts nothing is known but what was told before
+abbrev pub told_work : FileWork → FileWork
+told_work work = record work { text_of = work.told }
+
+-- the same sink, by what it reports that it held and holds
+abbrev pub held_sink : SinkChange → SinkChange
+held_sink sink = record sink { old = sink.held; new = sink.holds }
 
 -- ---- the clauses
 -- what `run` says now
@@ -456,7 +496,7 @@ pub record SaysNow (words : List (List ℕ)) (work : FileWork) (result : Status)
 -- what it said
 pub record SaidBefore (words : List (List ℕ)) (work : FileWork) (result : Status) (out err : SinkChange) : Type 0 where
   pub run : IsRun words work.text_of result out err
-  pub refused : (job : Job) → IsJob words job → HaveRefused work.text_of work.left (file_words job) result (GainsUnlessFault err)
+  pub refused : (job : Job) → IsJob words job → HaveRefused work.told work.left (file_words job) result (GainsUnlessFault err)
   pub opened : (job : Job) → IsJob words job → OpensFirst (file_words job) work.openings work.left.openings
   pub sure : (job : Job) → IsJob words job → All work.sure (file_words job) → result ≢ ReadFault
   pub named : (job : Job) → IsJob words job → HaveFault work.sure (file_words job) result (GainsUnlessFault err)

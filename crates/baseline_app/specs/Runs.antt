@@ -3,6 +3,7 @@ use Rattle.std.specs.Prelude.{◌≡◌, ◌≢◌, ◌⊎◌, ℕ, List, [], Al
 use Rattle.std.specs.declared.option.Option.{Option}
 use Rattle.line_source.specs.Causes.{Rose}
 use Rattle.line_source.specs.Openings.{OpensFirst}
+use Rattle.line_source.specs.Givens.{GivesFirst}
 use Rattle.job_answers.specs.declared.status.Status.{Status}
 use Rattle.job_answers.specs.declared.status.Status.TheVariants.{ReadFault, WriteFault, Usage, NoMemory}
 use Rattle.job_answers.specs.Statuses.{number_of, IsVerdictStatus}
@@ -37,6 +38,7 @@ IsComplete job text_of result out err = EndsWell job text_of result out err ⊎ 
 -- where all are sure. What an answer, a refusal and a read fault say of them is a part of how the job ends (`EndsOver`).
 pub record UsesFiles (work : FileWork) (names : List (List ℕ)) (result : Status) : Type 0 where
   pub opened : OpensFirst names work.openings work.left.openings
+  pub given : GivesFirst names work.given work.left.given
   pub sure : All work.sure names → result ≢ ReadFault
 
 -- A run whose status the process ends with, as a number: all that is promised of a run, of this one. `same` says that the files are the same.

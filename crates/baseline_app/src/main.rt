@@ -1,6 +1,6 @@
-//! Reads a job from the words of the command line, and does it. `main` hands the system's words, files and sinks to `start`, which
-//! gives the number of the status of `run`, whose contract says all that is proved of the program; what `main` does with the
-//! system is outside of it.
+//! Reads a job from the words of the command line, and does it. `main` hands the system's words, files and streams to
+//! `start_on_host`, which gives the number of the status of `run`. Its contract says all that is proved of the program, of the
+//! bytes that its calls gave and took; what `main` does with the system is outside of it.
 //!
 //! A run answers words and bytes: the words ask for one job or for none, the job ends in a status and two texts that are
 //! definitions on the bytes of its files, and each sink gains a first part of its text, the whole text unless its count of
@@ -13,9 +13,10 @@
 //! does with its files is one clause (`files`, of `UsesFiles`): a first part of them is opened, each once and in order, and
 //! with sure names there is no read fault. The rest is a part of how the job ends (`run`, of `EndsOver`), whether or not the
 //! sinks take its texts: an answer, or a refusal of the two observation files together, which a session alone has, comes
-//! after all were opened and the last was read to its end; another refusal names a file that was read to its end or is too
-//! large; a read fault names one whose name isn't sure, the last that was opened or the one after it. Words without files
-//! leave all files as they are (`untouched`). Where all files of a job are there and of its form, and nothing fails, it ends
+//! after all were opened and each was read to its end; another refusal names the file that was opened last, which was read
+//! to its end or is too large, after each before it was read to its end; a read fault names one whose name isn't sure, the
+//! last that was opened or the one after it. The job ends so on the texts that files report or, where nothing is reported, on those that their reads gave. Words without files leave all files
+//! as they are (`untouched`). Where all files of a job are there and of its form, and nothing fails, it ends
 //! with status 0 or 1 and its text is written, or it is out of memory (`complete`); `sim` and `sim run` need no file for
 //! that.
 //!
@@ -28,7 +29,7 @@
 //! | `zero` | that every other whole number has a greater sum than the printed one | the rival with the least sum |
 //! | `list` | what the observation file holds, of RINEX 3 or of RINEX 2 | |
 //! | `orbit` | numbers that hold every solution of the satellite's equations, for the record chosen at the tick | that none is chosen |
-//! | `fix`, `track` | the certificate of a session that stands for the files, with integers that, with their move or moves, are strictly best and best by the ratio for all rational data in the printed boxes (`AnswersFix`, `AnswersTrack`) | the text of an outcome that is no fix, with its cause; a certificate still stands for the files, and with its rows the run could end in no other way, but where a search gave up |
+//! | `fix`, `track` | the certificate of a session that stands for the files, with integers that, with their move or moves, are strictly best and best by the ratio for all rational data in the printed boxes (`AnswersFix`, `AnswersTrack`) | the text of an outcome that is no fix, with its cause; a certificate still stands for the files, and with its rows the run could end in no other way |
 //! | `check`, `check-track` | `certified`, where the integers of the text are best in that sense | `not certified` and why |
 //! | `residuals` | what is left of each row's observations | that the certificate has no vectors |
 //! | `migrate` | the spelling of the lifted certificate, whose tail is fixed, and best in the printed boxes and in the old ones (`migrate_job`) | the same where its tail isn't fixed |
@@ -37,7 +38,8 @@
 //! | `sim run` | the four lines about a session that is fixed, of which holds what `fix` says of a fix; `match yes` exactly where its integers are the truth's | the four lines about one that isn't, of which holds what `fix` says of a decline |
 //!
 //! What `run` said in clauses of earlier forms follows from these (`former_law` of `laws`), and what the commands of `sim`
-//! have in common (`one_session_law`).
+//! have in common (`one_session_law`). A text has one verdict (`one_verdict_law`), what `fix` or `track` prints as fixed is
+//! certified (`checked_fix_law`), and a greater budget keeps that (`greater_budget_law`).
 //!
 //! # How a command is added
 //!
@@ -57,6 +59,7 @@ mod failing_tests;
 #[cfg(test)]
 mod fault_order_tests;
 mod laws;
+mod printed_laws;
 #[cfg(test)]
 mod tests;
 mod top;
@@ -77,5 +80,5 @@ fn main(rt: HostRuntime) -> ExitCode {
     let mut err = HostSink::new(rt.stderr());
     let alloc = rt.alloc();
     let mut files = HostFiles::new(rt);
-    ExitCode::from(top::start(alloc, words, &mut files, &mut out, &mut err))
+    ExitCode::from(top::start_on_host(alloc, words, &mut files, &mut out, &mut err))
 }

@@ -1,26 +1,28 @@
 //! The program over any files and sinks.
-ghost use Rattle.std.specs.Prelude.{◌≡◌, ◌⊎◌, [], ◌∷◌, All, IfOk, IsErr};
+ghost use Rattle.std.specs.Prelude.{◌≡◌, ◌<◌, ◌⊎◌, [], ◌∷◌, All, IfOk, IsErr};
 ghost use Rattle.line_source.specs.Causes.{Rose};
 ghost use Rattle.job_answers.specs.Statuses.{IsVerdictStatus};
 ghost use Rattle.job_answers.specs.Answers.{IfEnded};
 ghost use Rattle.job_answers.specs.Delivered.{sink_change, IsDelivered};
-ghost use Rattle.job_answers.specs.Works.{file_work, IsDoneOver};
+ghost use Rattle.job_answers.specs.Works.{known_between, file_work, IsDoneOver};
 ghost use Rattle.command_words.specs.declared.jobs.Job.{Job};
 ghost use Rattle.command_words.specs.Words.{texts_of, file_words, IsJob, IsInRange, IsSimInRange};
 ghost use Rattle.session_files.specs.SessionJobs.{SessionEnds, IsPairLine};
 ghost use Rattle.baseline_app.specs.Jobs.{PartEnds, JobEnds, IsLineOf, IsReadable, SaysOfJob, AnswersJob, AnswersUsage, stop_end, end_of};
+ghost use Rattle.baseline_app.specs.Calls.{AnswersByCalls, RefusesByCalls};
 ghost use Rattle.baseline_app.specs.Runs.{IsRun, UsesFiles, IsComplete, IsStarted, HasNoWords};
 
 use cert_jobs::{CertCheck, Migration, Residuals};
 use command_words::{Job, Part, Word, WordFault, read_words};
 use file_jobs::{Claim, Orbit, list};
 use job_answers::{JobOutput, JobStop, Status, answer_file, deliver, usage};
-use line_source::{Files, Sink};
+use line_source::{Files, HostFiles, HostSink, Sink};
 use run_options::Options;
 use session_files::{SessionCommand, answer_session};
 use session_jobs::{Fix, KeptArcs};
 use sim_jobs::{sim, sim_run};
 use std::alloc::{AllocError, Global};
+use std::io::Write;
 use track_job::{MovingRover, TrackCheck};
 
 // A command on the three files of a session by its words.
@@ -33,7 +35,7 @@ fn session_by_words<C: SessionCommand, F: Files>(
     nav: &Word,
     options: &Options,
 ) -> Result<JobOutput, JobStop>
-    ensures { IsDoneOver (file_work F.Files files.old files.new) (base.now ∷ rover.now ∷ nav.now ∷ []) IsPairLine (SessionEnds C.answers (F.text_of files.old) base.now rover.now nav.now options.now) result }
+    ensures { IsDoneOver (file_work F.Files files.old files.new) (base.now ∷ rover.now ∷ nav.now ∷ []) IsPairLine (SessionEnds C.answers (known_between F.Files files.old files.new) base.now rover.now nav.now options.now) result }
 {
     answer_session(
         alloc,
@@ -68,7 +70,7 @@ fn sim_part(
 // What the job ends with.
 fn do_job<F: Files>(alloc: Global, job: &Job, files: &mut F) -> Result<JobOutput, JobStop>
     requires { IsInRange job.now }
-    ensures done { IsDoneOver (file_work F.Files files.old files.new) (file_words job.now) (IsLineOf job.now) (JobEnds job.now (F.text_of files.old)) result }
+    ensures done { IsDoneOver (file_work F.Files files.old files.new) (file_words job.now) (IsLineOf job.now) (JobEnds job.now (known_between F.Files files.old files.new)) result }
     ensures untouched { file_words job.now ≡ [] → files.new ≡ files.old }
 {
     match job {
@@ -123,7 +125,7 @@ fn do_job<F: Files>(alloc: Global, job: &Job, files: &mut F) -> Result<JobOutput
 // What the words ask for, as far as memory goes.
 fn answer_of<F: Files>(alloc: Global, words: &[String], files: &mut F) -> Result<JobOutput, JobStop>
     ensures answer { IfEnded result (λ end. AnswersJob (texts_of words.now) (file_work F.Files files.old files.new) end ⊎ AnswersUsage (texts_of words.now) end) }
-    ensures done { (job : Job) → IsJob (texts_of words.now) job → IsDoneOver (file_work F.Files files.old files.new) (file_words job) (IsLineOf job) (JobEnds job (F.text_of files.old)) result }
+    ensures done { (job : Job) → IsJob (texts_of words.now) job → IsDoneOver (file_work F.Files files.old files.new) (file_words job) (IsLineOf job) (JobEnds job (known_between F.Files files.old files.new)) result }
     ensures untouched { ((job : Job) → IsJob (texts_of words.now) job → file_words job ≡ []) → files.new ≡ files.old }
 {
     match read_words(alloc, words) {
@@ -133,8 +135,7 @@ fn answer_of<F: Files>(alloc: Global, words: &[String], files: &mut F) -> Result
     }
 }
 
-/// What `main` calls: it does what the words ask for, where they could be had, and gives the number that the process ends
-/// with.
+/// It does what the words ask for, where they could be had, and gives the number that the process ends with.
 pub fn start<F: Files, O: Sink, E: Sink>(
     alloc: Global,
     words: Result<Vec<String>, AllocError>,
@@ -152,11 +153,41 @@ pub fn start<F: Files, O: Sink, E: Sink>(
     }
 }
 
+/// What `main` calls: `start` over the system's files and streams, of which nothing is reported but what their calls answered.
+///
+/// With the number 0 or 1 (`answer`) the bytes that the writes took are exactly the two texts that the words' job ends with on the
+/// bytes that the reads gave, of files that were opened under exactly the job's words, in this order, each read to its end. With
+/// the number 3 (`refusal`) they took nothing for `out`, and for `err` the line of a refusal by the bytes that were given, or a first
+/// part of it before a write failed. The line refuses the file that was opened last, which was read to its end or gave more bytes
+/// than a file may have, or all files together; each file before it was read to its end. The other clauses are those of `start`,
+/// for every status.
+pub fn start_on_host<R: std::rt::Files + Drop, O: Write + Drop, E: Write + Drop>(
+    alloc: Global,
+    words: Result<Vec<String>, AllocError>,
+    files: &mut HostFiles<R>,
+    out: &mut HostSink<O>,
+    err: &mut HostSink<E>,
+) -> u8
+    ensures answer { IfOk words (λ ws. (job : Job) → IsJob (texts_of ws.items) job → result < 2
+        → AnswersByCalls job result (⟦<HostFiles<R> as Files>⟧.given files.old) (⟦<HostFiles<R> as Files>⟧.given files.new)
+        (⟦<HostSink<O> as Sink>⟧.taken out.old) (⟦<HostSink<O> as Sink>⟧.taken out.new) (⟦<HostSink<E> as Sink>⟧.taken err.old) (⟦<HostSink<E> as Sink>⟧.taken err.new)) }
+    ensures refusal { IfOk words (λ ws. (job : Job) → IsJob (texts_of ws.items) job → result ≡ 3
+        → RefusesByCalls job (⟦<HostFiles<R> as Files>⟧.given files.old) (⟦<HostFiles<R> as Files>⟧.given files.new)
+        (⟦<HostSink<O> as Sink>⟧.taken out.old) (⟦<HostSink<O> as Sink>⟧.taken out.new) (sink_change ⟦<HostSink<E> as Sink>⟧ err.old err.new)) }
+    ensures started { IfOk words (λ ws. IsStarted (texts_of ws.items) (file_work ⟦<HostFiles<R> as Files>⟧ files.old files.new) (files.new ≡ files.old) result
+        (sink_change ⟦<HostSink<O> as Sink>⟧ out.old out.new) (sink_change ⟦<HostSink<E> as Sink>⟧ err.old err.new)) }
+    ensures no_files { IsErr words → files.new ≡ files.old }
+    ensures no_words { IsErr words → HasNoWords result (sink_change ⟦<HostSink<O> as Sink>⟧ out.old out.new) (sink_change ⟦<HostSink<E> as Sink>⟧ err.old err.new) }
+{
+    start(alloc, words, files, out, err)
+}
+
 /// Does what the words after the program's name ask for, and writes its two texts, `out` first.
 /// Words that ask for no job, or for one without files, leave the files as they are. The files under a first part of a job's
-/// file words are opened, each word once and in this order. An answer comes after all were opened and the last was read to its
-/// end. The file that a refusal names, in the text that is made for `err`, was read to its end, or is too large; the file that a
-/// read fault names there is none that can't fail, and the last that was opened or the one after it.
+/// file words are opened, each word once and in this order. An answer comes after all were opened and each was read to its end. The
+/// file that a refusal names, in the text that is made for `err`, was opened last, and read to its end or is too large; each before
+/// it was read to its end. The file that a read fault names there is none that can't fail, and the last that was opened or the one
+/// after it.
 pub fn run<F: Files, O: Sink, E: Sink>(
     alloc: Global,
     words: &[String],
@@ -171,10 +202,10 @@ pub fn run<F: Files, O: Sink, E: Sink>(
     ensures write { result ≡ Status.WriteFault → Rose (O.faults out.old) (O.faults out.new) ⊎ Rose (E.faults err.old) (E.faults err.new) }
     ensures steady { IsVerdictStatus result → (O.faults out.new ≡ O.faults out.old) × (E.faults err.new ≡ E.faults err.old) }
     ensures usage { result ≡ Status.Usage → (job : Job) → IsJob (texts_of words.now) job → ⊥ }
-    ensures output { (job : Job) → IsJob (texts_of words.now) job → IsVerdictStatus result → SaysOfJob job (F.text_of files.old) result (sink_change O.Sink out.old out.new) }
-    ensures complete { (job : Job) → IsJob (texts_of words.now) job → IsReadable job (F.text_of files.old)
+    ensures output { (job : Job) → IsJob (texts_of words.now) job → IsVerdictStatus result → SaysOfJob job (known_between F.Files files.old files.new) result (sink_change O.Sink out.old out.new) }
+    ensures complete { (job : Job) → IsJob (texts_of words.now) job → IsReadable job (known_between F.Files files.old files.new)
         → All (F.is_sure_name files.old) (file_words job) ⊎ (Rose (F.faults files.old) (F.faults files.new) → ⊥)
-        → IsComplete job (F.text_of files.old) result (sink_change O.Sink out.old out.new) (sink_change E.Sink err.old err.new) }
+        → IsComplete job (known_between F.Files files.old files.new) result (sink_change O.Sink out.old out.new) (sink_change E.Sink err.old err.new) }
 {
     write_answer(alloc, words, files, out, err)
 }

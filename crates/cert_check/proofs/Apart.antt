@@ -1,5 +1,5 @@
 -- What two decisions on the rows of a session can't be together, and what is the same of both.
-use Rattle.std.proofs.Common.{◌≡◌, ℕ, ℤ, pos, List, sym, ap, ◌∙◌, subst}
+use Rattle.std.proofs.Common.{◌≡◌, ℕ, ℤ, pos, List, sym, ap, ◌∙◌, subst, Err}
 use Rattle.obs_rows.specs.Signals.{fine_signals, counted}
 use Rattle.obs_rows.specs.declared.sessions.Session.{Session}
 use Rattle.integer_form.specs.declared.faults.LowerFault.{LowerFault}
@@ -8,6 +8,9 @@ use Rattle.integer_form.specs.FloatPoint.{HasWide}
 use Rattle.integer_form.specs.ReportedRefusals.{fault_of}
 use Rattle.int_search.specs.declared.answer.TwoBest.{TwoBest}
 use Rattle.int_search.specs.Answers.{IsTwoBest}
+use Rattle.int_search.specs.ReducedCounts.{HasAnswer, IsSearchEnd}
+use Rattle.int_search.specs.declared.answer.SearchFault.{SearchFault}
+use Rattle.int_search.proofs.EndLaws.{HaveSameColumns, no_fault, same_fault, end_as}
 use Rattle.fix_decide.specs.Widths.{AreWide}
 use Rattle.fix_decide.specs.Decisions.{IsFormOf, IsSeparated, first_of, move_of}
 use Rattle.cert_check.specs.Settled.{IsRefused, IsBaselineWide, IsSumWide}
@@ -26,6 +29,16 @@ pub no_form : (s : Session) (why : LowerFault) (f : Form) → IsRefused s why �
 no_form s why f a b =
     let whole = one_elimination s.arcs (counted s.signals s.scale) s.pairs b.normal a.normal f.h a.h b.of_rows a.of_rows b.lowered.exponent a.exponent in
     absurd (cc (a.reported.1.0, whole, b.lowered.taken))
+
+-- one form: its search ends alike
+same_columns : (s : Session) (f g : Form) → IsFormOf s f → IsFormOf s g → HaveSameColumns f g
+same_columns s f g a b = let form = same_form s f g a b in record { columns = form.columns; form = form.form }
+
+pub no_answer : (s : Session) (f g : Form) (budget : ℕ) (e : SearchFault) → IsFormOf s f → IsSearchEnd f budget (Err e) → IsFormOf s g → HasAnswer g budget → ⊥
+no_answer s f g budget e a x b y = no_fault g budget e y (end_as f g budget (Err e) (same_columns s f g a b) x)
+
+pub one_fault : (s : Session) (f g : Form) (budget : ℕ) (e d : SearchFault) → IsFormOf s f → IsSearchEnd f budget (Err e) → IsFormOf s g → IsSearchEnd g budget (Err d) → e ≡ d
+one_fault s f g budget e d a x b y = same_fault g budget e d (end_as f g budget (Err e) (same_columns s f g a b) x).1 y.1
 
 -- a move that is too large isn't another time narrow
 pub no_move : (s : Session) (f g : Form) (budget : ℕ) (b : TwoBest) → IsFormOf s f → IsBaselineWide f budget → IsFormOf s g → IsTwoBest g b → (HasWide (move_of g (first_of b)) → ⊥) → ⊥

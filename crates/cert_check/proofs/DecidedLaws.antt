@@ -14,7 +14,7 @@ use Rattle.integer_form.specs.Forms.{integers_of, columns_of, value_of}
 use Rattle.integer_form.specs.FloatPoint.{HasWide}
 use Rattle.int_search.specs.declared.answer.TwoBest.{TwoBest}
 use Rattle.int_search.specs.Answers.{IsTwoBest}
-use Rattle.int_search.specs.ReducedCounts.{KeepsBudget}
+use Rattle.int_search.specs.ReducedCounts.{KeepsBudget, HasAnswer}
 use Rattle.fix_decide.specs.Widths.{AreWide}
 use Rattle.fix_decide.specs.Decisions.{IsFormOf, IsSeparated, first_of, second_of, move_of}
 use Rattle.fix_decide.proofs.SessionForms.{integers_are, second_small, first_length, all_narrow}
@@ -40,12 +40,12 @@ told_best s h m best b top true t e same is = subst (IsBestWhereFixed s) (sym e)
 told_best s h m best b top false t e same is = subst (IsBestWhereFixed s) (sym e) tt
 
 -- a decision that is refused
-pub refused_decision : (s : Session) (f : Form) (budget : ℕ) (best : TwoBest) (place : Place) → IsTwoBest f best → KeepsBudget f budget best → (place ≡ Place.Float) ⊎ (place ≡ Place.Sum) →
+pub refused_decision : (s : Session) (f : Form) (budget : ℕ) (best : TwoBest) (place : Place) → IsTwoBest f best → KeepsBudget f budget best → HasAnswer f budget → (place ≡ Place.Float) ⊎ (place ≡ Place.Sum) →
     (place ≡ Place.Float → HasWide (move_of f (first_of best))) →
     (place ≡ Place.Sum → (HasWide (move_of f (first_of best)) → ⊥) × AreWide s.arcs (fine_signals s.signals) s.pairs (first_of best) (move_of f (first_of best))) →
     ((place ≡ Place.Search) × IsTooWide f budget) ⊎ (((place ≡ Place.Float) × IsBaselineWide f budget) ⊎ ((place ≡ Place.Sum) × IsSumWide s f budget))
-refused_decision s f budget best place two kept (inl e) wide sum = inr (inl (e, record { best = best; best_is = two; visits = kept; wide = wide e }))
-refused_decision s f budget best place two kept (inr e) wide sum = inr (inr (e, record { best = best; best_is = two; visits = kept; narrow = (sum e).0; wide = (sum e).1 }))
+refused_decision s f budget best place two kept answered (inl e) wide sum = inr (inl (e, record { best = best; best_is = two; visits = kept; answered = answered; wide = wide e }))
+refused_decision s f budget best place two kept answered (inr e) wide sum = inr (inr (e, record { best = best; best_is = two; visits = kept; answered = answered; narrow = (sum e).0; wide = (sum e).1 }))
 
 -- ---- the ranges of its numbers
 -- a value from -2^63 on, below one that is below 2^54

@@ -7,3 +7,4 @@ pub mod Visits
 pub mod Checked
 pub mod DecidedLaws
 pub mod WeakLaws
+pub mod MoreBudget

@@ -5,16 +5,18 @@ use Rattle.obs_rows.specs.declared.sessions.Session.{Session}
 use Rattle.integer_form.specs.declared.faults.LowerFault.{LowerFault}
 use Rattle.integer_form.specs.declared.faults.LowerFault.TheVariants as fault
 use Rattle.integer_form.specs.declared.faults.Place.{Place}
-use Rattle.integer_form.specs.declared.faults.Place.TheVariants.{Factor, Entry, Float, Search, Sum}
+use Rattle.integer_form.specs.declared.faults.Place.TheVariants.{Factor, Entry, Float, Sum}
 use Rattle.integer_form.specs.ReportedRefusals.{fault_of}
 use Rattle.cert_data.specs.declared.tails.Tail.{Tail}
 use Rattle.cert_data.specs.declared.verdicts.Verdict.{Verdict}
 use Rattle.cert_data.specs.declared.verdicts.Verdict.TheVariants.{Certified, Not}
 use Rattle.cert_data.specs.declared.verdicts.Cause.TheVariants as cause
 use Rattle.cert_check.specs.Settled.{IsRefused}
-use Rattle.cert_check.specs.Verdicts.{IsVerdictOf, IsGivenUp}
+use Rattle.int_search.specs.declared.answer.SearchFault.{SearchFault}
+use Rattle.int_search.specs.declared.answer.SearchFault.TheVariants.{Spent as SearchSpent, Overwidth as SearchOverwidth}
+use Rattle.cert_check.specs.Verdicts.{IsVerdictOf}
 use Rattle.cert_check.specs.Visits.{IsSearchedWithin, RestsWithin}
-use Rattle.cert_check.proofs.OneVerdict.{Ends, given_up, refused, wide_move, wide_sum, decided, verdict_of, rows_end}
+use Rattle.cert_check.proofs.OneVerdict.{Ends, given_up, refused, wide_move, wide_sum, decided, verdict_of, fault_verdict, rows_end}
 
 rests : (s : Session) (budget : ℕ) (v : Verdict) → IsSearchedWithin s budget → RestsWithin s budget v
 rests s budget Certified h = h
@@ -26,10 +28,9 @@ rests s budget (Not cause.Spent) h = tt
 rests s budget (Not cause.Unseparated) h = h
 rests s budget (Not cause.Tail) h = h
 
-gave_up : (s : Session) (budget : ℕ) (v : Verdict) → IsGivenUp v → RestsWithin s budget v
-gave_up s budget (Not cause.Spent) a = tt
-gave_up s budget (Not (cause.Overwidth Search)) a = tt
-gave_up s budget _ a = absurd a
+fault_rests : (s : Session) (budget : ℕ) (e : SearchFault) → RestsWithin s budget (fault_verdict e)
+fault_rests s budget SearchSpent = tt
+fault_rests s budget SearchOverwidth = tt
 
 -- no elimination is refused for the baseline or the upper sum
 other_place : (place : Place) (r : Refusal) → fault.Overwidth place ≡ fault_of r → (place ≡ Factor → ⊥) → (place ≡ Entry → ⊥) → ⊥
@@ -47,7 +48,7 @@ refusal_rests s budget (fault.Overwidth Sum) a = absurd (refused_place s Sum a (
 refusal_rests s budget (fault.Overwidth _) a = tt
 
 end_rests : (s : Session) (ratio budget : ℕ) (t : Tail) (v : Verdict) → Ends s ratio budget t v → RestsWithin s budget v
-end_rests s ratio budget t v (given_up a) = gave_up s budget v a
+end_rests s ratio budget t v (given_up f of_f e a is) = subst (RestsWithin s budget) (sym is) (fault_rests s budget e)
 end_rests s ratio budget t v (refused why a is) = subst (RestsWithin s budget) (sym is) (refusal_rests s budget why a)
 end_rests s ratio budget t v (wide_move f of_rows a is) = rests s budget v (record { form = f; of_rows = of_rows; best = a.best; best_is = a.best_is; visits = a.visits })
 end_rests s ratio budget t v (wide_sum f of_rows a is) = rests s budget v (record { form = f; of_rows = of_rows; best = a.best; best_is = a.best_is; visits = a.visits })

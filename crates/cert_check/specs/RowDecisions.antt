@@ -25,6 +25,12 @@ pub record IsDecidedByForm (s : Session) (ratio budget : ℕ) (tail : Tail) : Ty
 abbrev pub IsRowDecision : Session → ℕ → ℕ → Tail → Type 0
 IsRowDecision s ratio budget tail = IsDecidedByFault s tail ⊎ IsDecidedByForm s ratio budget tail
 
+-- a decision other than that the search ended without an answer: no greater budget changes it
+abbrev pub IsFinal : Tail → Type 0
+IsFinal (Overwidth place) = place ≡ Search → ⊥
+IsFinal (Spent budget) = ⊥
+IsFinal _ = Unit {0}
+
 -- ---- one decision
 abbrev pub IsSameTail : Tail → Tail → Type 0
 IsSameTail (Fixed h moved best top) (Fixed k other other_best over) = AreSameNumbers h k moved other best other_best top over
@@ -34,13 +40,3 @@ IsSameTail (Overwidth place) (Overwidth other) = place ≡ other
 IsSameTail (Unsettled entry) (Unsettled other) = entry ≡ other
 IsSameTail (Spent budget) (Spent other) = budget ≡ other
 IsSameTail _ _ = ⊥
-
--- the search gave up
-abbrev pub HasGivenUp : Tail → Type 0
-HasGivenUp (Spent budget) = Unit {0}
-HasGivenUp (Overwidth Search) = Unit {0}
-HasGivenUp _ = ⊥
-
--- one decision, but where a search gave up
-abbrev pub IsSameDecision : Tail → Tail → Type 0
-IsSameDecision t u = IsSameTail t u ⊎ (HasGivenUp t ⊎ HasGivenUp u)

@@ -1,5 +1,5 @@
 -- What the rows of a session are decided to say, once its form is known.
-use Rattle.std.specs.Prelude.{◌≡◌, ◌⊎◌, ℕ, List, ℤ, pos}
+use Rattle.std.specs.Prelude.{◌≡◌, ◌⊎◌, ℕ, List, ℤ, pos, Err}
 use Rattle.quadratic_form.specs.Lowering.{IsExponent}
 use Rattle.obs_rows.specs.declared.sessions.Session.{Session}
 use Rattle.obs_rows.specs.Signals.{fine_signals, counted}
@@ -15,7 +15,8 @@ use Rattle.integer_form.specs.ReportedRefusals.{IsReportedAs}
 use Rattle.lower_form.specs.Forms.{elimination_of}
 use Rattle.int_search.specs.declared.answer.TwoBest.{TwoBest}
 use Rattle.int_search.specs.Answers.{IsTwoBest, IsPlainCountOver, IsSearchTooWide}
-use Rattle.int_search.specs.ReducedCounts.{HasReducedCount, KeepsBudget}
+use Rattle.int_search.specs.ReducedCounts.{HasReducedCount, KeepsBudget, HasAnswer, IsSearchEnd}
+use Rattle.int_search.specs.declared.answer.SearchFault.TheVariants as SearchFault
 use Rattle.fix_decide.specs.UpperSums.{top as top_of}
 use Rattle.fix_decide.specs.Widths.{AreWide}
 use Rattle.fix_decide.specs.Decisions.{IsSeparated, first_of, move_of}
@@ -41,6 +42,7 @@ pub record AreFound (s : Session) (form : Form) (budget h : ℕ) (moved : List �
   pub h_is : h ≡ form.h
   pub best_is : IsTwoBest form best
   pub visits : KeepsBudget form budget best
+  pub answered : HasAnswer form budget
   pub moved_is : moved ≡ move_of form (first_of best)
   pub narrow : HasWide moved → ⊥
   pub top_is : top ≡ top_of form.h s.arcs (fine_signals s.signals) s.pairs (first_of best) moved
@@ -51,6 +53,7 @@ pub record IsBaselineWide (form : Form) (budget : ℕ) : Type 0 where
   pub best : TwoBest
   pub best_is : IsTwoBest form best
   pub visits : KeepsBudget form budget best
+  pub answered : HasAnswer form budget
   pub wide : HasWide (move_of form (first_of best))
 
 -- the upper sum at the least integers, which are found within the budget, is too wide
@@ -58,16 +61,17 @@ pub record IsSumWide (s : Session) (form : Form) (budget : ℕ) : Type 0 where
   pub best : TwoBest
   pub best_is : IsTwoBest form best
   pub visits : KeepsBudget form budget best
+  pub answered : HasAnswer form budget
   pub narrow : HasWide (move_of form (first_of best)) → ⊥
   pub wide : AreWide s.arcs (fine_signals s.signals) s.pairs (first_of best) (move_of form (first_of best))
 
--- the search ends without an answer, which it never does where the form has a reduced count within the budget: the plain
--- count is over the budget, or has something too wide
+-- The search ends without an answer (`IsSearchEnd`): it visits more suffixes than the budget, or comes to something too wide within it. Then
+-- the plain count is over the budget, or has something too wide, and the form has no reduced count within the budget.
 abbrev pub IsSpent : Form → ℕ → Type 0
-IsSpent form budget = IsPlainCountOver form budget × (HasReducedCount form budget → ⊥)
+IsSpent form budget = IsSearchEnd form budget (Err SearchFault.Spent) × (IsPlainCountOver form budget × (HasReducedCount form budget → ⊥))
 
 abbrev pub IsTooWide : Form → ℕ → Type 0
-IsTooWide form budget = IsSearchTooWide form budget × (HasReducedCount form budget → ⊥)
+IsTooWide form budget = IsSearchEnd form budget (Err SearchFault.Overwidth) × (IsSearchTooWide form budget × (HasReducedCount form budget → ⊥))
 
 -- What a fine session with this form is decided to say: the search is spent or too wide, or else the baseline is too wide,
 -- or else the upper sum, or else the second value is far enough above it or it isn't

@@ -1,8 +1,7 @@
 -- What a check says of the rows of a session and the tail of its text.
-use Rattle.std.specs.Prelude.{◌≡◌, ◌⊎◌, ℕ}
+use Rattle.std.specs.Prelude.{◌≡◌, ℕ}
 use Rattle.obs_rows.specs.declared.sessions.Session.{Session}
 use Rattle.obs_rows.specs.Best.{IsStrictlyBest}
-use Rattle.integer_form.specs.declared.faults.Place.TheVariants.{Search}
 use Rattle.fix_decide.specs.Decisions.{first_of}
 use Rattle.fix_decide.specs.Ratios.{IsBestByRatio}
 use Rattle.cert_data.specs.declared.tails.Tail.{Tail}
@@ -40,13 +39,3 @@ IsBestIn s _ = ⊥
 abbrev pub IsBestByRatioIn : ℕ → Session → Tail → Type 0
 IsBestByRatioIn ratio s (Fixed h moved best top) = IsBestByRatio ratio s (first_of best) moved
 IsBestByRatioIn ratio s _ = ⊥
-
--- the search gave up
-abbrev pub IsGivenUp : Verdict → Type 0
-IsGivenUp (Not cause.Spent) = Unit {0}
-IsGivenUp (Not (cause.Overwidth Search)) = Unit {0}
-IsGivenUp _ = ⊥
-
--- one verdict, but where a search gave up
-abbrev pub IsSameVerdict : Verdict → Verdict → Type 0
-IsSameVerdict v w = (v ≡ w) ⊎ (IsGivenUp v ⊎ IsGivenUp w)

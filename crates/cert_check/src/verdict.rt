@@ -2,7 +2,7 @@
 ghost use Rattle.std.specs.Prelude.{◌≡◌};
 ghost use Rattle.cert_data.specs.declared.verdicts.Verdict.{Verdict};
 ghost use Rattle.cert_data.specs.declared.verdicts.Verdict.TheVariants.{Certified};
-ghost use Rattle.cert_check.specs.Verdicts.{IsSaidOf, IsVerdictOf, IsBestIn, IsBestByRatioIn, IsSameVerdict};
+ghost use Rattle.cert_check.specs.Verdicts.{IsSaidOf, IsVerdictOf, IsBestIn, IsBestByRatioIn};
 
 use crate::decided::decide_rows;
 use crate::tails::says_numbers;
@@ -43,7 +43,7 @@ pub fn check(cert: &Cert) -> Verdict
     ensures verdict { IsVerdictOf cert.now.session cert.now.ratio cert.now.budget cert.now.tail result }
     ensures strictly_best { result ≡ Certified → IsBestIn cert.now.session cert.now.tail }
     ensures by_ratio { result ≡ Certified → IsBestByRatioIn cert.now.ratio cert.now.session cert.now.tail }
-    ensures only { (v : Verdict) → IsVerdictOf cert.now.session cert.now.ratio cert.now.budget cert.now.tail v → IsSameVerdict v result }
+    ensures only { (v : Verdict) → IsVerdictOf cert.now.session cert.now.ratio cert.now.budget cert.now.tail v → v ≡ result }
 {
     let decided = decide_rows(&cert.session, cert.ratio, cert.budget);
     said_of(&decided, &cert.tail)

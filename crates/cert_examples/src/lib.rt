@@ -1,4 +1,4 @@
-//! Certificates that are read, written and shown. There is nothing here but tests.
+//! Certificates that are read, written, lifted and shown. There is nothing here but tests.
 #![tactic(auto)]
 
 #[cfg(test)]
@@ -7,6 +7,10 @@ mod cert_lines_tests;
 mod cert_text_tests;
 #[cfg(test)]
 mod cert_words_tests;
+#[cfg(test)]
+mod old_cert_tests;
+#[cfg(test)]
+mod report_tests;
 #[cfg(test)]
 mod tests;
 #[cfg(test)]

@@ -32,7 +32,7 @@ fn text_of(
 }
 
 // The certificate of these lines.
-fn cert_of(
+pub(crate) fn cert_of(
     rt: &impl Abort,
     alloc: Global,
     budget: &str,

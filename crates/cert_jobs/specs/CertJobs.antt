@@ -9,7 +9,7 @@ use Rattle.grammar_lines.specs.Beginnings.{NoneBegins}
 use Rattle.cert_text.specs.BeforePairs.{BeginsBefore}
 use Rattle.cert_text.specs.Rules.{reading_of}
 use Rattle.cert_spelling.specs.Lengths.{IsWhole, IsCertificate}
-use Rattle.cert_check.specs.Verdicts.{IsVerdictOf, IsBestIn, IsBestByRatioIn, IsSameVerdict}
+use Rattle.cert_check.specs.Verdicts.{IsVerdictOf, IsBestIn, IsBestByRatioIn}
 use Rattle.cert_report.specs.VerdictText.{verdict_text}
 use Rattle.cert_report.specs.Residuals.{has_vectors, residuals_text}
 use Rattle.job_answers.specs.declared.status.Status.{Status}
@@ -40,13 +40,12 @@ status_of Certified = Done
 status_of (Not cause) = Declined
 
 -- The rows are decided again, within the certificate's budget, and the tail is compared with what they say. No other
--- verdict holds of them, but where a search gave up. Where it is `Certified`, each other integer vector, with any baseline,
--- has a greater sum of squares for all data in the boxes of the rows, and one that is greater by the certificate's ratio,
--- whoever wrote it.
+-- verdict holds of them. Where it is `Certified`, each other integer vector, with any baseline, has a greater sum of
+-- squares for all data in the boxes of the rows, and one that is greater by the certificate's ratio, whoever wrote it.
 pub record CheckEnd (cert : Cert) (end : Ending) : Type 0 where
   pub verdict : Verdict
   pub is : IsVerdictOf cert.session cert.ratio cert.budget cert.tail verdict
-  pub only : (v : Verdict) → IsVerdictOf cert.session cert.ratio cert.budget cert.tail v → IsSameVerdict v verdict
+  pub only : (v : Verdict) → IsVerdictOf cert.session cert.ratio cert.budget cert.tail v → v ≡ verdict
   pub best : verdict ≡ Certified → IsBestIn cert.session cert.tail
   pub by_ratio : verdict ≡ Certified → IsBestByRatioIn cert.ratio cert.session cert.tail
   pub end_is : end ≡ ending (status_of verdict) (verdict_text verdict) []

@@ -3,7 +3,7 @@
 //!
 //! `check`: `certified` comes only where the rows are fixed, the tail says so with the same numbers, and the integers
 //! with the move are strictly best, and best by the ratio; each other answer has its cause; and no other verdict's
-//! condition holds, but where a search gave up. The text is the spelling of that certificate alone. `residuals`: the
+//! condition holds. The text is the spelling of that certificate alone. `residuals`: the
 //! printed numbers are those of the rows at the tail's first integers, or there are none. What `migrate` says stands at
 //! the head of its module.
 #![tactic(auto)]

@@ -3,8 +3,8 @@
 //! The text is the old spelling of one certificate, or it is refused at the first line and check of the old grammar that
 //! fails. What is written is the spelling of the lifted certificate, of which all of cert_migrate's law holds: its boxes
 //! hold the old ones' data, its sums of squares are the old ones in the present unit, its tail is the decision of its own
-//! rows, the only one but where a search gave up, and what is fixed is strictly best, and best by the ratio, in the old
-//! boxes and in the printed ones. The status is 0 exactly where that tail is fixed, else 1.
+//! rows, the only one, and what is fixed is strictly best, and best by the ratio, in the old boxes and in the printed
+//! ones. The status is 0 exactly where that tail is fixed, else 1.
 ghost use Rattle.std.specs.Prelude.{◌≡◌, IfOk};
 ghost use Rattle.job_answers.specs.Statuses.{IsVerdictStatus};
 ghost use Rattle.job_answers.specs.Answers.{ending_of};

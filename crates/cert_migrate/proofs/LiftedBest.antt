@@ -2,7 +2,7 @@
 use Rattle.std.proofs.Common.{◌≡◌, ℕ, ◌*◌, ◌^◌, if◌then◌else◌, ◌==◌, List, [], ◌∷◌, ℤ, pos, ◌*ℤ◌, refl, sym, ap, ap₂, ◌∙◌, subst}
 use Rattle.whole_math.proofs.Ring.{◌⊗◌}
 use Rattle.whole_math.proofs.Inequalities.{same_by, nat, pos_nn}
-use Rattle.rational.specs.Rational.{Rational, ◌≈◌, ◌<ʳ◌, mul_r, times}
+use Rattle.rational.specs.Rational.{Rational, ◌≈◌, ◌<ʳ◌, ◌*ʳ◌, times}
 use Rattle.obs_rows.specs.declared.arcs.Arc.{Arc}
 use Rattle.obs_rows.specs.declared.sessions.Session.{Session}
 use Rattle.obs_rows.specs.declared.units.TheConstants.{COARSE_SIGNALS}
@@ -49,7 +49,7 @@ best_lifted old s z m i best = record {
       subst (λ (counted_signals_are : List ℕ). sum_of_squares s.arcs counted_signals_are s.pairs z (moved m) (scaled observed) <ʳ sum_of_squares s.arcs counted_signals_are s.pairs w (scaled_baseline b) (scaled observed)) counted_signals_are
       (best.best (scaled observed) (subst (λ (counted_signals_are : List ℕ). AreData counted_signals_are s.pairs (scaled observed)) (sym counted_signals_are) (data_scaled old s i observed held)) w (entries ∙ sym (integers_are old s i)) other
       (scaled_baseline b)) in
-      less_back (mul_r unit_ratio unit_ratio) (old_sum old.arcs old.pairs z (in_old_unit m) observed) (old_sum old.arcs old.pairs w b observed)
+      less_back (unit_ratio *ʳ unit_ratio) (old_sum old.arcs old.pairs z (in_old_unit m) observed) (old_sum old.arcs old.pairs w b observed)
       (sum_of_squares s.arcs (fine_signals s.signals) s.pairs z (moved m) (scaled observed)) (sum_of_squares s.arcs (fine_signals s.signals) s.pairs w (scaled_baseline b) (scaled observed))
       (pos_nn 529) (sum_lifted old s z (in_old_unit m) (moved m) observed i (move_scaled m)) (sum_lifted old s w b (scaled_baseline b) observed i (baseline_scaled b)) new;
 }
@@ -64,7 +64,7 @@ best_where_fixed old s (Spent budget) i d = tt
 
 -- ---- by the ratio
 -- n times what is scaled
-times_scaled : (n : ℕ) (f p q : Rational) → q ≈ mul_r f p → times n q ≈ mul_r f (times n p)
+times_scaled : (n : ℕ) (f p q : Rational) → q ≈ f *ʳ p → times n q ≈ f *ʳ times n p
 times_scaled n f p q e = step (pos n) q.num (pos (f.den * p.den)) f.num p.num (pos q.den) e
   where
     step : (n a d b c e : ℤ) → a *ℤ d ≡ (b *ℤ c) *ℤ e → (n *ℤ a) *ℤ d ≡ (b *ℤ (n *ℤ c)) *ℤ e
@@ -77,7 +77,7 @@ ratio_lifted : (old : OldSession) (s : Session) (ratio : ℕ) (z m : List ℤ) �
 ratio_lifted old s ratio z m i best = record {
   entries = best.entries ∙ integers_are old s i;
   best = λ observed held w entries other b.
-      let factor : Rational = mul_r unit_ratio unit_ratio in
+      let factor : Rational = unit_ratio *ʳ unit_ratio in
       let counted_signals_are = counted_are s i.scale in
       let ours : Rational = sum_of_squares s.arcs (fine_signals s.signals) s.pairs z (moved m) (scaled observed) in
       let theirs : Rational = sum_of_squares s.arcs (fine_signals s.signals) s.pairs w (scaled_baseline b) (scaled observed) in

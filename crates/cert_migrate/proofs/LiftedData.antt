@@ -2,7 +2,7 @@
 use Rattle.std.proofs.Common.{◌≡◌, ℕ, List, [], ◌∷◌, map, All, ℤ, arith, sym, ap, subst}
 use Rattle.std.specs.List.{AllZip}
 use Rattle.std.proofs.lemmas.List.Elements.{All-from_recursion}
-use Rattle.rational.specs.Rational.{Rational, Near, mul_r}
+use Rattle.rational.specs.Rational.{Rational, Near, ◌*ʳ◌}
 use Rattle.obs_rows.specs.declared.bands.Signals.{Signals}
 use Rattle.obs_rows.specs.declared.rows.Row.{Row}
 use Rattle.obs_rows.specs.declared.pair_rows.PairRows.{PairRows}
@@ -25,9 +25,9 @@ same_near c c' r r' k q e f h = subst (λ (x : List ℤ). Near (at x k) (at r' k
 
 row_in_boxes : (o : OldRow) (r : Row) (q : OldObserved) → IsLiftedRow o r → IsInOldBoxes o q → IsInBoxes old_signals r (scaled_row q)
 row_in_boxes o r q i h =
-    let near_in_old : List ℤ → ℤ → Type 0 = λ ys ry. All (λ (s : ℕ). Near (at ys s) ry (mul_r unit_ratio (q.y s))) old_signals in
-    let near_in_new : ℕ → Type 0 = λ s. Near (at (lifted_ys o.y) s) (lifted_radius o.ry) (mul_r unit_ratio (q.y s)) in
-    let each : (s : ℕ) → Near (at o.y s) o.ry (q.y s) → Near (lifted_y (at o.y s)) (lifted_radius o.ry) (mul_r unit_ratio (q.y s)) = λ s. near_lifted (at o.y s) o.ry (q.y s) in
+    let near_in_old : List ℤ → ℤ → Type 0 = λ ys ry. All (λ (s : ℕ). Near (at ys s) ry (unit_ratio *ʳ q.y s)) old_signals in
+    let near_in_new : ℕ → Type 0 = λ s. Near (at (lifted_ys o.y) s) (lifted_radius o.ry) (unit_ratio *ʳ q.y s) in
+    let each : (s : ℕ) → Near (at o.y s) o.ry (q.y s) → Near (lifted_y (at o.y s)) (lifted_radius o.ry) (unit_ratio *ʳ q.y s) = λ s. near_lifted (at o.y s) o.ry (q.y s) in
     let four : near_in_old (lifted_ys o.y) (lifted_radius o.ry) =
     All-from_recursion near_in_new old_signals (each 0 (h.y 0 0 (omega arith)), (each 1 (h.y 1 0 (omega arith)), (each 2 (h.y 2 0 (omega arith)), (each 3 (h.y 3 0 (omega arith)), tt)))) in
     record {

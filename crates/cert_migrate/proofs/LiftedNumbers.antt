@@ -8,12 +8,12 @@ use Rattle.whole_math.proofs.Order.{mul_le_right}
 use Rattle.whole_math.proofs.Inequalities.{pos_nn, same_by, nat}
 use Rattle.whole_math.proofs.Rounding.{nearest_is, ceil_is}
 use Rattle.whole_math.specs.Rounding.{nearest_div, ceil_div, IsNearest, IsCeil}
-use Rattle.rational.specs.Rational.{Rational, mul_r, Near}
+use Rattle.rational.specs.Rational.{Rational, ◌*ʳ◌, Near}
 use Rattle.obs_rows.specs.Ranges.{IsWithin, IsRadius}
 use Rattle.cert_migrate.specs.Lifted.{lifted_y, lifted_radius, unit_ratio}
 
 -- The nearest alone misses the scaled centre by up to 1/2, which the 1 of the radius takes up.
-pub near_lifted : (y ry : ℤ) (q : Rational) → Near y ry q → Near (lifted_y y) (lifted_radius ry) (mul_r unit_ratio q)
+pub near_lifted : (y ry : ℤ) (q : Rational) → Near y ry q → Near (lifted_y y) (lifted_radius ry) (unit_ratio *ʳ q)
 near_lifted y ry q h =
     let p : ℤ = nearest_div (pos 23 *ℤ y) 32 in
     let c : ℤ = ceil_div (pos 23 *ℤ ry) 32 in

@@ -4,7 +4,7 @@ use Rattle.std.specs.List.{AllZip}
 use Rattle.std.proofs.lemmas.Slice.Zip.{AllZip-long}
 use Rattle.whole_math.proofs.Ring.{◌⊗◌}
 use Rattle.whole_math.proofs.Inequalities.{same_by, nat}
-use Rattle.rational.specs.Rational.{Rational, ◌≈◌, of_whole, mul_r}
+use Rattle.rational.specs.Rational.{Rational, ◌≈◌, of_whole, ◌*ʳ◌}
 use Rattle.quadratic_form.specs.RationalData.{Baseline, spread_of_rationals}
 use Rattle.obs_rows.specs.declared.arcs.Arc.{Arc}
 use Rattle.obs_rows.specs.declared.rows.Row.{Row}
@@ -29,19 +29,19 @@ record IsSameSignal (arcs : List OldArc) (z : List ℤ) (s : ℕ) : Type 0 where
   weight_is : weight s ≡ old_weight s
   integer_is : (k : ℕ) → integer (map lifted_arc arcs) old_signals z k s ≡ old_integer arcs z k s
 
-cycles_scaled : (c o n : ℤ) → pos 32 *ℤ c ≡ pos 23 *ℤ o → of_whole (c *ℤ n) ≈ mul_r unit_ratio (of_whole (o *ℤ n))
+cycles_scaled : (c o n : ℤ) → pos 32 *ℤ c ≡ pos 23 *ℤ o → of_whole (c *ℤ n) ≈ unit_ratio *ʳ of_whole (o *ℤ n)
 cycles_scaled c o n e =
     same_by (c ∷ n ∷ []) (λ c n. ((c ⊗ n) ⊗ nat 32, (nat 32 ⊗ c) ⊗ n)) refl
     ∙ ap (λ (x : ℤ). x *ℤ n) e
     ∙ same_by (o ∷ n ∷ []) (λ o n. ((nat 23 ⊗ o) ⊗ n, (nat 23 ⊗ (o ⊗ n)) ⊗ nat 1)) refl
 
 row_scaled : (arcs : List OldArc) (z : List ℤ) (b c : Baseline) (s : ℕ) (o : OldRow) (r : Row) (q : OldObserved) → IsSameSignal arcs z s → AreScaledBaselines unit_ratio b c → IsLiftedRow o r
-    → residual (map lifted_arc arcs) old_signals z c s r (scaled_row q) ≈ mul_r unit_ratio (old_residual arcs z b s o q)
+    → residual (map lifted_arc arcs) old_signals z c s r (scaled_row q) ≈ unit_ratio *ʳ old_residual arcs z b s o q
 row_scaled arcs z b c s o r q same h i =
     let old_number : ℤ = old_integer arcs z o.arc s in
     let there : integer (map lifted_arc arcs) old_signals z r.arc s ≡ old_number = ap (λ (k : ℕ). integer (map lifted_arc arcs) old_signals z k s) i.arc ∙ same.integer_is o.arc in
-    let cycles : of_whole (cycle s *ℤ integer (map lifted_arc arcs) old_signals z r.arc s) ≈ mul_r unit_ratio (of_whole (old_cycle s *ℤ old_number)) =
-    subst (λ (m : ℤ). of_whole (cycle s *ℤ m) ≈ mul_r unit_ratio (of_whole (old_cycle s *ℤ old_number))) (sym there) (cycles_scaled (cycle s) (old_cycle s) old_number same.cycle_is) in
+    let cycles : of_whole (cycle s *ℤ integer (map lifted_arc arcs) old_signals z r.arc s) ≈ unit_ratio *ʳ of_whole (old_cycle s *ℤ old_number) =
+    subst (λ (m : ℤ). of_whole (cycle s *ℤ m) ≈ unit_ratio *ʳ of_whole (old_cycle s *ℤ old_number)) (sym there) (cycles_scaled (cycle s) (old_cycle s) old_number same.cycle_is) in
     residual_scaled unit_ratio b c (q.y s) q.u1 q.u2 q.u3 (old_cycle s *ℤ old_number) (cycle s *ℤ integer (map lifted_arc arcs) old_signals z r.arc s) h cycles
 
 rows_scaled : (arcs : List OldArc) (z : List ℤ) (b c : Baseline) (s : ℕ) (os : List OldRow) (rs : List Row) (qs : List OldObserved) → IsSameSignal arcs z s → AreScaledBaselines unit_ratio b c
@@ -57,17 +57,17 @@ shares_same m n s e f = ap₂ (λ (k : ℕ) (w : ℤ). pos (360360 / k) *ℤ w) 
 
 signal_scaled : (arcs : List OldArc) (z : List ℤ) (b c : Baseline) (o : OldPair) (p : PairRows) (qs : List OldObserved) (s : ℕ) → IsSameSignal arcs z s
     → AreScaledBaselines unit_ratio b c → IsLiftedPair o p
-    → term (map lifted_arc arcs) old_signals z c p (map scaled_row qs) s ≈ mul_r (mul_r unit_ratio unit_ratio) (old_term arcs z b o qs s)
+    → term (map lifted_arc arcs) old_signals z c p (map scaled_row qs) s ≈ unit_ratio *ʳ unit_ratio *ʳ old_term arcs z b o qs s
 signal_scaled arcs z b c o p qs s same h i =
     let new : List Rational = residuals (map lifted_arc arcs) old_signals z c s p.rows (map scaled_row qs) in
     let old : List Rational = old_residuals arcs z b s o.rows qs in
-    subst (λ (w : ℤ). mul_r (of_whole w) (spread_of_rationals new) ≈ mul_r (mul_r unit_ratio unit_ratio) (mul_r (of_whole (old_share (length o.rows) s)) (spread_of_rationals old)))
+    subst (λ (w : ℤ). of_whole w *ʳ spread_of_rationals new ≈ unit_ratio *ʳ unit_ratio *ʳ (of_whole (old_share (length o.rows) s) *ʳ spread_of_rationals old))
     (sym (shares_same (length p.rows) (length o.rows) s (AllZip-long IsLiftedRow o.rows p.rows i.rows) same.weight_is))
     (term_scaled unit_ratio (old_share (length o.rows) s) old new (rows_scaled arcs z b c s o.rows p.rows qs same h i.rows))
 
 terms_scaled : (arcs : List OldArc) (z : List ℤ) (b c : Baseline) (os : List OldPair) (ps : List PairRows) (observed : List (List OldObserved)) → AreScaledBaselines unit_ratio b c
     → AllZip IsLiftedPair os ps
-    → AreScaled (mul_r unit_ratio unit_ratio) (old_terms arcs z b os observed) (terms (map lifted_arc arcs) old_signals z c ps (scaled observed))
+    → AreScaled (unit_ratio *ʳ unit_ratio) (old_terms arcs z b os observed) (terms (map lifted_arc arcs) old_signals z c ps (scaled observed))
 terms_scaled arcs z b c [] [] observed h i = tt
 terms_scaled arcs z b c [] (p ∷ ps) observed h i = absurd i
 terms_scaled arcs z b c (o ∷ os) [] observed h i = absurd i
@@ -92,11 +92,11 @@ terms_scaled arcs z b c (o ∷ os) (p ∷ ps) (qs ∷ rest) h i =
 
 -- for each two baselines of which the second is 23/32 of the first
 pub sum_lifted : (old : OldSession) (s : Session) (z : List ℤ) (b c : Baseline) (observed : List (List OldObserved)) → IsLiftedSession old s → AreScaledBaselines unit_ratio b c
-    → sum_of_squares s.arcs (fine_signals s.signals) s.pairs z c (scaled observed) ≈ mul_r (mul_r unit_ratio unit_ratio) (old_sum old.arcs old.pairs z b observed)
+    → sum_of_squares s.arcs (fine_signals s.signals) s.pairs z c (scaled observed) ≈ unit_ratio *ʳ unit_ratio *ʳ old_sum old.arcs old.pairs z b observed
 sum_lifted old s z b c observed i h =
-    subst (λ (ss : List ℕ). sum_of_squares s.arcs ss s.pairs z c (scaled observed) ≈ mul_r (mul_r unit_ratio unit_ratio) (old_sum old.arcs old.pairs z b observed)) (sym (signals_are s.signals i.l5))
-    (subst (λ (arcs : List Arc). sum_of_squares arcs old_signals s.pairs z c (scaled observed) ≈ mul_r (mul_r unit_ratio unit_ratio) (old_sum old.arcs old.pairs z b observed)) (sym i.arcs)
-    (sum_scaled (mul_r unit_ratio unit_ratio) (old_terms old.arcs z b old.pairs observed) (terms (map lifted_arc old.arcs) old_signals z c s.pairs (scaled observed))
+    subst (λ (ss : List ℕ). sum_of_squares s.arcs ss s.pairs z c (scaled observed) ≈ unit_ratio *ʳ unit_ratio *ʳ old_sum old.arcs old.pairs z b observed) (sym (signals_are s.signals i.l5))
+    (subst (λ (arcs : List Arc). sum_of_squares arcs old_signals s.pairs z c (scaled observed) ≈ unit_ratio *ʳ unit_ratio *ʳ old_sum old.arcs old.pairs z b observed) (sym i.arcs)
+    (sum_scaled (unit_ratio *ʳ unit_ratio) (old_terms old.arcs z b old.pairs observed) (terms (map lifted_arc old.arcs) old_signals z c s.pairs (scaled observed))
     (terms_scaled old.arcs z b c old.pairs s.pairs observed h i.pairs)))
 
 pub baseline_scaled : (b : Baseline) → AreScaledBaselines unit_ratio b (scaled_baseline b)

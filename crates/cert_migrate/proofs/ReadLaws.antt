@@ -14,6 +14,7 @@ use Rattle.cert_spelling.specs.Spelling.{spelling_as}
 use Rattle.cert_spelling.specs.Lengths.{IsWholeTail, IsWhole}
 use Rattle.cert_spelling.specs.Editions.{IsOfVersion, IsCertificateAs}
 use Rattle.grammar_lines.specs.Beginnings.{NoneBegins}
+use Rattle.cert_text.proofs.SameSpelling.{spelling_same}
 use Rattle.cert_migrate.specs.declared.old_rows.OldRow.{OldRow}
 use Rattle.cert_migrate.specs.declared.old_pairs.OldPair.{OldPair}
 use Rattle.cert_migrate.specs.declared.old_tails.OldTail.{OldTail}
@@ -39,6 +40,13 @@ pub read_only : (text : List ℕ) (c : Cert) (o : OldCert) → IsCarrierOf c o �
 read_only text c o h only d w e =
     let same : carried_cert d ≡ c = only (carried_cert d) (cert_whole d w) (cert_of_one d) (e ∙ carried_text d w) in
     one_old c d o (subst (λ (x : Cert). IsCarrierOf x d) same (cert_carried d w)) h
+
+-- two certificates with one spelling are the same
+pub old_spelling_same : (c d : OldCert) → IsWholeOld c → IsWholeOld d → old_spelling c ≡ old_spelling d → c ≡ d
+old_spelling_same c d w v e =
+    let present : spelling_as One (carried_cert c) ≡ spelling_as One (carried_cert d) = sym (carried_text c w) ∙ e ∙ carried_text d v in
+    let same : carried_cert c ≡ carried_cert d = spelling_same One (carried_cert c) (carried_cert d) (cert_whole c w) (cert_whole d v) (cert_of_one c) (cert_of_one d) present in
+    one_old (carried_cert d) c d (subst (λ (x : Cert). IsCarrierOf x c) same (cert_carried c w)) (cert_carried d v)
 
 -- its text is one in the present types
 present_text : (text : List ℕ) → IsOldCertificate text → IsCertificateAs One text

@@ -3,7 +3,7 @@ use Rattle.std.specs.Prelude.{◌≡◌, ℕ, ◌*◌, ◌^◌, ℤ, pos, ◌+�
 use Rattle.std.specs.List.{AllZip}
 use Rattle.std.proofs.Common.{lit<}
 use Rattle.whole_math.specs.Rounding.{nearest_div, ceil_div}
-use Rattle.rational.specs.Rational.{Rational, ◌≈◌, mul_r}
+use Rattle.rational.specs.Rational.{Rational, ◌≈◌, ◌*ʳ◌}
 use Rattle.quadratic_form.specs.RationalData.{Baseline}
 use Rattle.obs_rows.specs.declared.arcs.Arc.{Arc}
 use Rattle.obs_rows.specs.declared.rows.Row.{Row}
@@ -69,13 +69,13 @@ unit_ratio = record { num = pos 23; den = 32; positive = lit< tt }
 
 -- each observation times 23/32, with the same direction
 abbrev pub scaled_row : OldObserved → Observed
-scaled_row q = record { y = λ s. mul_r unit_ratio (q.y s); u1 = q.u1; u2 = q.u2; u3 = q.u3 }
+scaled_row q = record { y = λ s. unit_ratio *ʳ q.y s; u1 = q.u1; u2 = q.u2; u3 = q.u3 }
 
 abbrev pub scaled : List (List OldObserved) → List (List Observed)
 scaled observed = map (λ qs. map scaled_row qs) observed
 
 abbrev pub scaled_baseline : Baseline → Baseline
-scaled_baseline b = record { b1 = mul_r unit_ratio b.b1; b2 = mul_r unit_ratio b.b2; b3 = mul_r unit_ratio b.b3 }
+scaled_baseline b = record { b1 = unit_ratio *ʳ b.b1; b2 = unit_ratio *ʳ b.b2; b3 = unit_ratio *ʳ b.b3 }
 
 -- all data of the old session, scaled, are data of the new one
 abbrev pub HasScaledData : OldSession → Session → Type 0
@@ -84,7 +84,7 @@ HasScaledData old s = (observed : List (List OldObserved)) → AreOldData old.pa
 -- for all data, all integers and all baselines the new sum of squares at what is scaled is the old one times (23/32)²
 abbrev pub HasScaledSums : OldSession → Session → Type 0
 HasScaledSums old s = (observed : List (List OldObserved)) (z : List ℤ) (b : Baseline) →
-    sum_of_squares s.arcs (fine_signals s.signals) s.pairs z (scaled_baseline b) (scaled observed) ≈ mul_r (mul_r unit_ratio unit_ratio) (old_sum old.arcs old.pairs z b observed)
+    sum_of_squares s.arcs (fine_signals s.signals) s.pairs z (scaled_baseline b) (scaled observed) ≈ unit_ratio *ʳ unit_ratio *ʳ old_sum old.arcs old.pairs z b observed
 
 -- ---- strictly best
 -- A move m, in 2^-5 ι, as a baseline in the old unit, 2^6 κ: m / (2^5 · 23) κ over 2^6 κ is 32 m / (23 · 2^16)

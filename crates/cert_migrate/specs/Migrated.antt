@@ -5,9 +5,9 @@ use Rattle.cert_data.specs.declared.tails.Tail.{Tail}
 use Rattle.cert_migrate.specs.declared.old_certs.OldCert.{OldCert}
 use Rattle.cert_migrate.specs.Lifted.{IsLiftedSession, HasScaledData, HasScaledSums, IsOldBestWhereFixed, IsOldBestByRatioWhereFixed}
 use Rattle.cert_check.specs.Settled.{IsBestWhereFixed, IsBestByRatioWhereFixed}
-use Rattle.cert_check.specs.RowDecisions.{IsRowDecision, IsSameDecision}
+use Rattle.cert_check.specs.RowDecisions.{IsRowDecision, IsSameTail}
 
--- The session is lifted and the rows are decided again, to one decision but where a search gave up. The old boxes' data are data
+-- The session is lifted and the rows are decided again, to their one decision. The old boxes' data are data
 -- of the new ones, the sums of squares are those of the old session in the new unit, and what is fixed is strictly best, and best
 -- by the ratio, in the old boxes and in the new ones, which are those that are printed.
 pub record IsMigrated (old : OldCert) (new : Cert) : Type 0 where
@@ -15,7 +15,7 @@ pub record IsMigrated (old : OldCert) (new : Cert) : Type 0 where
   pub budget : new.budget ≡ old.budget
   pub session : IsLiftedSession old.session new.session
   pub tail : IsRowDecision new.session new.ratio new.budget new.tail
-  pub only : (t : Tail) → IsRowDecision new.session new.ratio new.budget t → IsSameDecision t new.tail
+  pub only : (t : Tail) → IsRowDecision new.session new.ratio new.budget t → IsSameTail t new.tail
   pub new_best : IsBestWhereFixed new.session new.tail
   pub new_by_ratio : IsBestByRatioWhereFixed new.ratio new.session new.tail
   pub boxes : HasScaledData old.session new.session

@@ -2,7 +2,7 @@
 -- it stands here, whatever later versions say: the unit κ, of which the wavelengths are 60 and 77, and rows in 2^-18 κ.
 use Rattle.std.specs.Prelude.{◌≡◌, ◌≢◌, ℕ, ◌*◌, ◌/◌, ◌+◌, ◌^◌, ℤ, pos, ◌*ℤ◌, Bool, false, if◌then◌else◌, nat_lt, Option, Some, None, List, [], ◌∷◌, ◌++◌, length, take, map, All, slice_get, slice_index_or}
 use Rattle.std.specs.List.{AllZip}
-use Rattle.rational.specs.Rational.{Rational, Near, ◌<ʳ◌, of_whole, add_r, sub_r, mul_r, times}
+use Rattle.rational.specs.Rational.{Rational, Near, ◌<ʳ◌, of_whole, ◌+ʳ◌, ◌-ʳ◌, ◌*ʳ◌, times}
 use Rattle.quadratic_form.specs.RationalData.{Baseline, sum_of_rationals, spread_of_rationals}
 use Rattle.cert_migrate.specs.declared.old_arcs.OldArc.{OldArc}
 use Rattle.cert_migrate.specs.declared.old_rows.OldRow.{OldRow}
@@ -62,11 +62,11 @@ old_integer arcs z k s =
 -- ---- the sum of squares
 -- u·b, for a baseline in the unit 2^6 κ
 abbrev pub old_along : OldObserved → Baseline → Rational
-old_along q b = add_r (mul_r q.u1 b.b1) (add_r (mul_r q.u2 b.b2) (mul_r q.u3 b.b3))
+old_along q b = q.u1 *ʳ b.b1 +ʳ (q.u2 *ʳ b.b2 +ʳ q.u3 *ʳ b.b3)
 
 -- y - u·b - λN of signal s, in 2^-18 κ
 abbrev pub old_residual : List OldArc → List ℤ → Baseline → ℕ → OldRow → OldObserved → Rational
-old_residual arcs z b s r q = sub_r (sub_r (q.y s) (old_along q b)) (of_whole (old_cycle s *ℤ old_integer arcs z r.arc s))
+old_residual arcs z b s r q = q.y s -ʳ old_along q b -ʳ of_whole (old_cycle s *ℤ old_integer arcs z r.arc s)
 
 -- of each row of a pair
 abbrev pub old_residuals : List OldArc → List ℤ → Baseline → ℕ → List OldRow → List OldObserved → List Rational
@@ -80,7 +80,7 @@ old_share n s = pos (360360 / n) *ℤ old_weight s
 
 -- (360360 / n) · w · (n · Σ s² - (Σ s)²), over the n rows of a pair
 abbrev pub old_term : List OldArc → List ℤ → Baseline → OldPair → List OldObserved → ℕ → Rational
-old_term arcs z b p qs s = mul_r (of_whole (old_share (length p.rows) s)) (spread_of_rationals (old_residuals arcs z b s p.rows qs))
+old_term arcs z b p qs s = of_whole (old_share (length p.rows) s) *ʳ spread_of_rationals (old_residuals arcs z b s p.rows qs)
 
 -- of each pair and each signal
 abbrev pub old_terms : List OldArc → List ℤ → Baseline → List OldPair → List (List OldObserved) → List Rational

@@ -3,7 +3,7 @@
 //! The types `OldCert` to `OldTail` keep what a certificate was before its unit changed, with the ranges of its
 //! numbers, and specs/ says in words of its own how it was spelled and what strictly best meant in it, so that no later
 //! change of the program moves that meaning. `read_old` answers the certificate whose old spelling the text is (`ok`),
-//! the only one (`only`), or refuses a text that spells none (`refused`), at the first line and check that fails
+//! the only one (`only`, `one_old_spelling_law`), or refuses a text that spells none (`refused`), at the first line and check that fails
 //! (`exact`, `old_flaw_law`); no certificate of that version begins with the lines up to that one (`stuck`).
 //!
 //! `lift` brings its rows into the present unit, in boxes that hold all that the old ones held, and decides them again.
@@ -28,7 +28,7 @@ mod old_tails;
 mod read;
 
 pub use cert_data::{Cert, Place};
-pub use laws::old_flaw_law;
+pub use laws::{old_flaw_law, one_old_spelling_law};
 pub use lifting::lift;
 pub use old_arcs::OldArc;
 pub use old_certs::OldCert;

@@ -7,7 +7,7 @@ use Rattle.whole_math.proofs.Ring.{◌⊗◌}
 use Rattle.whole_math.proofs.Order.{lins, le_pos, mul_le_right}
 use Rattle.whole_math.proofs.Inequalities.{same_by, nat, le_eq, le_trans_ℤ, pos_nn}
 use Rattle.decimal_text.specs.declared.exponent.Dec.{Dec}
-use Rattle.rational.specs.Rational.{Rational, ◌≈◌, IsAtMostInSize, of_whole, of_scale, mul_r, times}
+use Rattle.rational.specs.Rational.{Rational, ◌≈◌, IsAtMostInSize, of_whole, of_scale, ◌*ʳ◌, times}
 use Rattle.rational.proofs.Laws.{≈_trans}
 use Rattle.rational.proofs.Boxes.{InBox-along}
 use Rattle.rational.proofs.Sizes.{size_mul, size_along, size_looser}
@@ -40,8 +40,8 @@ small_enough bound places u k size d w h =
     let ten : Rational = of_whole (pos (10 ^ u)) in
     let own : IsAtMostInSize ten ten = (whole_le (10 ^ u), whole_neg (10 ^ u)) in
     let value : IsAtMostInSize (decimal (pos bound) places) v = (w.high, turned (neg_ℤ (pos bound)) v.num (pos (10 ^ places)) (pos v.den) (pos bound) refl w.low) in
-    size_along (of_scale k (pos size)) (mul_r ten v) (times (10 ^ u) v) (same_by (pos (10 ^ u) ∷ v.num ∷ pos v.den ∷ []) (λ t n d. (t ⊗ n ⊗ d, t ⊗ n ⊗ (nat 1 ⊗ d))) refl)
-    (size_looser (mul_r ten (decimal (pos bound) places)) (of_scale k (pos size)) (mul_r ten v) (limit (10 ^ u) (10 ^ places) (2 ^ k) h) (size_mul ten (decimal (pos bound) places) ten v own value))
+    size_along (of_scale k (pos size)) (ten *ʳ v) (times (10 ^ u) v) (same_by (pos (10 ^ u) ∷ v.num ∷ pos v.den ∷ []) (λ t n d. (t ⊗ n ⊗ d, t ⊗ n ⊗ (nat 1 ⊗ d))) refl)
+    (size_looser (ten *ʳ decimal (pos bound) places) (of_scale k (pos size)) (ten *ʳ v) (limit (10 ^ u) (10 ^ places) (2 ^ k) h) (size_mul ten (decimal (pos bound) places) ten v own value))
   where
     whole_le : (n : ℕ) → (pos n *ℤ pos 1) ≤ℤ (pos n *ℤ pos 1)
     whole_le n = omega (arith, ints)

@@ -6,8 +6,7 @@ ghost use Rattle.elimination.specs.Shares.{IsNearShare};
 ghost use Rattle.elimination.specs.StepEntries.{is_small};
 
 use crate::shares::{PivotShare, Share};
-use form_tables::wide_product;
-use whole_math::{ceil, ceil_shift, floor_shift, nearest};
+use whole_math::{ceil, ceil_shift, floor_shift, nearest, product};
 
 /// Every factor and every entry after a rounding is below this in size.
 const LIMIT: i128 = 1 << 52;
@@ -35,13 +34,13 @@ fn narrow(x: i128) -> i64
 }
 
 /// p · q
-fn product(p: i128, q: i128) -> i128
+fn narrow_product(p: i128, q: i128) -> i128
     requires p_size { unsigned_abs p ≤ 2 ^ 52 }
     requires q_size { unsigned_abs q ≤ 2 ^ 52 }
     ensures value { result ≡ p *ℤ q }
     ensures size { unsigned_abs result ≤ 2 ^ 104 }
 {
-    wide_product(narrow(p), narrow(q))
+    product::<52, 52>(narrow(p), narrow(q))
 }
 
 /// entry - square - count - loss
@@ -85,16 +84,6 @@ pub(crate) fn pivot_share(a: i128) -> PivotShare
     }
 }
 
-/// p · q
-pub(crate) fn long_product(p: i64, q: i64) -> i128
-    requires p_size { unsigned_abs p ≤ 2 ^ 62 }
-    requires q_size { unsigned_abs q ≤ 2 ^ 52 }
-    ensures value { result ≡ p *ℤ q }
-    ensures size { unsigned_abs result ≤ 2 ^ 114 }
-{
-    p as i128 * q as i128
-}
-
 /// What a ratio in units of 2^-52 may miss, times the pivot.
 const MOST_MISSED: i128 = 1 << 60;
 
@@ -106,7 +95,7 @@ fn missed(ratio: i64, p: i64, a: i64) -> i128
     ensures value { result ≡ (ratio *ℤ a) -ℤ (pos (2 ^ 52) *ℤ p) }
     ensures size { unsigned_abs result ≤ 2 ^ 115 }
 {
-    long_product(ratio, a) - long_product(1 << 52, p)
+    product::<62, 52>(ratio, a) - product::<62, 52>(1 << 52, p)
 }
 
 /// Whether the ratio is near p / a.
@@ -151,7 +140,7 @@ pub(crate) fn guess_of(share: &Share, q: i64) -> i64
     ensures size { unsigned_abs result ≤ 2 ^ 62 + 1 }
     ensures near { unsigned_abs ((share.now.ratio *ℤ q) -ℤ (pos (2 ^ 52) *ℤ result)) ≤ 2 ^ 52 }
 {
-    nearest_unit(long_product(share.ratio, q))
+    nearest_unit(product::<62, 52>(share.ratio, q))
 }
 
 /// The guess where it is at most 2^52 in size, and else the nearest that is.
@@ -210,7 +199,7 @@ fn nearest_by(n: i128, a: i128, guess: i128) -> i128
     ensures value { result ≡ nearest_div n (unsigned_abs a) }
     ensures size { unsigned_abs result ≤ 2 ^ 104 }
 {
-    let twice = twice_less(n, product(guess, a));
+    let twice = twice_less(n, narrow_product(guess, a));
     if -a <= twice && twice < a {
         guess
     } else {
@@ -227,7 +216,7 @@ fn ceil_by(n: i128, a: i128, guess: i128) -> i128
     ensures value { result ≡ ceil_div n (unsigned_abs a) }
     ensures size { unsigned_abs result ≤ 2 ^ 104 }
 {
-    let twice = twice_less(n, product(guess, a));
+    let twice = twice_less(n, narrow_product(guess, a));
     let most = 2 * a;
     if -most < twice && twice <= 0 {
         guess
@@ -256,7 +245,11 @@ pub(crate) fn factor_of(p: i128, a: i128, pivot: &PivotShare) -> i128
     ensures value { result ≡ nearest_div (p *ℤ pos (2 ^ 30)) (unsigned_abs a) }
     ensures size { unsigned_abs result ≤ 2 ^ 104 }
 {
-    nearest_by(product(p, 1 << FACTOR_EXPONENT), a, factor_guess(pivot, p))
+    nearest_by(
+        narrow_product(p, 1 << FACTOR_EXPONENT),
+        a,
+        factor_guess(pivot, p),
+    )
 }
 
 /// p · q / a to the nearest, with the share of p in a, where the guess is that.
@@ -286,7 +279,7 @@ fn divided(p: i128, q: i128, a: i128) -> i128
     ensures value { result ≡ nearest_div (p *ℤ q) (unsigned_abs a) }
     ensures size { unsigned_abs result ≤ 2 ^ 104 }
 {
-    nearest(product(p, q), a)
+    nearest(narrow_product(p, q), a)
 }
 
 /// entry - loss in 64 bits, where it is below 2^52 in size.
@@ -348,7 +341,7 @@ fn factor_loss(count: i128, a: i128) -> i128
     ensures value { result ≡ ceil_div (count *ℤ a) (2 ^ 42) }
     ensures size { unsigned_abs result ≤ 2 ^ 104 }
 {
-    ceil_shift(product(count, a), 42)
+    ceil_shift(narrow_product(count, a), 42)
 }
 
 /// An own entry, less p² / a upward, the number of later columns and the loss of their factors, with the share of p in a.
@@ -362,7 +355,7 @@ pub(crate) fn own_after(entry: i128, p: i128, a: i128, count: i128, share: &Shar
     ensures value { result ≡ ((entry -ℤ ceil_div (p *ℤ p) (unsigned_abs a)) -ℤ count) -ℤ ceil_div (count *ℤ a) (2 ^ 42) }
     ensures size { unsigned_abs result ≤ 2 ^ 107 }
 {
-    let loss = ceil_by(product(p, p), a, short_guess(share, p));
+    let loss = ceil_by(narrow_product(p, p), a, short_guess(share, p));
     less_three(entry, loss, count, factor_loss(count, a))
 }
 

@@ -7,11 +7,10 @@ ghost use Rattle.elimination.specs.NearShares.{AreNearShares};
 ghost use Rattle.elimination.specs.StepEntries.{is_small};
 ghost use Rattle.elimination.specs.RowSteps.{left_own};
 
-use crate::entries::long_product;
 use crate::row_entries::{factor_by, own_by, own_left, short_floor, small_only};
 use crate::shares::{NearShare, NearShares, PivotShare, RowShares, Share};
 use form_tables::MOST_COLUMNS;
-use whole_math::floor_shift;
+use whole_math::{floor_shift, product};
 
 impl NearShare {
     /// The same share in units of 2^-52, downward, where it is taken as any other.
@@ -60,7 +59,7 @@ fn unit_missed(ratio: i64, p: i64, a: i64) -> i128
     ensures value { result ≡ (ratio *ℤ a) -ℤ (pos (2 ^ 61) *ℤ p) }
     ensures size { unsigned_abs result ≤ 2 ^ 115 }
 {
-    long_product(ratio, a) - long_product(1 << 61, p)
+    product::<62, 52>(ratio, a) - product::<62, 52>(1 << 61, p)
 }
 
 /// Whether the ratio is within a unit of 2^-61 of p / a.
@@ -103,16 +102,6 @@ fn eight_times(q: i64) -> i64
     8 * q
 }
 
-/// ratio · x
-fn unit_product(ratio: i64, x: i64) -> i128
-    requires ratio_size { unsigned_abs ratio ≤ 2 ^ 62 }
-    requires x_size { unsigned_abs x ≤ 2 ^ 55 }
-    ensures value { result ≡ ratio *ℤ x }
-    ensures size { unsigned_abs result ≤ 2 ^ 117 }
-{
-    ratio as i128 * x as i128
-}
-
 /// A share misses at most 2^55 of a unit of 2^64, and half a unit is added for the nearest: this less that.
 const HALF_LESS_MISSED: i128 = (1 << 63) - (1 << 55);
 
@@ -147,7 +136,7 @@ pub(crate) fn near_quotient(q: i64, share: &NearShare) -> Option<i64>
     ensures value { IfSome result (λ n. n ≡ nearest_div (share.now.p *ℤ q) (unsigned_abs share.now.a)) }
     ensures size { IfSome result (λ n. unsigned_abs n ≤ 2 ^ 60 + 1) }
 {
-    let product = unit_product(share.ratio, eight_times(q));
+    let product = product::<62, 55>(share.ratio, eight_times(q));
     let (whole, rest) = units_and_rest(raised_product(product));
     if rest < REST_TO { Some(whole) } else { None }
 }
@@ -169,7 +158,7 @@ fn near_square(share: &NearShare) -> Option<i64>
     ensures value { IfSome result (λ n. n ≡ ceil_div (share.now.p *ℤ share.now.p) (unsigned_abs share.now.a)) }
     ensures size { IfSome result (λ n. unsigned_abs n ≤ 2 ^ 62 + 2) }
 {
-    let product = unit_product(share.ratio, eight_times(share.p));
+    let product = product::<62, 55>(share.ratio, eight_times(share.p));
     let (whole, rest) = units_and_rest(lowered_product(product));
     if rest < REST_TO {
         Some(whole + 1)

@@ -2,6 +2,7 @@
 use Rattle.std.proofs.Common.{◌≡◌, ◌≢◌, inl, inr, ℕ, List, [], ◌∷◌, Option, Err}
 use Rattle.line_source.specs.Causes.{Rose}
 use Rattle.line_source.specs.Openings.{OpensFirst}
+use Rattle.line_source.specs.Givens.{GivesFirst}
 use Rattle.obs_store.specs.declared.file.ObsFile.{ObsFile}
 use Rattle.rinex_head.specs.declared.system.System.TheVariants.{Gps}
 use Rattle.report_text.specs.List.{list_text}
@@ -9,11 +10,11 @@ use Rattle.job_answers.specs.declared.stop.JobStop.{JobStop}
 use Rattle.job_answers.specs.declared.stop.JobStop.TheVariants as stop
 use Rattle.job_answers.specs.declared.status.Status.TheVariants.{Done, ReadFault}
 use Rattle.job_answers.specs.Answers.{ending_of, IfEnds}
-use Rattle.job_answers.specs.Endings.{Ending, ending, IsRefusedWhole}
+use Rattle.job_answers.specs.Endings.{Ending, ending, IsRefusalOf}
 use Rattle.job_answers.specs.Works.{FileWork, NoLine, IsDoneOver}
 use Rattle.job_answers.specs.TextJobs.{EndsOnText, TextEnds}
 use Rattle.job_answers.proofs.EndingLaws.{verdict_at}
-use Rattle.job_answers.proofs.WorkLaws.{only_fault}
+use Rattle.job_answers.proofs.WorkLaws.{only_refused, only_fault}
 use Rattle.session_files.specs.SessionFiles.{IsObsOf, StopsAtObs}
 use Rattle.session_files.proofs.FaultLaws.{obs_fault_line}
 use Rattle.session_files.proofs.SessionLaws.{stop_no_verdict}
@@ -35,17 +36,18 @@ stops text_of name end (inl by_text) =
     })
 stops text_of name end (inr unloaded) = inr unloaded
 
-pub list_stop : (work : FileWork) (name : List ℕ) (why : JobStop) → OpensFirst (name ∷ []) work.openings work.left.openings → IfEnds why (StopsAtObs Gps work.text_of name)
-    → IfEnds why (IsRefusedWhole work.text_of work.left (name ∷ [])) → IfEnds why (λ end. end.status ≡ ReadFault → Rose work.faults work.faults_now)
+pub list_stop : (work : FileWork) (name : List ℕ) (why : JobStop) → OpensFirst (name ∷ []) work.openings work.left.openings → GivesFirst (name ∷ []) work.given work.left.given → IfEnds why (StopsAtObs Gps work.text_of name)
+    → IfEnds why (IsRefusalOf work.told work.given work.left name) → IfEnds why (λ end. end.status ≡ ReadFault → Rose work.faults work.faults_now)
     → (work.sure name → IfEnds why (λ end. end.status ≢ ReadFault)) → IsDoneOver work (name ∷ []) NoLine (TextEnds list_job work.text_of name) (Err why)
-list_stop work name (stop.Ended a) opens stopped refused rose never = record {
+list_stop work name (stop.Ended a) opens gives stopped refused rose never = record {
   opened = opens;
+  given = gives;
   ended = record {
     ends_so = stops work.text_of name (ending_of a) stopped;
     answered = λ verdict. absurd (stop_no_verdict Gps work.text_of name (ending_of a) stopped verdict);
-    refused = λ is. inl (refused is);
+    refused = λ is. inl (only_refused work name (ending_of a) (refused is));
     fault = rose;
     named = only_fault work name (ending_of a) opens (obs_fault_line Gps work.text_of name (ending_of a) stopped) never;
   };
 }
-list_stop work name stop.NoMemory opens stopped refused rose never = record { opened = opens; ended = tt }
+list_stop work name stop.NoMemory opens gives stopped refused rose never = record { opened = opens; given = gives; ended = tt }

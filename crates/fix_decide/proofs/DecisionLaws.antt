@@ -5,7 +5,7 @@ use Rattle.whole_math.proofs.Vectors.{len_is}
 use Rattle.whole_math.proofs.Order.{mul_lt_cancel}
 use Rattle.whole_math.proofs.Ring.{◌⊕◌, ◌⊖◌, ◌⊗◌}
 use Rattle.whole_math.proofs.Inequalities.{le_by, both_nn, prod_nn, less_nn, pos_nn, pos_one, one_nn, later, strict, nat}
-use Rattle.rational.specs.Rational.{Rational, of_whole, mul_r, ◌≤ʳ◌, ◌<ʳ◌}
+use Rattle.rational.specs.Rational.{Rational, of_whole, ◌*ʳ◌, ◌≤ʳ◌, ◌<ʳ◌}
 use Rattle.quadratic_form.specs.Forms.{Column}
 use Rattle.quadratic_form.specs.Rows.{value}
 use Rattle.quadratic_form.specs.RationalData.{Baseline}
@@ -53,7 +53,7 @@ between n d m e h t q v r h₁ h₂ h₃ h₄ h₅ h₆ h₇ h₈ = mul_lt_cance
     ones a b h k = le_by (a ∷ b ∷ []) (λ a b. (nat 1, a ⊗ b, (a ⊖ nat 1) ⊗ (b ⊖ nat 1) ⊕ (a ⊖ nat 1 ⊕ (b ⊖ nat 1)))) refl (both_nn (prod_nn (less_nn h) (less_nn k)) (both_nn (less_nn h) (less_nn k)))
 
 -- what stays at most h t is less by the ratio than what 64 times is at least h v
-pub below_by_ratio : (f g : Rational) (ratio h : ℕ) (t q v : ℤ) → IsSeparated (pos ratio) t q → q ≤ℤ v → f ≤ʳ of_whole (pos (2 ^ h) *ℤ t) → of_whole (pos (2 ^ h) *ℤ v) ≤ʳ mul_r (of_whole (pos 64)) g →
+pub below_by_ratio : (f g : Rational) (ratio h : ℕ) (t q v : ℤ) → IsSeparated (pos ratio) t q → q ≤ℤ v → f ≤ʳ of_whole (pos (2 ^ h) *ℤ t) → of_whole (pos (2 ^ h) *ℤ v) ≤ʳ of_whole (pos 64) *ʳ g →
     IsLessByRatio ratio f g
 below_by_ratio f g ratio h t q v k l upper lower =
     between f.num (pos f.den) g.num (pos g.den) (pos (2 ^ h)) t q v (pos ratio) (pos_one f.den f.positive) (pos_one g.den g.positive) (pos_one (2 ^ h) (pow_pos h)) (pos_nn ratio) k l upper lower

@@ -16,7 +16,7 @@ ghost use Rattle.fix_decide.specs.RowReaches.{IsModest, row_reach, reach_at};
 use crate::integers::{integer_at, integer_of};
 use integer_form::{Overwidth, Place};
 use obs_rows::{Arc, DIRECTION_EXPONENT, MOVE_EXPONENT, ROW_EXPONENT, Row, SIGNALS, WAVELENGTHS};
-use whole_math::ceil_shift;
+use whole_math::{ceil_shift, product};
 
 /// A direction times a move is in 2^-16 of the unit of a row.
 const FINER: u32 = MOVE_EXPONENT + DIRECTION_EXPONENT - ROW_EXPONENT;
@@ -39,16 +39,6 @@ pub(crate) struct RowReach {
     pub(crate) rad: i64,
 }
 
-/// a · b
-fn times(a: i64, b: i64) -> i128
-    requires a_size { unsigned_abs a ≤ 2 ^ 24 }
-    requires b_size { unsigned_abs b ≤ 2 ^ 46 }
-    ensures value { result ≡ a *ℤ b }
-    ensures size { unsigned_abs result ≤ 2 ^ 70 }
-{
-    a as i128 * b as i128
-}
-
 /// a + b
 fn plus(a: i128, b: i128) -> i128
     requires a_size { unsigned_abs a ≤ 2 ^ 80 }
@@ -66,8 +56,8 @@ fn scalar_product(u: &[i64; 3], m: &[i64; 3]) -> i128
     ensures value { result ≡ scalar_product u.now m.now }
     ensures size { unsigned_abs result ≤ 3 * 2 ^ 70 }
 {
-    let rest = plus(times(u[1], m[1]), times(u[2], m[2]));
-    plus(times(u[0], m[0]), rest)
+    let rest = plus(product::<24, 46>(u[1], m[1]), product::<24, 46>(u[2], m[2]));
+    plus(product::<24, 46>(u[0], m[0]), rest)
 }
 
 /// ⌈n / 2^16⌉

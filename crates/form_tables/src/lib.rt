@@ -8,12 +8,10 @@
 
 mod laws;
 mod normal_tables;
-mod products;
 mod sizes;
 mod tables;
 
 pub use laws::sizes_law;
 pub use normal_tables::NormalTable;
-pub use products::{square, weighed, wide_product};
 pub use sizes::{BASELINE_COLUMNS, MOST_COLUMNS, MOST_FACTORS, MOST_FORM_COLUMNS, MOST_INTEGERS};
 pub use tables::{FactorTable, FormTable, FrontTable, MapTable, Table};

@@ -1,11 +1,6 @@
 -- Different suffixes that all stand in a list are at most as many as the list has.
-use Rattle.std.proofs.Common.{◌≡◌, ◌≢◌, ◌⊎◌, inl, inr, ℕ, zero, suc, ◌+◌, ◌<◌, ◌≤◌, ◌^◌, List, [], ◌∷◌, length, get_or, ℤ, pos, ◌*ℤ◌, ◌<ℤ◌, ◌≤ℤ◌, arith, refl, sym, ◌∙◌, All}
+use Rattle.std.proofs.Common.{◌≡◌, ◌≢◌, ◌⊎◌, inl, inr, ℕ, zero, suc, ◌+◌, ◌<◌, ◌≤◌, List, [], ◌∷◌, length, get_or, ℤ, arith, refl, sym, ◌∙◌, All}
 use Rattle.std.specs.List.{AllPairs, Contains}
-use Rattle.std.proofs.lemmas.Int.{ints}
-use Rattle.int_search.specs.Suffixes.{SearchForm, low}
-use Rattle.int_search.specs.PlainCount.{AreAtMost, IsWithin}
-use Rattle.int_search.specs.Search.{HasVisited, IsMet}
-use Rattle.int_search.specs.declared.stack.Level.{Level}
 
 -- q is one of the list
 abbrev IsOneOf : List (List ℤ) → List ℤ → Type 0
@@ -52,28 +47,8 @@ at_most (x ∷ xs) ys d e =
     (λ k q h. still_there ys x (get_or xs k q) is_one_of (d 0 (suc k) q (omega arith) (omega arith)) (e (suc k) q (omega arith))) in
     omega arith
 
-not_past : (a l : ℤ) → l ≤ℤ a → a <ℤ l → ⊥
-not_past a l h k = omega (arith, ints)
-
-met_within : (f : SearchForm) (p : ℤ) (s q : List ℤ) (qs : List (List ℤ)) → IsWithin f p q → IsMet f p [] s qs q → IsOneOf qs q
-met_within f p s q qs w (inl c) = one_at qs q c.0 c.1 c.2
-met_within f p s q qs w (inr (inl g)) = absurd (not_past (pos (2 ^ 60) *ℤ p) (low f q) w.within g)
-met_within f p s q qs w (inr (inr o)) = absurd o
-
--- different suffixes that a search has visited are at most as many as its visits
-pub within_most : (f : SearchForm) (p : ℤ) (fs : List Level) (s : List ℤ) (n : ℕ) (qs : List (List ℤ)) → AllPairs (λ q r. q ≢ r) qs → (v : HasVisited f p fs s n) →
-    All (Contains v.suffixes) qs → length qs ≤ n
-within_most f p fs s n qs d v w = let many_suffixes = v.many in let at_most_suffixes = at_most qs v.suffixes d (λ k q h. one (get_or qs k q) (w k q h)) in omega arith
+pub contained_most : (qs ss : List (List ℤ)) → AllPairs (λ q r. q ≢ r) qs → All (Contains ss) qs → length qs ≤ length ss
+contained_most qs ss d w = at_most qs ss d (λ k q h. one (get_or qs k q) (w k q h))
   where
-    one : (q : List ℤ) → Contains v.suffixes q → IsOneOf v.suffixes q
-    one q c = one_at v.suffixes q c.0 c.1 c.2
-
--- where nothing is open, a search has visited each suffix that is within its bound
-pub visited_all : (f : SearchForm) (p : ℤ) (s : List ℤ) (n m : ℕ) → n ≤ m → HasVisited f p [] s n → AreAtMost f p m
-visited_all f p s n m h v = record { each = λ qs d w. most qs (at_most qs v.suffixes d (λ k q l. one (get_or qs k q) (w k q l))) }
-  where
-    one : (q : List ℤ) → IsWithin f p q → IsOneOf v.suffixes q
-    one q w = met_within f p s q v.suffixes w (v.met q w.some w.most)
-
-    most : (qs : List (List ℤ)) → length qs ≤ length v.suffixes → length qs ≤ m
-    most qs l = let many_suffixes = v.many in omega arith
+    one : (q : List ℤ) → Contains ss q → IsOneOf ss q
+    one q c = one_at ss q c.0 c.1 c.2

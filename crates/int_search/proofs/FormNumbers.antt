@@ -23,7 +23,7 @@ length_stored : (d : List ℤ) (l : List (List ℤ)) (columns j n : ℕ) → len
 length_stored d l columns j zero = refl
 length_stored d l columns j (suc n) = ap (λ k. suc k) (length_stored d l columns (suc j) n)
 
-get_stored : (d : List ℤ) (l : List (List ℤ)) (columns j n i : ℕ) (other : Factor) → i < n →
+pub get_stored : (d : List ℤ) (l : List (List ℤ)) (columns j n i : ℕ) (other : Factor) → i < n →
     get_or (stored d l columns j n) i other ≡ factor_at (get_or d (j + i) (pos 0)) l (j + i) (columns - (j + i) - 1)
 get_stored d l columns j zero i other h = absurd (omega arith)
 get_stored d l columns j (suc n) zero other h = ap (λ k. factor_at (get_or d k (pos 0)) l k (columns - k - 1)) at

@@ -1,5 +1,5 @@
 -- A level when it is new, and with one more entry taken.
-use Rattle.std.proofs.Common.{◌≡◌, ◌⊎◌, inl, inr, ◌<◌, ◌≤◌, ◌^◌, List, ◌∷◌, length, ℤ, pos, ◌+ℤ◌, ◌*ℤ◌, ◌<ℤ◌, ◌≤ℤ◌, Bool, true, false, arith, unsigned_abs, ap, sym, ◌∙◌}
+use Rattle.std.proofs.Common.{◌≡◌, ◌⊎◌, inl, inr, ◌-◌, ◌<◌, ◌≤◌, ◌^◌, List, ◌∷◌, length, ℤ, pos, negsuc, ◌+ℤ◌, ◌-ℤ◌, neg_ℤ, ◌*ℤ◌, ◌<ℤ◌, ◌≤ℤ◌, Bool, true, false, arith, unsigned_abs, ap, sym, ◌∙◌}
 use Rattle.std.proofs.lemmas.Int.{ints, by_lt_z}
 use Rattle.whole_math.proofs.Order.{lins, polys}
 use Rattle.int_search.specs.Suffixes.{SearchForm, IsSearchable, rest, offset, low, weight}
@@ -18,6 +18,7 @@ level_fresh f s a h k l = record {
   under = k.under;
   apart = let one_apart = k.apart in omega (arith, ints);
   balanced = fresh_balanced a.up a.down (rest f s) a.up_offset a.down_offset k.apart k.up_offset_is k.down_offset_is k.above k.under;
+  tied = fresh_tied a.up a.down (rest f s) a.up_offset a.down_offset k.apart k.up_offset_is k.down_offset_is k.above;
   low_is = k.low_is;
   within = l;
   up_size = let up_fits = k.up_size in omega arith;
@@ -28,6 +29,9 @@ level_fresh f s a h k l = record {
   where
     fresh_balanced : (x y r u d : ℤ) → x ≡ y +ℤ pos 1 → u ≡ (pos (2 ^ 30) *ℤ x) +ℤ r → d ≡ (pos (2 ^ 30) *ℤ y) +ℤ r → pos 0 ≤ℤ u → d <ℤ pos 0 → unsigned_abs (u +ℤ d) ≤ 2 ^ 30
     fresh_balanced x y r u d e g h p q = let offsets_apart : u ≡ d +ℤ pos (2 ^ 30) = omega (arith, polys) in omega (arith, ints)
+
+    fresh_tied : (x y r u d : ℤ) → x ≡ y +ℤ pos 1 → u ≡ (pos (2 ^ 30) *ℤ x) +ℤ r → d ≡ (pos (2 ^ 30) *ℤ y) +ℤ r → pos 0 ≤ℤ u → (negsuc (2 ^ 30 - 1) <ℤ (u +ℤ d)) ⊎ (u ≡ pos 0)
+    fresh_tied x y r u d e g h p = let offsets_apart : u ≡ d +ℤ pos (2 ^ 30) = omega (arith, polys) in by_lt_z (pos 0) u (λ l. inl (omega (arith, ints))) (λ l. inr (omega (arith, ints)))
 
 pub fresh_free : (e l : ℤ) (a : Level) → IsFresh e l a → (y : ℤ) → IsFree a y
 fresh_free e l a k y = let one_apart = k.apart in by_lt_z a.down y (λ p. inr (omega (arith, ints))) (λ p. inl p)
@@ -73,6 +77,12 @@ next_offset f x y s e = offset-is f y s ∙ step x y (rest f s) e ∙ ap (λ c. 
 same_offset : (f : SearchForm) (x y : ℤ) (s : List ℤ) → y ≡ x → offset f y s ≡ offset f x s
 same_offset f x y s e = ap (λ z. offset f z s) e
 
+tied_up : (u d v e : ℤ) → unsigned_abs (u +ℤ d) ≤ 2 ^ 30 → v ≡ u +ℤ pos (2 ^ 30) → e ≡ d → negsuc (2 ^ 30 - 1) <ℤ (v +ℤ e)
+tied_up u d v e b g h = omega (arith, ints)
+
+tied_down : (u d v e : ℤ) → neg_ℤ d <ℤ u → e ≡ d -ℤ pos (2 ^ 30) → v ≡ u → negsuc (2 ^ 30 - 1) <ℤ (v +ℤ e)
+tied_down u d v e p g h = omega (arith, ints)
+
 pub moved_level : (f : SearchForm) (a b : Level) (s : List ℤ) (x c : ℤ) (up : Bool) → IsLevel f a s → Chooses a x c up → Moves a up b → unsigned_abs x < 2 ^ 30 → unsigned_abs c ≤ 2 ^ 62 →
     IsLevel f b s
 moved_level f a b s x c true h k m p q =
@@ -86,6 +96,7 @@ moved_level f a b s x c true h k m p q =
       under = let under_zero = h.under in let down_offset_same = m.3 in omega (arith, ints);
       apart = let one_apart = h.apart in let up_moves = m.0 in let down_stays = m.2 in omega (arith, ints);
       balanced = let was_balanced = h.balanced in let up_offset_rises = m.1 in let down_offset_kept = m.3 in let near = k.2 in omega (arith, ints);
+      tied = inl (tied_up a.up_offset a.down_offset b.up_offset b.down_offset h.balanced m.1 m.3);
       low_is = m.4 ∙ h.low_is;
       within = h.within;
       up_size = let entry_is = k.0 in let up_is_next = m.0 in omega (arith, ints);
@@ -105,6 +116,7 @@ moved_level f a b s x c false h k m p q =
       under = let under_zero = h.under in let down_offset_drops = m.1 in omega (arith, ints);
       apart = let one_apart = h.apart in let down_moves = m.0 in let up_stays = m.2 in omega (arith, ints);
       balanced = let was_balanced = h.balanced in let down_offset_sinks = m.1 in let up_offset_kept = m.3 in let near = k.2 in omega (arith, ints);
+      tied = inl (tied_down a.up_offset a.down_offset b.up_offset b.down_offset k.2 m.1 m.3);
       low_is = m.4 ∙ h.low_is;
       within = h.within;
       up_size = let up_fits = h.up_size in let up_kept = m.2 in omega (arith, ints);

@@ -4,6 +4,7 @@ pub mod SuffixArrays
 pub mod FormNumbers
 pub mod OrderArrays
 pub mod PointLaws
+pub mod PointOrder
 pub mod ImageLaws
 pub mod OfferLaws
 pub mod LevelMoves
@@ -11,6 +12,8 @@ pub mod SearchStateLaws
 pub mod StartLaws
 pub mod PlainLaws
 pub mod ReducedLaws
+pub mod EndLaws
+pub mod CountLaws
 pub mod TableLaws
 pub mod TotalLaws
 pub mod FormSums
@@ -23,4 +26,5 @@ pub mod OrderLaws
 pub mod OpenLaws
 pub mod Counting
 pub mod VisitLaws
+pub mod TraceLaws
 pub mod SearchLaws

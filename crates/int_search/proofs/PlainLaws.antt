@@ -1,5 +1,5 @@
 -- The search in the form's own coordinates, where the map leaves every vector as it is.
-use Rattle.std.proofs.Common.{◌≡◌, ◌⊎◌, inl, inr, ⊎_elim, ℕ, ◌≤◌, List, length, take, ℤ, pos, ◌<ℤ◌, arith, sym, ap, ◌∙◌, subst, Result, Ok, Err, IfOk, MatchResult}
+use Rattle.std.proofs.Common.{◌≡◌, ◌⊎◌, ⊎_elim, ℕ, ◌<◌, ◌≤◌, List, length, take, ℤ, pos, ◌<ℤ◌, arith, sym, ap, ◌∙◌, subst, Result, Ok, Err, IfOk, MatchResult}
 use Rattle.whole_math.specs.Vectors.{len}
 use Rattle.whole_math.proofs.Vectors.{len_is}
 use Rattle.quadratic_form.specs.Rows.{value}
@@ -9,15 +9,18 @@ use Rattle.form_tables.specs.declared.sizes.TheConstants.{MOST_INTEGERS}
 use Rattle.integer_form.specs.declared.form.Form.{Form}
 use Rattle.integer_form.specs.Forms.{integers_of, columns_of, value_of}
 use Rattle.int_search.specs.Order.{IsLess}
-use Rattle.int_search.specs.PlainCount.{HasLarge}
+use Rattle.int_search.specs.PlainCount.{AreAtMost}
 use Rattle.int_search.specs.Images.{image_of}
 use Rattle.int_search.specs.SearchedForm.{search_form}
-use Rattle.int_search.specs.SearchStates.{search_image, IsTooWide}
-use Rattle.int_search.specs.Answers.{IsAnswer, IsFault, IsTwoBest, IsVisitedIn, IsSearchTooWide}
+use Rattle.int_search.specs.SearchStates.{search_image}
+use Rattle.int_search.specs.Answers.{IsAnswer, IsFault, IsTwoBest, IsVisitedIn, IsPlainCountOver, IsSearchTooWide, IsPlainEnd}
 use Rattle.int_search.specs.declared.answer.TwoBest.{TwoBest}
 use Rattle.int_search.specs.declared.answer.SearchFault.{SearchFault}
 use Rattle.int_search.specs.declared.answer.SearchFault.TheVariants.{Spent, Overwidth}
 use Rattle.int_search.proofs.SuffixArrays.{suffix-all}
+use Rattle.int_search.proofs.FormNumbers.{searchable}
+use Rattle.int_search.proofs.TraceLaws.{stopped_as, outrun_as, finished_as}
+use Rattle.int_search.proofs.CountLaws.{outrun_over, finished_within, plain_wide}
 
 -- the map leaves every vector as it is
 abbrev pub IsOwn : List (List ℤ) → Type 0
@@ -80,15 +83,24 @@ answer_found form map budget o (Err e) h = tt
 
 pub answer_visits : (form : Form) (map : List (List ℤ)) (budget : ℕ) → (r : Result TwoBest SearchFault) →
     MatchResult r (IsAnswer (search_form form) (search_image form map) budget) (IsFault (search_form form) (search_image form map) budget) → IfOk r (IsVisitedIn form budget)
-answer_visits form map budget (Ok b) h = h.visits
+answer_visits form map budget (Ok b) h = subst (λ (p : ℤ). AreAtMost (search_form form) p budget) (sym h.p2) (finished_within (search_form form) (search_image form map) h.one h.two budget h.least h.finished)
 answer_visits form map budget (Err e) h = tt
 
-pub answer_wide : (form : Form) (map : List (List ℤ)) (budget : ℕ) → IsOwn map → (r : Result TwoBest SearchFault) →
+pub answer_spent : (form : Form) (map : List (List ℤ)) (budget : ℕ) → 4 < form.columns → (r : Result TwoBest SearchFault) →
+    MatchResult r (IsAnswer (search_form form) (search_image form map) budget) (IsFault (search_form form) (search_image form map) budget) → r ≡ Err Spent → IsPlainCountOver form budget
+answer_spent form map budget some (Ok b) h e = absurd cc
+answer_spent form map budget some (Err Spent) h e = outrun_over (search_form form) (search_image form map) budget (searchable form some) h
+answer_spent form map budget some (Err Overwidth) h e = absurd cc
+
+pub answer_wide : (form : Form) (map : List (List ℤ)) (budget : ℕ) → 4 < form.columns → IsOwn map → (r : Result TwoBest SearchFault) →
     MatchResult r (IsAnswer (search_form form) (search_image form map) budget) (IsFault (search_form form) (search_image form map) budget) → r ≡ Err Overwidth → IsSearchTooWide form budget
-answer_wide form map budget o (Ok b) h e = absurd cc
-answer_wide form map budget o (Err Spent) h e = absurd cc
-answer_wide form map budget o (Err Overwidth) h e = own h
-  where
-    own : IsTooWide (search_form form) (search_image form map) budget → IsSearchTooWide form budget
-    own (inl w) = w
-    own (inr w) = record { wide = inr (w.vector, (w.counted, subst HasLarge (own_image form map w.vector o w.full) w.large, w.reached)) }
+answer_wide form map budget some o (Ok b) h e = absurd cc
+answer_wide form map budget some o (Err Spent) h e = absurd cc
+answer_wide form map budget some o (Err Overwidth) h e = plain_wide form budget some (stopped_as (search_form form) (search_image form map) (λ v. v) budget (searchable form some) (λ v e. own_image form map v o e) h)
+
+-- how the search ends
+pub answer_end : (form : Form) (map : List (List ℤ)) (budget : ℕ) → 4 < form.columns → IsOwn map → (r : Result TwoBest SearchFault) →
+    MatchResult r (IsAnswer (search_form form) (search_image form map) budget) (IsFault (search_form form) (search_image form map) budget) → IsPlainEnd form budget r
+answer_end form map budget some o (Ok b) h = finished_as (search_form form) (search_image form map) (λ v. v) budget (searchable form some) (λ v e. own_image form map v o e) h.finished
+answer_end form map budget some o (Err Spent) h = outrun_as (search_form form) (search_image form map) (λ v. v) budget (searchable form some) (λ v e. own_image form map v o e) h
+answer_end form map budget some o (Err Overwidth) h = stopped_as (search_form form) (search_image form map) (λ v. v) budget (searchable form some) (λ v e. own_image form map v o e) h

@@ -1,16 +1,15 @@
 -- The rounded point and its neighbour, and small arrays with zeros at the end.
 use Rattle.std.proofs.Common.{◌≡◌, ◌⊎◌, inl, inr, ℕ, zero, suc, ◌+◌, ◌-◌, ◌<◌, ◌≤◌, ◌^◌, List, [], ◌∷◌, ◌++◌, length, get_or, set, ℤ, pos, negsuc, ◌+ℤ◌, ◌*ℤ◌, neg_ℤ, ◌<ℤ◌, ◌≤ℤ◌, arith}
-use Rattle.std.proofs.Common.{unsigned_abs, refl, ap, ap₂, sym, ◌∙◌, subst, replicate, length-append}
+use Rattle.std.proofs.Common.{unsigned_abs, refl, ap, ap₂, sym, ◌∙◌, subst, replicate, length-append, take, drop, not-le_of_lt}
 use Rattle.std.proofs.lemmas.Int.{ints, clamps}
 use Rattle.whole_math.specs.Rounding.{nearest_div}
 use Rattle.whole_math.proofs.Order.{polys}
 use Rattle.quadratic_form.specs.Rows.{value}
 use Rattle.int_search.specs.Suffixes.{SearchForm, IsSearchable, rest, offset, low}
-use Rattle.int_search.specs.PlainCount.{rounded, neighbour, first_moved, side, top, Counts}
-use Rattle.int_search.specs.VisitOrder.{IsWide}
+use Rattle.int_search.specs.PlainCount.{rounded, neighbour, first_moved, side, top, Counts, HasLarge}
 use Rattle.int_search.proofs.SuffixLaws.{low_grows}
 use Rattle.integer_form.specs.Kept.{IsZeroFrom}
-use Rattle.int_search.specs.Vectors.{IsSmall, suffix}
+use Rattle.int_search.specs.Vectors.{IsSmall, Holds, suffix}
 use Rattle.int_search.proofs.SuffixArrays.{suffix-set, suffix-none, suffix-cons}
 
 pub rounded-suc : (f : SearchForm) (n : ℕ) → rounded f (suc n) ≡ nearest_div (neg_ℤ (rest f (rounded f n))) (2 ^ 30) ∷ rounded f n
@@ -25,7 +24,7 @@ pub rounded_length : (f : SearchForm) (n : ℕ) → length (rounded f n) ≡ n
 rounded_length f zero = ap length (rounded-zero f)
 rounded_length f (suc n) = ap length (rounded-suc f n) ∙ ap (λ k. suc k) (rounded_length f n)
 
-rounded_split : (f : SearchForm) (k n : ℕ) → k ≤ n → (front : List ℤ) × (rounded f n ≡ front ++ rounded f k)
+pub rounded_split : (f : SearchForm) (k n : ℕ) → k ≤ n → (front : List ℤ) × (rounded f n ≡ front ++ rounded f k)
 rounded_split f k zero h = let none_left : 0 ≡ k = omega arith in ([], ap (rounded f) none_left)
 rounded_split f k (suc n) h = go (same_or_less k n h) (λ l. rounded_split f k n l)
   where
@@ -48,9 +47,6 @@ pub top_small : (f : SearchForm) (p q : ℤ) → p ≡ value f.p (rounded f f.si
 unfolding top
 top_small f p q a b h k = omega (arith, ints, clamps)
 
-pub top_wide : (f : SearchForm) (v : List ℤ) → value f.p v ≤ℤ top f → pos (2 ^ 62) ≤ℤ value f.p v → IsWide f 0
-top_wide f v h k = record { wide = inl (omega (arith, ints)) }
-
 pub counts_end : (f : SearchForm) (t q : List ℤ) → IsSearchable f → length (t ++ q) ≡ f.size → 0 < length q → value f.p (t ++ q) ≤ℤ top f → Counts f q
 counts_end f t q h k n m =
     let low_at_most : low f q ≤ℤ low f (t ++ q) = low_grows f h t q (omega arith) in
@@ -61,27 +57,9 @@ counts_end f t q h k n m =
     last : (a b v t : ℤ) → a ≤ℤ b → b ≤ℤ (pos (2 ^ 60) *ℤ v) → v ≤ℤ t → a ≤ℤ (pos (2 ^ 60) *ℤ t)
     last a b v t h k l = omega (arith, polys)
 
-pub rounded_wide : (f : SearchForm) (k : ℕ) → IsSearchable f → k < f.size → 2 ^ 30 ≤ unsigned_abs (nearest_div (neg_ℤ (rest f (rounded f k))) (2 ^ 30)) → IsWide f 0
-rounded_wide f k h m w =
-    let split = rounded_split f (suc k) f.size (omega arith) in
-    let whole_size : length (split.0 ++ rounded f (suc k)) ≡ f.size = ap length (sym split.1) ∙ rounded_length f f.size in
-    let value_at_most : value f.p (split.0 ++ rounded f (suc k)) ≤ℤ top f = subst (λ (s : List ℤ). value f.p s ≤ℤ top f) split.1 (top_first f) in
-    let counts_whole : Counts f (rounded f (suc k)) = counts_end f split.0 (rounded f (suc k)) h whole_size (let rounded_size : length (rounded f (suc k)) ≡ suc k = rounded_length f (suc k) in omega arith) value_at_most in
-    record { wide = inr (rounded f (suc k), (counts_whole, (0, at), inl (split.0, inl split.1))) }
-  where
-    at : 2 ^ 30 ≤ unsigned_abs (get_or (rounded f (suc k)) 0 (pos 0))
-    at = rw (rounded-suc f k) w
-
 pub neighbour_is : (f : SearchForm) (x : ℤ) (s : List ℤ) → rounded f f.size ≡ x ∷ s → neighbour f ≡ (x +ℤ side (offset f x s)) ∷ s
 unfolding neighbour
 neighbour_is f x s e = ap (first_moved f) e
-
-pub neighbour_wide : (f : SearchForm) (x y : ℤ) (s : List ℤ) → IsSearchable f → rounded f f.size ≡ x ∷ s → y ≡ x +ℤ side (offset f x s) → 2 ^ 30 ≤ unsigned_abs y → IsWide f 0
-neighbour_wide f x y s h e m w =
-    let neighbour_is_new : neighbour f ≡ y ∷ s = neighbour_is f x s e ∙ ap (λ z. z ∷ s) (sym m) in
-    let value_at_most : value f.p (y ∷ s) ≤ℤ top f = subst (λ (t : List ℤ). value f.p t ≤ℤ top f) neighbour_is_new (top_second f) in
-    let whole_size : length (y ∷ s) ≡ f.size = sym (ap length e) ∙ rounded_length f f.size in
-    record { wide = inr (y ∷ s, (counts_end f [] (y ∷ s) h whole_size (omega arith) value_at_most, (0, w), inl ([], inr neighbour_is_new))) }
 
 pub neighbour_length : (f : SearchForm) → 0 < f.size → length (neighbour f) ≡ f.size
 neighbour_length f h = go (rounded f f.size) refl (rounded_length f f.size)
@@ -132,13 +110,6 @@ rounded_next f z i x k h e g =
     let size_left : f.size - i ≡ suc (f.size - (i + 1)) = omega arith in
     suffix-set z i f.size x h k ∙ ap₂ (λ u v. u ∷ v) (g ∙ ap (λ v. nearest_div (neg_ℤ (rest f v)) (2 ^ 30)) e) e ∙ sym (rounded-suc f (f.size - (i + 1))) ∙ ap (rounded f) (sym size_left)
 
-pub rounded_is_wide : (f : SearchForm) (z : List ℤ) (i : ℕ) (x : ℤ) → IsSearchable f → i < f.size → suffix z (i + 1) f.size ≡ rounded f (f.size - (i + 1)) →
-    x ≡ nearest_div (neg_ℤ (rest f (suffix z (i + 1) f.size))) (2 ^ 30) →
-    2 ^ 30 ≤ unsigned_abs x → IsWide f 0
-rounded_is_wide f z i x k h e g w =
-    let is_nearest : x ≡ nearest_div (neg_ℤ (rest f (rounded f (f.size - (i + 1))))) (2 ^ 30) = g ∙ ap (λ v. nearest_div (neg_ℤ (rest f v)) (2 ^ 30)) e in
-    rounded_wide f (f.size - (i + 1)) k (omega arith) (subst (λ (y : ℤ). 2 ^ 30 ≤ unsigned_abs y) is_nearest w)
-
 pub rounded_first : (f : SearchForm) (z : List ℤ) → suffix z f.size f.size ≡ rounded f (f.size - f.size)
 rounded_first f z = let none_left : 0 ≡ f.size - f.size = omega arith in suffix-none z f.size f.size (omega arith) ∙ sym (rounded-zero f) ∙ ap (rounded f) none_left
 
@@ -178,3 +149,43 @@ zeros_start zero n zero g = refl
 zeros_start zero n (suc i) g = refl
 zeros_start (suc m) n zero g = refl
 zeros_start (suc m) n (suc i) g = zeros_start m 0 i (omega arith)
+
+-- ---- large entries
+large_after : (g s : List ℤ) → HasLarge s → HasLarge (g ++ s)
+large_after [] s h = h
+large_after (x ∷ g) s h = let later = large_after g s h in (suc later.0, later.1)
+
+pub rounded_is_large : (f : SearchForm) (z : List ℤ) (i : ℕ) (x : ℤ) → i < f.size → suffix z (i + 1) f.size ≡ rounded f (f.size - (i + 1)) →
+    x ≡ nearest_div (neg_ℤ (rest f (suffix z (i + 1) f.size))) (2 ^ 30) →
+    2 ^ 30 ≤ unsigned_abs x → HasLarge (rounded f f.size)
+rounded_is_large f z i x h e g w =
+    let k : ℕ = f.size - (i + 1) in
+    let is_nearest : x ≡ nearest_div (neg_ℤ (rest f (rounded f k))) (2 ^ 30) = g ∙ ap (λ v. nearest_div (neg_ℤ (rest f v)) (2 ^ 30)) e in
+    let split = rounded_split f (suc k) f.size (omega arith) in
+    let large_head : HasLarge (nearest_div (neg_ℤ (rest f (rounded f k))) (2 ^ 30) ∷ rounded f k) = (0, subst (λ (y : ℤ). 2 ^ 30 ≤ unsigned_abs y) is_nearest w) in
+    subst HasLarge (sym (split.1 ∙ ap (λ s. split.0 ++ s) (rounded-suc f k))) (large_after split.0 (nearest_div (neg_ℤ (rest f (rounded f k))) (2 ^ 30) ∷ rounded f k) large_head)
+
+pub neighbour_is_large : (f : SearchForm) (x y : ℤ) (s : List ℤ) → rounded f f.size ≡ x ∷ s → y ≡ x +ℤ side (offset f x s) → 2 ^ 30 ≤ unsigned_abs y → HasLarge (neighbour f)
+neighbour_is_large f x y s e m w =
+    let large_head : HasLarge (y ∷ s) = (0, w) in
+    subst HasLarge (sym (neighbour_is f x s e ∙ ap (λ z. z ∷ s) (sym m))) large_head
+
+take_small : (n : ℕ) (z : List ℤ) → IsSmall z → IsSmall (take n z)
+take_small zero z h zero = omega arith
+take_small zero z h (suc i) = omega arith
+take_small (suc n) [] h i = h i
+take_small (suc n) (x ∷ z) h zero = h zero
+take_small (suc n) (x ∷ z) h (suc i) = take_small n z (λ m. h (suc m)) i
+
+drop_small : (n : ℕ) (z : List ℤ) → IsSmall z → IsSmall (drop n z)
+drop_small zero z h i = h i
+drop_small (suc n) [] h i = h i
+drop_small (suc n) (x ∷ z) h i = drop_small n z (λ m. h (suc m)) i
+
+-- no entry of a small array is large
+pub small_suffix : (z : List ℤ) (i n : ℕ) → IsSmall z → HasLarge (suffix z i n) → ⊥
+unfolding suffix
+small_suffix z i n h l = not-le_of_lt (drop_small i (take n z) (take_small n z h) l.0) l.1
+
+pub held_small : (n : ℕ) (z v : List ℤ) → Holds n z v → HasLarge v → ⊥
+held_small n z v h l = small_suffix z 0 n h.small (subst HasLarge (sym h.is) l)

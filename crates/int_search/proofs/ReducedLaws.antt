@@ -1,5 +1,5 @@
 -- The search in the coordinates of a map that has an inverse.
-use Rattle.std.proofs.Common.{◌≡◌, ◌⊎◌, inl, inr, ⊎_elim, ℕ, ◌+◌, ◌-◌, ◌<◌, ◌≤◌, ◌^◌, List, [], ◌∷◌, length, take, ℤ, pos, ◌<ℤ◌, ◌≤ℤ◌, arith, refl, sym, ap, ◌∙◌, subst, Ok}
+use Rattle.std.proofs.Common.{◌≡◌, ◌⊎◌, inl, inr, ⊎_elim, ℕ, ◌+◌, ◌-◌, ◌<◌, ◌≤◌, ◌^◌, List, [], ◌∷◌, length, take, ℤ, pos, ◌<ℤ◌, ◌≤ℤ◌, arith, refl, sym, ap, ◌∙◌, subst, Result, Ok, Err}
 use Rattle.whole_math.specs.Vectors.{len}
 use Rattle.whole_math.proofs.Vectors.{len_is}
 use Rattle.whole_math.proofs.Order.{lins}
@@ -19,7 +19,7 @@ use Rattle.decorrelate.proofs.InverseLaws.{inverse_of}
 use Rattle.integer_form.specs.declared.form.Form.{Form}
 use Rattle.integer_form.specs.Forms.{integers_of, columns_of, factors_of, value_of}
 use Rattle.integer_form.specs.Kept.{constant_form}
-use Rattle.int_search.specs.Transformed.{transformed_form}
+use Rattle.int_search.specs.Transformed.{transformed_form, IsTransformedSmall}
 use Rattle.int_search.proofs.MapImageLaws.{image_block, reduced_value}
 use Rattle.int_search.proofs.SameMaps.{AreSameInside, form_as, small_as, block_as}
 use Rattle.int_search.specs.Suffixes.{SearchForm}
@@ -28,12 +28,16 @@ use Rattle.int_search.specs.VisitOrder.{IsReached}
 use Rattle.int_search.specs.Order.{IsLess}
 use Rattle.int_search.specs.Images.{image_of, IsMap}
 use Rattle.int_search.specs.SearchedForm.{search_form}
-use Rattle.int_search.specs.SearchStates.{CanSearch, search_image, IsTooWide}
-use Rattle.int_search.specs.Answers.{IsAnswer, IsFault, IsTwoBest}
-use Rattle.int_search.specs.ReducedCounts.{decorrelated, HasCountIn, IsVisitedInMap}
+use Rattle.int_search.specs.SearchStates.{CanSearch, search_image}
+use Rattle.int_search.specs.Answers.{IsAnswer, IsFault, IsTwoBest, IsPlainEnd}
+use Rattle.int_search.specs.ReducedCounts.{decorrelated, HasCountIn, IsVisitedInMap, EndsByItselfIn, ReducedEndsByItself, IsSearchEnd}
 use Rattle.int_search.specs.declared.answer.TwoBest.{TwoBest}
 use Rattle.int_search.specs.declared.answer.SearchFault.{SearchFault}
 use Rattle.int_search.specs.declared.answer.SearchFault.TheVariants.{Spent, Overwidth}
+use Rattle.int_search.specs.VisitedSuffixes.{EndsByItself}
+use Rattle.int_search.proofs.FormNumbers.{searchable}
+use Rattle.int_search.proofs.CountLaws.{IsTooWide, outrun_over, stopped_wide, finished_within}
+use Rattle.int_search.proofs.TraceLaws.{AreSameImages, finished_as, finished_not_outrun, finished_not_stopped}
 use Rattle.int_search.proofs.SuffixArrays.{suffix-all}
 use Rattle.int_search.proofs.ImageLaws.{image_length}
 use Rattle.int_search.proofs.PlainLaws.{length_of}
@@ -165,17 +169,77 @@ reduced_visits f r u budget b d t a = record {
   g = r.g;
   taken = t;
   few = subst (λ (s : SearchForm). AreAtMost s b.p2 budget)
-      (forms_same (integers_of r) (integers_of f) (factors_of r) (factors_of r) r.g r.g (columns_of r) (transformed_form (integers_of f) u.map f.p) d.integers refl refl d.form) a.visits;
+      (forms_same (integers_of r) (integers_of f) (factors_of r) (factors_of r) r.g r.g (columns_of r) (transformed_form (integers_of f) u.map f.p) d.integers refl refl d.form)
+      (subst (λ (p : ℤ). AreAtMost (search_form r) p budget) (sym a.p2) (finished_within (search_form r) (search_image r u.map) a.one a.two budget a.least a.finished));
 }
+
+-- ---- how the search ends there
+same_form : (f r : Form) (u : Unimodular) (factors : List Factor) (g : ℤ) → IsDecorrelated f r u →
+    (let answer : StepsAnswer = Ok (factors, constant_form g) in answer) ≡ Ok (factors_of r, constant_form r.g) →
+    search_form r ≡ decorrelated f u.map factors g
+unfolding own_of
+same_form f r u factors g d e =
+    let same_parts : (factors, constant_form g) ≡ (factors_of r, constant_form r.g) = ok_same (factors, constant_form g) (factors_of r, constant_form r.g) e in
+    forms_same (integers_of r) (integers_of f) (factors_of r) factors r.g g (columns_of r) (transformed_form (integers_of f) u.map f.p) d.integers
+    (sym (ap (λ (p : List Factor × List Column). p.0) same_parts)) (sym (ap (λ (p : List Factor × List Column). own_of p.1) same_parts)) d.form
+
+reduced_images : (f r : Form) (u : Unimodular) → IsDecorrelated f r u → AreSameImages (search_form r) (search_image r u.map) (apply (block (integers_of f) u.map))
+reduced_images f r u d v e = image_is f r u v d (e ∙ d.integers)
+
+pub reduced_finished : (f r : Form) (u : Unimodular) (budget : ℕ) (b : TwoBest) → IsDecorrelated f r u → 4 < r.columns → IsTransformedSmall (integers_of f) u.map f.p →
+    steps 3 (integers_of f) (transformed_form (integers_of f) u.map f.p) ≡ Ok (factors_of r, constant_form r.g) →
+    IsAnswer (search_form r) (search_image r u.map) budget b → EndsByItselfIn f budget u.map
+reduced_finished f r u budget b d some small t a = record {
+  small = small;
+  factors = factors_of r;
+  g = r.g;
+  taken = t;
+  finished = subst (λ (s : SearchForm). EndsByItself s (apply (block (integers_of f) u.map)) budget) (same_form f r u (factors_of r) r.g d refl)
+      (finished_as (search_form r) (search_image r u.map) (apply (block (integers_of f) u.map)) budget (searchable r some) (reduced_images f r u d) a.finished);
+}
+
+pub reduced_unfinished : (f r : Form) (u : Unimodular) (n : ℕ) (fault : SearchFault) (c : EndsByItselfIn f n u.map) → IsDecorrelated f r u → 4 < r.columns →
+    (let answer : StepsAnswer = Ok (c.factors, constant_form c.g) in answer) ≡ Ok (factors_of r, constant_form r.g) →
+    IsFault (search_form r) (search_image r u.map) n fault → ⊥
+reduced_unfinished f r u n fault c d some e = go fault
+  where
+    finished : EndsByItself (search_form r) (search_image r u.map) n
+    finished = finished_as (search_form r) (apply (block (integers_of f) u.map)) (search_image r u.map) n (searchable r some) (λ v i. sym (reduced_images f r u d v i))
+        (subst (λ (s : SearchForm). EndsByItself s (apply (block (integers_of f) u.map)) n) (sym (same_form f r u c.factors c.g d e)) c.finished)
+
+    go : (fault : SearchFault) → IsFault (search_form r) (search_image r u.map) n fault → ⊥
+    go Spent h = finished_not_outrun (search_form r) (search_image r u.map) n finished h
+    go Overwidth h = finished_not_stopped (search_form r) (search_image r u.map) n n finished h
+
+-- it ends by itself, whatever map with these entries it is taken in
+pub finished_in : (f : Form) (n : ℕ) (a b : List (List ℤ)) → AreSameInside (integers_of f) (entry a) (entry b) → EndsByItselfIn f n a → EndsByItselfIn f n b
+finished_in f n a b e c = record {
+  small = small_as (integers_of f) a b f.p e c.small;
+  factors = c.factors;
+  g = c.g;
+  taken = subst (λ (p : List Column). steps 3 (integers_of f) p ≡ Ok (c.factors, constant_form c.g)) form c.taken;
+  finished = subst (λ (m : List (List ℤ)). EndsByItself (decorrelated f b c.factors c.g) (apply m) n) (block_as (integers_of f) a b e)
+      (subst (λ (s : SearchForm). EndsByItself s (apply (block (integers_of f) a)) n) same c.finished);
+}
+  where
+    form : transformed_form (integers_of f) a f.p ≡ transformed_form (integers_of f) b f.p
+    form = form_as (integers_of f) a b f.p e
+
+    same : decorrelated f a c.factors c.g ≡ decorrelated f b c.factors c.g
+    same = forms_same (integers_of f) (integers_of f) c.factors c.factors c.g c.g (transformed_form (integers_of f) a f.p) (transformed_form (integers_of f) b f.p) refl refl refl form
+
+pub end_of : (f : Form) (n : ℕ) (r : Result TwoBest SearchFault) → (ReducedEndsByItself f n → ⊥) → IsPlainEnd f n r → IsSearchEnd f n r
+end_of f n (Ok b) h p = inr p
+end_of f n (Err e) h p = (h, p)
 
 apart : (x y : ℤ) → x <ℤ y → y ≤ℤ x → ⊥
 apart x y h g = omega (arith, lins)
 
 pub reduced_fault : (f r : Form) (u : Unimodular) (n : ℕ) (fault : SearchFault) (c : HasCountIn f n u.map) → IsDecorrelated f r u →
     (let answer : StepsAnswer = Ok (c.factors, constant_form c.g) in answer) ≡ Ok (factors_of r, constant_form r.g) →
-    IsFault (search_form r) (search_image r u.map) n fault → ⊥
-reduced_fault f r u n Spent c d e h = c.counted (subst (λ (s : SearchForm). IsOver s n) (search_same f r u n c d e) h)
-reduced_fault f r u n Overwidth c d e h = wide (subst (λ (s : SearchForm). IsTooWide s (search_image r u.map) n) (search_same f r u n c d e) h)
+    4 < r.columns → IsFault (search_form r) (search_image r u.map) n fault → ⊥
+reduced_fault f r u n Spent c d e some h = c.counted (subst (λ (s : SearchForm). IsOver s n) (search_same f r u n c d e) (outrun_over (search_form r) (search_image r u.map) n (searchable r some) h))
+reduced_fault f r u n Overwidth c d e some h = wide (subst (λ (s : SearchForm). IsTooWide s (search_image r u.map) n) (search_same f r u n c d e) (stopped_wide (search_form r) (search_image r u.map) n (searchable r some) h))
   where
     inside : (pos (2 ^ 62) ≤ℤ top (decorrelated f u.map c.factors c.g)) ⊎ ((s : List ℤ) × (Counts (decorrelated f u.map c.factors c.g) s × HasLarge s × IsReached (decorrelated f u.map c.factors c.g) n s)) → ⊥
     inside (inl w) = apart (top (decorrelated f u.map c.factors c.g)) (pos (2 ^ 62)) c.top_small w

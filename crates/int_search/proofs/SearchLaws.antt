@@ -1,29 +1,23 @@
 -- The search's state over its turns.
 use Rattle.std.proofs.Common.{◌≡◌, ◌⊎◌, inl, inr, ℕ, ◌+◌, ◌<◌, ◌≤◌, ◌^◌, List, [], ◌∷◌, length, ℤ, pos, ◌+ℤ◌, ◌*ℤ◌, ◌<ℤ◌, ◌≤ℤ◌, arith, refl, ap, unsigned_abs}
+use Rattle.std.proofs.lemmas.Int.{ints, by_lt_z}
 use Rattle.std.proofs.lemmas.List.Elements.{All-nil}
-use Rattle.whole_math.proofs.Order.{polys}
 use Rattle.whole_math.proofs.Inequalities.{le_refl_ℤ, le_trans_ℤ}
 use Rattle.quadratic_form.specs.Rows.{value}
 use Rattle.int_search.specs.Suffixes.{SearchForm, IsSearchable, low, offset, weight}
-use Rattle.int_search.specs.PlainCount.{AreAtMost, Counts, IsOver, HasLarge, top}
-use Rattle.int_search.specs.VisitOrder.{IsWide, IsWideIn}
+use Rattle.int_search.specs.PlainCount.{HasLarge, top}
+use Rattle.int_search.specs.VisitOrder.{IsBefore}
+use Rattle.int_search.specs.VisitedSuffixes.{IsVisited, HasTwoBetter, IsTooLarge, IsStartTooWide, MeetsTooWide, EndsByItself, IsOverBudget}
 use Rattle.int_search.specs.Order.{IsLess, AreTwoLeast}
 use Rattle.int_search.specs.Levels.{tail_of, IsFree, IsOpenAt, IsOpen, IsLevel, AreUnder, AreLevels, Takes}
-use Rattle.int_search.specs.Search.{IsSettled, IsSearch, IsOffered}
+use Rattle.int_search.specs.Search.{Precedes, AreStartPoints, IsSettled, IsSearch, IsOffered}
 use Rattle.int_search.specs.declared.stack.Level.{Level}
-use Rattle.int_search.proofs.OrderLaws.{settled_first, settled_second, less_le}
+use Rattle.int_search.proofs.OrderLaws.{settled_first, settled_second, less_le, less_apart}
 use Rattle.int_search.proofs.SuffixLaws.{IsNearest, far_all}
-use Rattle.int_search.proofs.OpenLaws.{leaf_closed, leaf_before, leaf_after, inner_closed, inner_before, inner_after, HasLast, has_last, visited_more, visited_same, visited_over}
+use Rattle.int_search.proofs.OpenLaws.{leaf_before, leaf_after, inner_before, inner_after, HasLast, has_last}
 use Rattle.int_search.proofs.OpenLaws.{pop_settles, pop_after}
-use Rattle.int_search.proofs.Counting.{visited_all}
-use Rattle.int_search.proofs.VisitLaws.{next_reached}
-
--- a suffix that is not past the second counts
-pub counts_from : (f : SearchForm) (x : ℤ) (s two : List ℤ) → length s < f.size → low f (x ∷ s) ≤ℤ (pos (2 ^ 60) *ℤ value f.p two) → value f.p two ≤ℤ top f → Counts f (x ∷ s)
-counts_from f x s two h k b = record { some = omega arith; most = omega arith; within = step (low f (x ∷ s)) (value f.p two) (top f) k b }
-  where
-    step : (l v t : ℤ) → l ≤ℤ (pos (2 ^ 60) *ℤ v) → v ≤ℤ t → l ≤ℤ (pos (2 ^ 60) *ℤ t)
-    step l v t h k = omega (arith, polys)
+use Rattle.int_search.proofs.PointOrder.{pair_before}
+use Rattle.int_search.proofs.TraceLaws.{leaf_first, inner_first, next_visited, next_candidate, traced_same, traced_more, next_within, next_outruns, traced_finished}
 
 -- the level and the second say that x::s is open
 pub open_head : (a : Level) (r : List Level) (x : ℤ) (s : List ℤ) → IsFree a x → IsOpen (a ∷ r) s (x ∷ s)
@@ -43,7 +37,7 @@ search_pop f im a r s one two n c h k m far = record {
   bound = k.bound;
   levels = levels_tail f r s k.levels.1;
   covered = record { each = λ v g. go v g (k.covered.each v g) };
-  visited = visited_same f (value f.p two) (a ∷ r) r s (tail_of s) n (λ v o. inr o) (λ v g. pop_after f (pos (2 ^ 60) *ℤ value f.p two) a r s v h g past) k.visited;
+  traced = traced_same f im (a ∷ r) r s (tail_of s) one two n h k.one_size k.two_size k.ordered (λ v o. inr o) (λ v g. pop_after f (pos (2 ^ 60) *ℤ value f.p two) a r s v h g past) k.traced;
 }
   where
     past : (y : ℤ) → IsFree a y → (pos (2 ^ 60) *ℤ value f.p two) <ℤ low f (y ∷ s)
@@ -53,21 +47,24 @@ search_pop f im a r s one two n c h k m far = record {
     go v g (inl o) = inl o
     go v g (inr o) = pop_settles f im a r s one two v h g past o
 
-pub search_inner : (f : SearchForm) (im : List ℤ → List ℤ) (a b c : Level) (r : List Level) (x : ℤ) (s one two : List ℤ) (n : ℕ) → IsSearch f im (a ∷ r) s one two n → Takes a x b →
+pub search_inner : (f : SearchForm) (im : List ℤ → List ℤ) (a b c : Level) (r : List Level) (x z : ℤ) (s one two : List ℤ) (n : ℕ) → IsSearch f im (a ∷ r) s one two n → IsNearest a z → offset f x s ≡ z → (HasLarge (x ∷ s) → ⊥) → Takes a x b →
     IsLevel f b s → IsLevel f c (x ∷ s) → ((y : ℤ) → IsFree c y) →
     low f (x ∷ s) ≤ℤ (pos (2 ^ 60) *ℤ value f.p two) → IsSearch f im (c ∷ b ∷ r) (x ∷ s) one two (n + 1)
-search_inner f im a b c r x s one two n k t fb fc all l = record {
+search_inner f im a b c r x z s one two n k nz iz small t fb fc all l = record {
   one_size = k.one_size;
   two_size = k.two_size;
   ordered = k.ordered;
   bound = k.bound;
   levels = (fc, (fb, (t.above, t.under), k.levels.1));
   covered = record { each = λ v g. go v g (k.covered.each v g) };
-  visited = visited_more f (value f.p two) (value f.p two) (a ∷ r) (c ∷ b ∷ r) s (x ∷ s) n (x ∷ s) (open_head a r x s t.was_free) (counts_from f x s two k.levels.0.shorter l k.bound)
-      (inner_closed f a b c r x s k.levels.1 t) (λ v. inner_before a b c r x s v t)
-      (le_refl_ℤ (value f.p two)) (λ v m. inner_after a b c r x s v t all) k.visited;
+  traced = traced_more f im (a ∷ r) (c ∷ b ∷ r) s (x ∷ s) one two one two (x ∷ s) n (open_head a r x s t.was_free) (next_visited f im a r x z s one two k.levels k.covered nz iz l) narrow
+      (λ v. inner_before a b c r x s v t) (λ v o. inner_first f b c r x s v fb t.above t.under k.levels.1 o) (λ v m. inner_after a b c r x s v t all) (inl refl) (inr (inl refl)) k.traced;
 }
   where
+    narrow : IsTooLarge f im (x ∷ s) → ⊥
+    narrow (inl w) = small w
+    narrow (inr w) = let is_shorter = fc.shorter in let full = w.0.full in omega arith
+
     longer : (v : List ℤ) → length v ≡ f.size → (v ≡ x ∷ s) ⊎ IsOpen (c ∷ b ∷ r) (x ∷ s) v → IsOpen (c ∷ b ∷ r) (x ∷ s) v
     longer v g (inl e) = absurd (let is_shorter = fc.shorter in let same_length = ap length e in omega arith)
     longer v g (inr o) = o
@@ -77,30 +74,54 @@ search_inner f im a b c r x s one two n k t fb fc all l = record {
     go v g (inr o) = inr (longer v g (inner_after a b c r x s v t all o))
 
 pub offer_first : (f : SearchForm) (im : List ℤ → List ℤ) (one two z : List ℤ) → length one ≡ f.size → length z ≡ f.size → IsLess f im one two → IsLess f im z one → IsOffered f im one two z z one
-offer_first f im one two z a b o h = record { one_size = b; two_size = a; ordered = h; bound = less_le f im one two o; kept = λ v. settled_first f im one two z v o; offered = inl refl }
+offer_first f im one two z a b o h = record { one_size = b; two_size = a; ordered = h; bound = less_le f im one two o; kept = λ v. settled_first f im one two z v o; offered = inl refl; first_from = inr (inr refl); second_from = inl refl }
 
 pub offer_second : (f : SearchForm) (im : List ℤ → List ℤ) (one two z : List ℤ) → length one ≡ f.size → length z ≡ f.size → IsLess f im one z → IsLess f im z two → IsOffered f im one two z one z
-offer_second f im one two z a b o h = record { one_size = a; two_size = b; ordered = o; bound = less_le f im z two h; kept = λ v. settled_second f im one two z v h; offered = inr (inl refl) }
+offer_second f im one two z a b o h = record { one_size = a; two_size = b; ordered = o; bound = less_le f im z two h; kept = λ v. settled_second f im one two z v h; offered = inr (inl refl); first_from = inl refl; second_from = inr (inr refl) }
 
 pub offer_none : (f : SearchForm) (im : List ℤ → List ℤ) (one two z : List ℤ) → length one ≡ f.size → length two ≡ f.size → IsLess f im one two → IsSettled f im one two z →
     IsOffered f im one two z one two
-offer_none f im one two z a b o h = record { one_size = a; two_size = b; ordered = o; bound = le_refl_ℤ (value f.p two); kept = λ v k. k; offered = h }
+offer_none f im one two z a b o h = record { one_size = a; two_size = b; ordered = o; bound = le_refl_ℤ (value f.p two); kept = λ v k. k; offered = h; first_from = inl refl; second_from = inr (inl refl) }
 
-pub search_leaf : (f : SearchForm) (im : List ℤ → List ℤ) (a b : Level) (r : List Level) (x : ℤ) (s one two new_one new_two : List ℤ) (n : ℕ) → IsSearch f im (a ∷ r) s one two n →
+pub search_leaf : (f : SearchForm) (im : List ℤ → List ℤ) (a b : Level) (r : List Level) (x z : ℤ) (s one two new_one new_two : List ℤ) (n : ℕ) → IsSearchable f → IsSearch f im (a ∷ r) s one two n →
+    IsNearest a z → offset f x s ≡ z → (HasLarge (x ∷ s) → ⊥) → (value f.p (x ∷ s) ≤ℤ value f.p two → HasLarge (im (x ∷ s)) → ⊥) →
     Takes a x b → IsLevel f b s → length s + 1 ≡ f.size →
     low f (x ∷ s) ≤ℤ (pos (2 ^ 60) *ℤ value f.p two) → IsOffered f im one two (x ∷ s) new_one new_two → IsSearch f im (b ∷ r) s new_one new_two (n + 1)
-search_leaf f im a b r x s one two new_one new_two n k t fb e l o = record {
+search_leaf f im a b r x z s one two new_one new_two n h k nz iz small asked t fb e l o = record {
   one_size = o.one_size;
   two_size = o.two_size;
   ordered = o.ordered;
   bound = le_trans_ℤ o.bound k.bound;
   levels = (fb, k.levels.1);
   covered = record { each = λ v g. go v g (k.covered.each v g) };
-  visited = visited_more f (value f.p two) (value f.p new_two) (a ∷ r) (b ∷ r) s s n (x ∷ s) (open_head a r x s t.was_free) (counts_from f x s two k.levels.0.shorter l k.bound)
-      (leaf_closed f a b r x s k.levels.1 t) (λ v. leaf_before a b r x s v t)
-      o.bound (λ v m. leaf_after a b r x s v f.size t e m) k.visited;
+  traced = traced_more f im (a ∷ r) (b ∷ r) s s one two new_one new_two (x ∷ s) n (open_head a r x s t.was_free) (next_visited f im a r x z s one two k.levels k.covered nz iz l) narrow
+      (λ v. leaf_before a b r x s v t) (λ v m. leaf_first f b r x s v fb t.above t.under k.levels.1 m) (λ v m. leaf_after a b r x s v f.size t e m) o.first_from o.second_from k.traced;
 }
   where
+    narrow : IsTooLarge f im (x ∷ s) → ⊥
+    narrow (inl w) = small w
+    narrow (inr w) = by_lt_z (value f.p two) (value f.p (x ∷ s)) (λ g. w.0.kept (third g)) (λ g. asked g w.1)
+      where
+        chain : (a b c : ℤ) → a ≤ℤ b → b <ℤ c → a <ℤ c
+        chain a b c g i = omega (arith, ints)
+
+        third : value f.p two <ℤ value f.p (x ∷ s) → HasTwoBetter f (x ∷ s)
+        third g =
+            let ahead = k.traced.ahead (x ∷ s) (open_head a r x s t.was_free) in
+            let first_below : value f.p one <ℤ value f.p (x ∷ s) = chain (value f.p one) (value f.p two) (value f.p (x ∷ s)) (less_le f im one two k.ordered) g in
+            let both = pair_before f one two (x ∷ s) h k.one_size k.two_size (omega arith) (less_apart f im one two k.ordered) ahead.0 ahead.1 first_below g in
+            record {
+              one = one;
+              two = two;
+              one_size = k.one_size;
+              two_size = k.two_size;
+              differ = less_apart f im one two k.ordered;
+              one_before = both.0;
+              two_before = both.1;
+              one_below = first_below;
+              two_below = g;
+            }
+
     along : (v : List ℤ) → v ≡ x ∷ s → IsSettled f im new_one new_two v
     along v e = let P : List ℤ → Type 0 = λ w. IsSettled f im new_one new_two w in rw e o.offered
 
@@ -112,26 +133,28 @@ search_leaf f im a b r x s one two new_one new_two n k t fb e l o = record {
     go v g (inl m) = inl (o.kept v m)
     go v g (inr m) = after v (leaf_after a b r x s v f.size t e (omega arith) m)
 
-pub search_over : (f : SearchForm) (im : List ℤ → List ℤ) (a : Level) (r : List Level) (x : ℤ) (s one two : List ℤ) (n : ℕ) → IsSearch f im (a ∷ r) s one two n → IsFree a x →
-    low f (x ∷ s) ≤ℤ (pos (2 ^ 60) *ℤ value f.p two) → IsOver f n
-search_over f im a r x s one two n k h l = visited_over f (value f.p two) (a ∷ r) s n (x ∷ s) (open_head a r x s h) (counts_from f x s two k.levels.0.shorter l k.bound) k.visited
+-- the next suffix is within the second best value: the search visits more than n, and nothing within n visits is too wide
+pub search_outrun : (f : SearchForm) (im : List ℤ → List ℤ) (a : Level) (r : List Level) (x c : ℤ) (s one two : List ℤ) (n : ℕ) → IsSearch f im (a ∷ r) s one two n → IsNearest a c → offset f x s ≡ c →
+    IsFree a x → low f (x ∷ s) ≤ℤ (pos (2 ^ 60) *ℤ value f.p two) → IsOverBudget f im n
+search_outrun f im a r x c s one two n k e i h l = next_outruns f im (a ∷ r) s one two (x ∷ s) n (open_head a r x s h) (next_visited f im a r x c s one two k.levels k.covered e i l) k.traced
 
-pub search_wide : (f : SearchForm) (im : List ℤ → List ℤ) (a : Level) (r : List Level) (x c : ℤ) (s one two : List ℤ) (n m : ℕ) → IsSearch f im (a ∷ r) s one two n → IsNearest a c →
-    offset f x s ≡ c → n < m → low f (x ∷ s) ≤ℤ (pos (2 ^ 60) *ℤ value f.p two) → 2 ^ 30 ≤ unsigned_abs x → IsWide f m
-search_wide f im a r x c s one two n m k e i h l w = record {
-  wide = inr (x ∷ s, (counts_from f x s two k.levels.0.shorter l k.bound, (0, w), inr (next_reached f im a r x c s one two n m k e i h)));
-}
+-- the next suffix is too large
+pub search_stopped : (f : SearchForm) (im : List ℤ → List ℤ) (a : Level) (r : List Level) (x c : ℤ) (s one two : List ℤ) (n m : ℕ) → IsSearch f im (a ∷ r) s one two n → IsNearest a c → offset f x s ≡ c →
+    n < m → low f (x ∷ s) ≤ℤ (pos (2 ^ 60) *ℤ value f.p two) → 2 ^ 30 ≤ unsigned_abs x → MeetsTooWide f im m
+search_stopped f im a r x c s one two n m k e i h l w =
+    inr (x ∷ s, (next_visited f im a r x c s one two k.levels k.covered e i l, inl (0, w), next_within f im a r x c s one two n m k.levels e i h k.traced))
 
--- a full vector that is visited, and has a large entry in the coordinates of the answer
-pub search_wide_image : (f : SearchForm) (im : List ℤ → List ℤ) (a : Level) (r : List Level) (x c : ℤ) (s one two : List ℤ) (n m : ℕ) → IsSearch f im (a ∷ r) s one two n →
-    IsNearest a c → offset f x s ≡ c → n < m → length s + 1 ≡ f.size → low f (x ∷ s) ≤ℤ (pos (2 ^ 60) *ℤ value f.p two) → HasLarge (im (x ∷ s)) → IsWideIn f im m
-search_wide_image f im a r x c s one two n m k e i h g l w = record {
-  vector = x ∷ s;
-  full = omega arith;
-  counted = counts_from f x s two k.levels.0.shorter l k.bound;
-  large = w;
-  reached = inr (next_reached f im a r x c s one two n m k e i h);
-}
+pub search_stopped_image : (f : SearchForm) (im : List ℤ → List ℤ) (a : Level) (r : List Level) (x c : ℤ) (s one two : List ℤ) (n m : ℕ) → IsSearch f im (a ∷ r) s one two n → IsNearest a c → offset f x s ≡ c →
+    n < m → length s + 1 ≡ f.size → low f (x ∷ s) ≤ℤ (pos (2 ^ 60) *ℤ value f.p two) → value f.p (x ∷ s) ≤ℤ value f.p two → HasLarge (im (x ∷ s)) → MeetsTooWide f im m
+search_stopped_image f im a r x c s one two n m k e i h g l v w =
+    inr (
+      x ∷ s,
+      (
+        next_visited f im a r x c s one two k.levels k.covered e i l,
+        inr (next_candidate f im a r x c s one two k.levels k.covered e i (omega arith) v, w),
+        next_within f im a r x c s one two n m k.levels e i h k.traced,
+      ),
+    )
 
 pub search_end : (f : SearchForm) (im : List ℤ → List ℤ) (s one two : List ℤ) (n : ℕ) → IsSearch f im [] s one two n → AreTwoLeast f im one two
 search_end f im s one two n k = record { first_size = k.one_size; second_size = k.two_size; ordered = k.ordered; others = λ u g. go u (k.covered.each u g) }
@@ -141,24 +164,31 @@ search_end f im s one two n k = record { first_size = k.one_size; second_size = 
     go u (inr m) = absurd m
 
 pub search_start : (f : SearchForm) (im : List ℤ → List ℤ) (a : Level) (one two : List ℤ) → IsSearchable f → length one ≡ f.size → length two ≡ f.size → IsLess f im one two →
-    value f.p two ≤ℤ top f → IsLevel f a [] → ((y : ℤ) → IsFree a y) → IsSearch f im (a ∷ []) [] one two 0
-search_start f im a one two h p q o b fa all = record {
+    value f.p two ≤ℤ top f → AreStartPoints f one two → (IsStartTooWide f im → ⊥) → IsLevel f a [] → ((y : ℤ) → IsFree a y) → IsSearch f im (a ∷ []) [] one two 0
+search_start f im a one two h p q o b points narrow fa all = record {
   one_size = p;
   two_size = q;
   ordered = o;
   bound = b;
   levels = (fa, refl);
   covered = record { each = λ v g. inr (inl (found v (full v g))) };
-  visited = record {
+  traced = record {
     suffixes = [];
     many = refl;
     different = λ i j d k l. absurd (omega arith);
-    counted = All-nil (Counts f);
-    closed = All-nil (λ q. IsOpen (a ∷ []) [] q → ⊥);
-    met = λ q some most. inr (inr (inl (found q (ended q some))));
+    visited = All-nil (IsVisited f);
+    first = All-nil (λ t. (q : List ℤ) → IsOpen (a ∷ []) [] q → IsBefore f t q);
+    small = All-nil (λ t. IsTooLarge f im t → ⊥);
+    left = λ q some most. inr (inr (inl (found q (ended q some))));
+    ahead = λ q free. starts points;
+    started = narrow;
   };
 }
   where
+    starts : {q : List ℤ} → AreStartPoints f one two → Precedes f one q × Precedes f two q
+    starts (inl e) = (inl (inl e.0), inl (inr e.1))
+    starts (inr e) = (inl (inr e.0), inl (inl e.1))
+
     ended : (q : List ℤ) → 0 < length q → HasLast q
     ended [] g = absurd (omega arith)
     ended (x ∷ q) g = has_last x q
@@ -173,7 +203,6 @@ pub search_done : (f : SearchForm) (im : List ℤ → List ℤ) (fs : List Level
 search_done f im [] s one two n e k = search_end f im s one two n k
 search_done f im (a ∷ fs) s one two n e k = absurd (omega arith)
 
--- as many visits as it has made, each search makes at least that ends with the same second best value
-pub search_visits : (f : SearchForm) (im : List ℤ → List ℤ) (fs : List Level) (s one two : List ℤ) (n m : ℕ) → length fs ≡ 0 → n ≤ m → IsSearch f im fs s one two n → AreAtMost f (value f.p two) m
-search_visits f im [] s one two n m e l k = visited_all f (value f.p two) s n m l k.visited
-search_visits f im (a ∷ fs) s one two n m e l k = absurd (omega arith)
+pub search_finished : (f : SearchForm) (im : List ℤ → List ℤ) (fs : List Level) (s one two : List ℤ) (n m : ℕ) → length fs ≡ 0 → n ≤ m → IsSearch f im fs s one two n → EndsByItself f im m
+search_finished f im [] s one two n m e l k = traced_finished f im s one two n m l k.traced
+search_finished f im (a ∷ fs) s one two n m e l k = absurd (omega arith)

@@ -7,25 +7,26 @@ use Rattle.whole_math.proofs.Order.{polys}
 use Rattle.quadratic_form.specs.Rows.{value}
 use Rattle.form_tables.specs.declared.sizes.TheConstants.{MOST_INTEGERS}
 use Rattle.int_search.specs.Suffixes.{SearchForm, IsSearchable, rest, low, weight}
-use Rattle.int_search.specs.PlainCount.{AreAtMost, top, IsOver, HasLarge}
-use Rattle.int_search.specs.VisitOrder.{IsWide, IsWideIn}
+use Rattle.int_search.specs.PlainCount.{top, HasLarge}
+use Rattle.int_search.specs.VisitedSuffixes.{IsStartTooWide, MeetsTooWide, IsOverBudget}
 use Rattle.int_search.specs.Order.{IsLess, IsOneToOne}
 use Rattle.int_search.specs.Levels.{tail_of, IsLevel, Takes}
-use Rattle.int_search.specs.Search.{IsSearch, IsOffered}
+use Rattle.int_search.specs.Search.{AreStartPoints, IsSearch, IsOffered}
 use Rattle.int_search.specs.LatestLevel.{IsLatest}
 use Rattle.int_search.specs.declared.stack.Level.{Level}
 use Rattle.int_search.proofs.SuffixLaws.{low-nil, low_from, value_from, weight_from, weight_to}
-use Rattle.int_search.proofs.SearchLaws.{search_pop, search_inner, search_leaf, search_over, search_wide, search_wide_image, search_start, search_done, search_visits}
+use Rattle.int_search.proofs.SearchLaws.{search_pop, search_inner, search_leaf, search_outrun, search_stopped, search_stopped_image, search_start, search_done, search_finished}
 use Rattle.int_search.specs.Vectors.{IsSmall, Holds, suffix}
 use Rattle.int_search.specs.Steps.{IsFresh, Chooses, Moves, IsTermWithin}
 use Rattle.int_search.specs.Best.{HoldsBest, TakesOffer, KeepsBest}
-use Rattle.int_search.specs.SearchStates.{here, IsWalk, IsReach, BeginsWith, Offers, Visits, HasFound}
+use Rattle.int_search.specs.SearchStates.{here, IsWalk, IsReach, BeginsWith, Offers, IsImageTooLarge, Visits, HasFound}
 use Rattle.int_search.specs.declared.best.Best.{Best}
 use Rattle.int_search.specs.declared.walk.SearchState.{SearchState}
 use Rattle.int_search.specs.declared.walk.NextEntry.{NextEntry}
 use Rattle.integer_form.specs.declared.form.Form.{Form}
 use Rattle.int_search.specs.SearchedForm.{search_form}
 use Rattle.int_search.proofs.FormNumbers.{searchable, weight_is}
+use Rattle.int_search.proofs.PointLaws.{small_suffix, held_small}
 use Rattle.int_search.proofs.SuffixArrays.{suffix-set, suffix-above, suffix-tail, suffix-length, suffix-none}
 use Rattle.int_search.proofs.LevelMoves.{level_fresh, fresh_free, moved_takes, moved_level, chosen_nearest, chosen_offset, chosen_free, low_chosen}
 
@@ -145,7 +146,8 @@ walk_inner f im w r b c z st e k mo h v sm mv n ez es small ee fr =
     let fr2 : IsFresh (rest f (entry ∷ here f w)) (low f (entry ∷ here f w)) c =
     subst (λ (u : ℤ). IsFresh (rest f (entry ∷ here f w)) u c) v.low_is (subst (λ (u : ℤ). IsFresh u r.low c) (ee ∙ ap (rest f) suffix_with_entry) fr) in
     let fresh_is_level : IsLevel f c (entry ∷ here f w) = level_fresh f (entry ∷ here f w) c (omega arith) fr2 (bound_top (low f (entry ∷ here f w)) (value f.p h.two) (top f) low_at_most is_search.bound) in
-    let inner_search = search_inner f im r.level b c (drop 1 w.stack) entry (here f w) h.one h.two w.visits is_search takes_entry moved_is_level fresh_is_level (fresh_free (rest f (entry ∷ here f w)) (low f (entry ∷ here f w)) c fr2) low_at_most in
+    let inner_search = search_inner f im r.level b c (drop 1 w.stack) entry r.choice.offset (here f w) h.one h.two w.visits is_search (chosen_nearest r.level entry r.choice.offset r.choice.is_up v.chosen)
+    (chosen_offset f r.level (here f w) entry r.choice.offset r.choice.is_up is_search.levels.0 v.chosen) (λ l. small_suffix z (f.size - length w.stack) f.size small (subst HasLarge (sym suffix_with_entry) l)) takes_entry moved_is_level fresh_is_level (fresh_free (rest f (entry ∷ here f w)) (low f (entry ∷ here f w)) c fr2) low_at_most in
     let one_shorter : length (drop 1 w.stack) + 1 ≡ length w.stack = drop_length w.stack v.some in
     let depth_is : f.size + 1 - length (c ∷ (b ∷ drop 1 w.stack)) ≡ f.size - length w.stack = omega arith in
     let suffix_is : entry ∷ here f w ≡ suffix z (f.size + 1 - length (c ∷ (b ∷ drop 1 w.stack))) f.size = sym suffix_with_entry ∙ ap (λ j. suffix z j f.size) (sym depth_is) in
@@ -185,7 +187,12 @@ walk_leaf f im w new r b z st k mo h v sm mv n ez es small o =
     let full : length (here f w) + 1 ≡ f.size = omega arith in
     let taken_offer : TakesOffer f im new.best h.one h.two (suffix z 0 f.size) = o.taken h.one h.two is_search.one_size is_search.two_size is_search.ordered h.best in
     let off : IsOffered f im h.one h.two (entry ∷ here f w) taken_offer.new_one taken_offer.new_two = subst (λ (q : List ℤ). IsOffered f im h.one h.two q taken_offer.new_one taken_offer.new_two) suffix_with_entry taken_offer.offered in
-    let leaf_search = search_leaf f im r.level b (drop 1 w.stack) entry (here f w) h.one h.two taken_offer.new_one taken_offer.new_two w.visits is_search takes_entry moved_is_level full low_at_most off in
+    let asked : value f.p (entry ∷ here f w) ≤ℤ value f.p h.two → HasLarge (im (entry ∷ here f w)) → ⊥ =
+    (λ g l. o.asked (subst (λ (q : List ℤ). value f.p q ≤ℤ w.best.p2) (sym suffix_with_entry) (subst (λ (p : ℤ). value f.p (entry ∷ here f w) ≤ℤ p) (sym h.best.p2) g))
+    (subst (λ (q : List ℤ). HasLarge (im q)) (sym suffix_with_entry) l)) in
+    let leaf_search = search_leaf f im r.level b (drop 1 w.stack) entry r.choice.offset (here f w) h.one h.two taken_offer.new_one taken_offer.new_two w.visits k is_search
+    (chosen_nearest r.level entry r.choice.offset r.choice.is_up v.chosen) (chosen_offset f r.level (here f w) entry r.choice.offset r.choice.is_up is_search.levels.0 v.chosen)
+    (λ l. small_suffix z 0 f.size small (subst HasLarge (sym suffix_with_entry) l)) asked takes_entry moved_is_level full low_at_most off in
     let one_shorter : length (drop 1 w.stack) + 1 ≡ length w.stack = drop_length w.stack v.some in
     let depth_is : f.size + 1 - length (b ∷ drop 1 w.stack) ≡ f.size + 1 - length w.stack = omega arith in
     let one : f.size + 1 - length w.stack ≡ 1 = omega arith in
@@ -210,8 +217,8 @@ walk_leaf f im w new r b z st k mo h v sm mv n ez es small o =
 -- the image of the visited vector is too wide
 pub walk_wide_image : (f : SearchForm) (im : List ℤ → List ℤ) (w : SearchState) (r : NextEntry) (z : List ℤ) → f.size ≤ MOST_INTEGERS → IsWalk f im w → IsReach f w r → f.size - length w.stack ≡ 0 →
     z ≡ set w.z 0 r.choice.entry →
-    HasLarge (im (suffix z 0 f.size)) → IsWideIn f im (w.visits + 1)
-walk_wide_image f im w r z mo h v n ez large =
+    HasLarge (im (suffix z 0 f.size)) → value f.p (suffix z 0 f.size) ≤ℤ w.best.p2 → MeetsTooWide f im (w.visits + 1)
+walk_wide_image f im w r z mo h v n ez large asked =
     let is_search = focus f im w r.level h v.latest in
     let entry : ℤ = r.choice.entry in
     let dep = h.depth in
@@ -219,8 +226,12 @@ walk_wide_image f im w r z mo h v n ez large =
     let some = v.some in
     let suffix_with_entry : suffix z 0 f.size ≡ entry ∷ here f w = ap (λ q. suffix q 0 f.size) ez ∙ subst (λ (j : ℕ). suffix (set w.z j entry) j f.size ≡ entry ∷ here f w) n (set_here f im w entry mo h v.some) in
     let suffix_long : length (here f w) ≡ f.size - (f.size + 1 - length w.stack) = suffix-length w.z (f.size + 1 - length w.stack) f.size (omega arith) in
-    search_wide_image f im r.level (drop 1 w.stack) entry r.choice.offset (here f w) h.one h.two w.visits (w.visits + 1) is_search (chosen_nearest r.level entry r.choice.offset r.choice.is_up v.chosen)
-    (chosen_offset f r.level (here f w) entry r.choice.offset r.choice.is_up v.level v.chosen) (omega arith) (omega arith) (reach_within f im w r h v) (subst (λ (q : List ℤ). HasLarge (im q)) suffix_with_entry large)
+    let nearest = chosen_nearest r.level entry r.choice.offset r.choice.is_up v.chosen in
+    let offset_is = chosen_offset f r.level (here f w) entry r.choice.offset r.choice.is_up v.level v.chosen in
+    let large_image : HasLarge (im (entry ∷ here f w)) = subst (λ (q : List ℤ). HasLarge (im q)) suffix_with_entry large in
+    let at_most : value f.p (entry ∷ here f w) ≤ℤ value f.p h.two =
+    subst (λ (p : ℤ). value f.p (entry ∷ here f w) ≤ℤ p) h.best.p2 (subst (λ (q : List ℤ). value f.p q ≤ℤ w.best.p2) suffix_with_entry asked) in
+    search_stopped_image f im r.level (drop 1 w.stack) entry r.choice.offset (here f w) h.one h.two w.visits (w.visits + 1) is_search nearest offset_is (omega arith) (omega arith) (reach_within f im w r h v) at_most large_image
 
 -- ---- sizes
 pub low_size : (f : SearchForm) (im : List ℤ → List ℤ) (w : SearchState) (a : Level) → IsSearchable f → IsWalk f im w → IsLatest w.stack a → unsigned_abs a.low ≤ 2 ^ 122
@@ -243,12 +254,13 @@ chosen_sizes f a s x c true h k = let up_fits = h.up_size in let up_offset_fits 
 chosen_sizes f a s x c false h k = let down_fits = h.down_size in let down_offset_fits = h.down_offset_size in (omega (arith, ints), omega (arith, ints))
 
 -- ---- the ends of a turn
-pub walk_over : (f : SearchForm) (im : List ℤ → List ℤ) (w : SearchState) (r : NextEntry) → IsWalk f im w → IsReach f w r → IsOver f w.visits
-walk_over f im w r h v = search_over f im r.level (drop 1 w.stack) r.choice.entry (here f w) h.one h.two w.visits (focus f im w r.level h v.latest)
+pub walk_over : (f : SearchForm) (im : List ℤ → List ℤ) (w : SearchState) (r : NextEntry) → IsWalk f im w → IsReach f w r → IsOverBudget f im w.visits
+walk_over f im w r h v = search_outrun f im r.level (drop 1 w.stack) r.choice.entry r.choice.offset (here f w) h.one h.two w.visits (focus f im w r.level h v.latest)
+    (chosen_nearest r.level r.choice.entry r.choice.offset r.choice.is_up v.chosen) (chosen_offset f r.level (here f w) r.choice.entry r.choice.offset r.choice.is_up v.level v.chosen)
     (chosen_free r.level r.choice.entry r.choice.offset r.choice.is_up v.chosen) (reach_within f im w r h v)
 
-pub walk_wide : (f : SearchForm) (im : List ℤ → List ℤ) (w : SearchState) (r : NextEntry) (n : ℕ) → IsWalk f im w → IsReach f w r → w.visits < n → 2 ^ 30 ≤ unsigned_abs r.choice.entry → IsWide f n
-walk_wide f im w r n h v before s = search_wide f im r.level (drop 1 w.stack) r.choice.entry r.choice.offset (here f w) h.one h.two w.visits n (focus f im w r.level h v.latest)
+pub walk_wide : (f : SearchForm) (im : List ℤ → List ℤ) (w : SearchState) (r : NextEntry) (n : ℕ) → IsWalk f im w → IsReach f w r → w.visits < n → 2 ^ 30 ≤ unsigned_abs r.choice.entry → MeetsTooWide f im n
+walk_wide f im w r n h v before s = search_stopped f im r.level (drop 1 w.stack) r.choice.entry r.choice.offset (here f w) h.one h.two w.visits n (focus f im w r.level h v.latest)
     (chosen_nearest r.level r.choice.entry r.choice.offset r.choice.is_up v.chosen)
     (chosen_offset f r.level (here f w) r.choice.entry r.choice.offset r.choice.is_up v.level v.chosen) before (reach_within f im w r h v) s
 
@@ -259,7 +271,7 @@ walk_end f im w budget h n v = record {
   two = h.two;
   best = h.best;
   least = search_done f im w.stack (here f w) h.one h.two w.visits n h.search;
-  visits = subst (λ (p : ℤ). AreAtMost f p budget) (sym h.best.p2) (search_visits f im w.stack (here f w) h.one h.two w.visits budget n v h.search);
+  finished = search_finished f im w.stack (here f w) h.one h.two w.visits budget n v h.search;
 }
 
 pub left_less : (budget v v' m a b : ℕ) → v' ≡ v + 1 → v < budget → a ≤ b + 1 → 2 ≤ m → (budget - v') * m + a < (budget - v) * m + b
@@ -274,14 +286,14 @@ left_less budget v v' m a b e h k n =
 -- ---- the first state
 pub walk_begins : (f : SearchForm) (b : Best) (a : Level) (size : ℕ) (z : List ℤ) (st : List Level) (e g : ℤ) → IsSearchable f → size ≡ f.size → length z ≡ MOST_INTEGERS → IsSmall z → st ≡ a ∷ [] →
     e ≡ rest f (suffix z (f.size - 1 + 1) f.size) → g ≡ pos (2 ^ 60) *ℤ f.g → IsFresh e g a → BeginsWith f b (record { size = size; z = z; stack = st; visits = 0; best = b })
-walk_begins f b a size z st e g k es zr zs ss ee ge fr = record { begun = λ im one two p q o bd tp hb. (begun im one two p q o bd tp hb, refl) }
+walk_begins f b a size z st e g k es zr zs ss ee ge fr = record { begun = λ im one two p q o bd tp sp nw hb. (begun im one two p q o bd tp sp nw hb, refl) }
   where
     last : (a b v t : ℤ) → a ≤ℤ b → b ≤ℤ (pos (2 ^ 60) *ℤ v) → v ≤ℤ t → a ≤ℤ (pos (2 ^ 60) *ℤ t)
     last a b v t h k l = omega (arith, polys)
 
-    begun : (im : List ℤ → List ℤ) (one two : List ℤ) → length one ≡ f.size → length two ≡ f.size → IsLess f im one two → value f.p two ≤ℤ top f → top f <ℤ pos (2 ^ 62) → HoldsBest f im b one two →
+    begun : (im : List ℤ → List ℤ) (one two : List ℤ) → length one ≡ f.size → length two ≡ f.size → IsLess f im one two → value f.p two ≤ℤ top f → top f <ℤ pos (2 ^ 62) → AreStartPoints f one two → (IsStartTooWide f im → ⊥) → HoldsBest f im b one two →
         IsWalk f im (record { size = size; z = z; stack = st; visits = 0; best = b })
-    begun im one two p q o bd tp hb =
+    begun im one two p q o bd tp sp nw hb =
         let some = k.some in
         let nothing : suffix z (f.size - 1 + 1) f.size ≡ [] = suffix-none z (f.size - 1 + 1) f.size (omega arith) in
         let fr2 : IsFresh (rest f []) (low f []) a =
@@ -289,7 +301,7 @@ walk_begins f b a size z st e g k es zr zs ss ee ge fr = record { begun = λ im 
         let low_at_most : low f [] ≤ℤ (pos (2 ^ 60) *ℤ top f) = last (low f []) (low f two) (value f.p two) (top f)
         (subst (λ (m : ℤ). m ≤ℤ low f two) (sym (low-nil f k.each)) (low_from f two k (omega arith))) (k.below two q) bd in
         let first_is_level : IsLevel f a [] = level_fresh f [] a (omega arith) fr2 low_at_most in
-        let started_search = search_start f im a one two k p q o bd first_is_level (fresh_free (rest f []) (low f []) a fr2) in
+        let started_search = search_start f im a one two k p q o bd sp nw first_is_level (fresh_free (rest f []) (low f []) a fr2) in
         let one_level : length st ≡ 1 = ap length ss in
         let nothing_taken : [] ≡ suffix z (f.size + 1 - length st) f.size = sym (suffix-none z (f.size + 1 - length st) f.size (omega arith)) in
         record {
@@ -314,20 +326,21 @@ offers_best f im w p y b o l e k h = record {
   stack = refl;
   visits = refl;
   taken = λ one two a c m g. k.kept f im one two (suffix w.z 0 f.size) refl o a c l m g h e;
+  asked = λ g. held_small f.size y (im (suffix w.z 0 f.size)) h;
 }
 
 -- a visit at the first integer, by what the offer answers
 pub leaf_visit : (f : SearchForm) (im : List ℤ → List ℤ) (w new : SearchState) (r : NextEntry) (b : Level) (z : List ℤ) (st : List Level) (o : Bool) → IsSearchable f → f.size ≤ MOST_INTEGERS →
     IsWalk f im w → IsReach f w r → unsigned_abs r.choice.entry < 2 ^ 30 →
     Moves r.level r.choice.is_up b → f.size - length w.stack ≡ 0 → z ≡ set w.z 0 r.choice.entry → st ≡ b ∷ drop 1 w.stack → IsSmall z →
-    MatchBool o (Offers f im (record w { z = z; stack = st; visits = w.visits + 1 }) new) (HasLarge (im (suffix z 0 f.size))) →
-    MatchBool o (Visits f im w new) (IsWideIn f im (w.visits + 1))
+    MatchBool o (Offers f im (record w { z = z; stack = st; visits = w.visits + 1 }) new) (IsImageTooLarge f im (record w { z = z; stack = st; visits = w.visits + 1 })) →
+    MatchBool o (Visits f im w new) (MeetsTooWide f im (w.visits + 1))
 leaf_visit f im w new r b z st true k mo h v sm mv n ez es small o = record {
   walk = walk_leaf f im w new r b z st k mo h v sm mv n ez es small o;
   visits = o.visits;
   depth = let one_shorter = drop_length w.stack v.some in let stack_length = ap length (o.stack ∙ es) in omega arith;
 }
-leaf_visit f im w new r b z st false k mo h v sm mv n ez es small o = walk_wide_image f im w r z mo h v n ez o
+leaf_visit f im w new r b z st false k mo h v sm mv n ez es small o = walk_wide_image f im w r z mo h v n ez o.0 o.1
 
 pub reach_entry : (f : SearchForm) (w : SearchState) (r : NextEntry) → IsReach f w r → unsigned_abs r.choice.entry ≤ 2 ^ 61
 reach_entry f w r v = (chosen_sizes f r.level (here f w) r.choice.entry r.choice.offset r.choice.is_up v.level v.chosen).0

@@ -94,7 +94,7 @@ offset_mono f x y s h = rw (offset-is f x s, offset-is f y s) (step x y (rest f 
 
 -- c is the offset of the nearer of the two entries at the ends
 pub record IsNearest (a : Level) (c : ℤ) : Type 0 where
-  pub nearest : ((c ≡ a.up_offset) × (a.up_offset ≤ℤ neg_ℤ a.down_offset)) ⊎ ((c ≡ a.down_offset) × (neg_ℤ a.down_offset ≤ℤ a.up_offset))
+  pub nearest : ((c ≡ a.up_offset) × (a.up_offset ≤ℤ neg_ℤ a.down_offset)) ⊎ ((c ≡ a.down_offset) × (neg_ℤ a.down_offset <ℤ a.up_offset))
 
 -- where the nearer end is past a limit, so is each entry that is not taken
 pub far_all : (f : SearchForm) (a : Level) (s : List ℤ) (c limit : ℤ) → IsSearchable f → IsLevel f a s → IsNearest a c →
@@ -105,7 +105,7 @@ far_all f a s c limit h k n l y free =
     let product_far : (weight f s *ℤ (c *ℤ c)) ≤ℤ (weight f s *ℤ (offset f y s *ℤ offset f y s)) = mul_le_left (weight f s) (c *ℤ c) (offset f y s *ℤ offset f y s) weight_positive square_far in
     rw (low-cons f y s h.each k.shorter) (omega (arith, lins))
   where
-    sides : ((c ≡ a.up_offset) × (a.up_offset ≤ℤ neg_ℤ a.down_offset)) ⊎ ((c ≡ a.down_offset) × (neg_ℤ a.down_offset ≤ℤ a.up_offset)) → IsFree a y →
+    sides : ((c ≡ a.up_offset) × (a.up_offset ≤ℤ neg_ℤ a.down_offset)) ⊎ ((c ≡ a.down_offset) × (neg_ℤ a.down_offset <ℤ a.up_offset)) → IsFree a y →
         ((pos 0 ≤ℤ c) × (c ≤ℤ offset f y s)) ⊎ (((pos 0 ≤ℤ c) × (c ≤ℤ neg_ℤ (offset f y s))) ⊎ (((c ≤ℤ pos 0) × (neg_ℤ c ≤ℤ offset f y s)) ⊎ ((c ≤ℤ pos 0) × (offset f y s ≤ℤ c))))
     sides (inl m) (inr u) = let offset_at_most : offset f a.up s ≤ℤ offset f y s = offset_mono f a.up y s u in let up_offset_is = k.up_offset_is in let above_zero = k.above in inl (omega (arith, lins), omega (arith, lins))
     sides (inl m) (inl d) = let offset_at_most : offset f y s ≤ℤ offset f a.down s = offset_mono f y a.down s d in let down_offset_is = k.down_offset_is in let above_zero = k.above in

@@ -1,25 +1,17 @@
 -- What is open comes no earlier than the suffix that a search visits next, so it comes to that one after the visits that it has made.
-use Rattle.std.proofs.Common.{◌≡◌, ◌⊎◌, inl, inr, ℕ, ◌<◌, ◌≤◌, ◌^◌, List, [], ◌∷◌, ◌++◌, length, get_or, ℤ, pos, ◌+ℤ◌, ◌*ℤ◌, neg_ℤ, ◌<ℤ◌, ◌≤ℤ◌, arith, refl, ap, sym, ◌∙◌, subst, unsigned_abs, le_refl, not-le_of_lt}
+use Rattle.std.proofs.Common.{◌≡◌, ◌⊎◌, inl, inr, ⊎_elim, ℕ, ◌-◌, ◌<◌, ◌≤◌, ◌^◌, List, [], ◌∷◌, ◌++◌, length, ℤ, pos, negsuc, ◌+ℤ◌, ◌*ℤ◌, neg_ℤ, ◌<ℤ◌, ◌≤ℤ◌, arith, refl, ap, sym, ◌∙◌, subst, unsigned_abs, le_refl, not-le_of_lt}
 use Rattle.std.proofs.Common.{length-append, append_assoc}
-use Rattle.std.specs.List.{Contains}
 use Rattle.std.proofs.lemmas.Int.{ints}
 use Rattle.whole_math.proofs.Order.{polys}
-use Rattle.whole_math.proofs.Inequalities.{le_trans_ℤ}
-use Rattle.quadratic_form.specs.Rows.{value}
-use Rattle.int_search.specs.Suffixes.{SearchForm, offset, rest, low}
-use Rattle.int_search.specs.PlainCount.{IsWithin, Counts, HasLarge, top}
-use Rattle.int_search.specs.VisitOrder.{IsBefore, IsUpToSecond, IsReachedBy, IsReached, IsWide, IsWideIn}
-use Rattle.int_search.specs.Order.{IsLess}
+use Rattle.int_search.specs.Suffixes.{SearchForm, offset, rest}
+use Rattle.int_search.specs.VisitOrder.{IsCloser, IsBefore}
 use Rattle.int_search.specs.Levels.{tail_of, IsFree, IsOpenAt, IsOpen, IsLevel, AreUnder, AreLevels}
-use Rattle.int_search.specs.Search.{IsMet, IsSearch}
 use Rattle.int_search.specs.declared.stack.Level.{Level}
 use Rattle.int_search.proofs.SuffixLaws.{offset-is, IsNearest, offset_mono}
 use Rattle.int_search.proofs.OpenLaws.{same_heads, between_not_free, along_free}
-use Rattle.int_search.proofs.OrderLaws.{less_le, less_apart}
-use Rattle.int_search.proofs.Counting.{within_most}
 
 -- ---- of two entries before the same ones the taken one is no further
-offsets : (f : SearchForm) (x y : ℤ) (s : List ℤ) → x <ℤ y → (offset f x s +ℤ pos (2 ^ 30)) ≤ℤ offset f y s
+pub offsets : (f : SearchForm) (x y : ℤ) (s : List ℤ) → x <ℤ y → (offset f x s +ℤ pos (2 ^ 30)) ≤ℤ offset f y s
 offsets f x y s h = subst (λ (v : ℤ). (offset f x s +ℤ pos (2 ^ 30)) ≤ℤ v) (sym (offset-is f y s))
     (subst (λ (u : ℤ). (u +ℤ pos (2 ^ 30)) ≤ℤ ((pos (2 ^ 30) *ℤ y) +ℤ rest f s)) (sym (offset-is f x s)) (step x y (rest f s) h))
   where
@@ -31,25 +23,52 @@ past_end : (f : SearchForm) (a : Level) (s : List ℤ) (y : ℤ) → IsLevel f a
 past_end f a s y k (inl d) = inr (subst (λ (u : ℤ). offset f y s ≤ℤ u) (sym k.down_offset_is) (offset_mono f y a.down s d))
 past_end f a s y k (inr u) = inl (subst (λ (v : ℤ). v ≤ℤ offset f y s) (sym k.up_offset_is) (offset_mono f a.up y s u))
 
-taken_nearer : (f : SearchForm) (a : Level) (s : List ℤ) (x y : ℤ) → IsLevel f a s → a.down <ℤ x → x <ℤ a.up → IsFree a y → unsigned_abs (offset f x s) ≤ unsigned_abs (offset f y s)
-taken_nearer f a s x y k h g free =
+-- of offsets from one centre none comes before itself
+pub closer_never : (a : ℤ) → IsCloser a a → ⊥
+closer_never a (inl h) = not-le_of_lt h (le_refl (unsigned_abs a))
+closer_never a (inr h) = omega (arith, ints)
+
+-- nor after what it comes before
+pub closer_apart : (a b : ℤ) → IsCloser a b → IsCloser b a → ⊥
+closer_apart a b (inl h) (inl k) = omega arith
+closer_apart a b (inl h) (inr k) = omega arith
+closer_apart a b (inr h) (inl k) = omega arith
+closer_apart a b (inr h) (inr k) = omega (arith, ints)
+
+-- x is less far than y, or as far and above
+pub closer_from : (x y : ℤ) → unsigned_abs x ≤ unsigned_abs y → y <ℤ x → IsCloser x y
+closer_from x y h k = go (unsigned_abs x) (unsigned_abs y) h (λ l. inl l) (λ e. inr (e, k))
+  where
+    go : {P : Type 0} (m n : ℕ) → m ≤ n → (m < n → P) → (m ≡ n → P) → P
+    go m n h less same = ⊎_elim less same (split m n h)
+      where
+        split : (m n : ℕ) → m ≤ n → (m < n) ⊎ (m ≡ n)
+        split m n h = grind arith
+
+pub taken_first : (f : SearchForm) (a : Level) (s : List ℤ) (x y : ℤ) → IsLevel f a s → a.down <ℤ x → x <ℤ a.up → IsFree a y → IsCloser (offset f x s) (offset f y s)
+taken_first f a s x y k h g free =
     let over : (offset f a.down s +ℤ pos (2 ^ 30)) ≤ℤ offset f x s = offsets f a.down x s h in
     let under : (offset f x s +ℤ pos (2 ^ 30)) ≤ℤ offset f a.up s = offsets f x a.up s g in
     step (offset f x s) (offset f y s) a.up_offset a.down_offset (subst (λ (d : ℤ). (d +ℤ pos (2 ^ 30)) ≤ℤ offset f x s) (sym k.down_offset_is) over)
-    (subst (λ (u : ℤ). (offset f x s +ℤ pos (2 ^ 30)) ≤ℤ u) (sym k.up_offset_is) under) k.balanced (past_end f a s y k free)
+    (subst (λ (u : ℤ). (offset f x s +ℤ pos (2 ^ 30)) ≤ℤ u) (sym k.up_offset_is) under) k.balanced k.tied (past_end f a s y k free)
   where
-    step : (x y u d : ℤ) → (d +ℤ pos (2 ^ 30)) ≤ℤ x → (x +ℤ pos (2 ^ 30)) ≤ℤ u → unsigned_abs (u +ℤ d) ≤ 2 ^ 30 → (u ≤ℤ y) ⊎ (y ≤ℤ d) → unsigned_abs x ≤ unsigned_abs y
-    step x y u d a b c (inl h) = omega (arith, ints)
-    step x y u d a b c (inr h) = omega (arith, ints)
+    step : (x y u d : ℤ) → (d +ℤ pos (2 ^ 30)) ≤ℤ x → (x +ℤ pos (2 ^ 30)) ≤ℤ u → unsigned_abs (u +ℤ d) ≤ 2 ^ 30 → (negsuc (2 ^ 30 - 1) <ℤ (u +ℤ d)) ⊎ (u ≡ pos 0) → (u ≤ℤ y) ⊎ (y ≤ℤ d) → IsCloser x y
+    step x y u d a b c (inl t) (inl h) = inl (omega (arith, ints))
+    step x y u d a b c (inr t) (inl h) = absurd (omega (arith, ints))
+    step x y u d a b c t (inr h) = closer_from x y (omega (arith, ints)) (omega (arith, ints))
 
-chosen_nearer : (f : SearchForm) (a : Level) (s : List ℤ) (x c y : ℤ) → IsLevel f a s → IsNearest a c → offset f x s ≡ c → IsFree a y → unsigned_abs (offset f x s) ≤ unsigned_abs (offset f y s)
-chosen_nearer f a s x c y k n e free = step (offset f x s) (offset f y s) a.up_offset a.down_offset c e k.above k.under n.nearest (past_end f a s y k free)
+chosen_first : (f : SearchForm) (a : Level) (s : List ℤ) (x c y : ℤ) → IsLevel f a s → IsNearest a c → offset f x s ≡ c → IsFree a y → IsCloser (offset f y s) (offset f x s) → ⊥
+chosen_first f a s x c y k n e free = step (offset f x s) (offset f y s) a.up_offset a.down_offset c e k.above k.under n.nearest (past_end f a s y k free)
   where
-    step : (x y u d c : ℤ) → x ≡ c → pos 0 ≤ℤ u → d <ℤ pos 0 → ((c ≡ u) × (u ≤ℤ neg_ℤ d)) ⊎ ((c ≡ d) × (neg_ℤ d ≤ℤ u)) → (u ≤ℤ y) ⊎ (y ≤ℤ d) → unsigned_abs x ≤ unsigned_abs y
-    step x y u d c e p q (inl m) (inl h) = omega (arith, ints)
-    step x y u d c e p q (inl m) (inr h) = omega (arith, ints)
-    step x y u d c e p q (inr m) (inl h) = omega (arith, ints)
-    step x y u d c e p q (inr m) (inr h) = omega (arith, ints)
+    step : (x y u d c : ℤ) → x ≡ c → pos 0 ≤ℤ u → d <ℤ pos 0 → ((c ≡ u) × (u ≤ℤ neg_ℤ d)) ⊎ ((c ≡ d) × (neg_ℤ d <ℤ u)) → (u ≤ℤ y) ⊎ (y ≤ℤ d) → IsCloser y x → ⊥
+    step x y u d c e p q (inl m) (inl h) (inl i) = omega (arith, ints)
+    step x y u d c e p q (inl m) (inr h) (inl i) = omega (arith, ints)
+    step x y u d c e p q (inr m) (inl h) (inl i) = omega (arith, ints)
+    step x y u d c e p q (inr m) (inr h) (inl i) = omega (arith, ints)
+    step x y u d c e p q (inl m) (inl h) (inr i) = omega (arith, ints)
+    step x y u d c e p q (inl m) (inr h) (inr i) = omega (arith, ints)
+    step x y u d c e p q (inr m) (inl h) (inr i) = omega (arith, ints)
+    step x y u d c e p q (inr m) (inr h) (inr i) = omega (arith, ints)
 
 -- ---- two endings of one list
 record AreSameEnds (m n : ℤ) (u v : List ℤ) : Type 0 where
@@ -83,16 +102,15 @@ closed_at f b t q s more y k h g e (inr w) o = go (ends w.near_front o.front w.n
     go : Ends w.near o.head w.same t → ⊥
     go (inl m) =
         let far : w.far ≡ y = same_heads w.far_front more w.far y t (ap (λ l. w.far_front ++ (w.far ∷ l)) (sym m.tails) ∙ both) in
-        let near : unsigned_abs (offset f o.head t) < unsigned_abs (offset f y t) =
-        subst (λ (z : ℤ). unsigned_abs (offset f o.head t) < unsigned_abs (offset f z t)) far
-        (subst (λ (z : ℤ). unsigned_abs (offset f z t) < unsigned_abs (offset f w.far t)) m.heads
-        (subst (λ (l : List ℤ). unsigned_abs (offset f w.near l) < unsigned_abs (offset f w.far l)) m.tails w.nearer)) in
-        not-le_of_lt near (taken_nearer f b t y o.head k h g o.free)
+        let near : IsCloser (offset f o.head t) (offset f y t) =
+        subst (λ (z : ℤ). IsCloser (offset f o.head t) (offset f z t)) far
+        (subst (λ (z : ℤ). IsCloser (offset f z t) (offset f w.far t)) m.heads
+        (subst (λ (l : List ℤ). IsCloser (offset f w.near l) (offset f w.far l)) m.tails w.nearer)) in
+        closer_apart (offset f o.head t) (offset f y t) near (taken_first f b t y o.head k h g o.free)
     go (inr (inl m)) = between_not_free b y h g (along_free b o.head y (inside w.far_front more m.0 w.far y o.head w.same t both m.1) o.free)
     go (inr (inr m)) =
         let near : w.near ≡ w.far = inside more w.far_front m.0 y w.far w.near t w.same (sym both) m.1 in
-        not-le_of_lt
-        (subst (λ (z : ℤ). unsigned_abs (offset f w.near w.same) < unsigned_abs (offset f z w.same)) (sym near) w.nearer) (le_refl (unsigned_abs (offset f w.near w.same)))
+        closer_never (offset f w.near w.same) (subst (λ (z : ℤ). IsCloser (offset f w.near w.same) (offset f z w.same)) (sym near) w.nearer)
 
 closed_below : (f : SearchForm) (r : List Level) (t q s more : List ℤ) → AreUnder f r t → s ≡ more ++ t → IsBefore f q s → IsOpen r (tail_of t) q → ⊥
 closed_below f [] t q s more u e w o = o
@@ -117,63 +135,16 @@ closed_first f a s q x c k n e (inr w) o = go (ends w.near_front o.front w.near 
     go : Ends w.near o.head w.same s → ⊥
     go (inl m) =
         let far : w.far ≡ x = same_heads w.far_front [] w.far x s (ap (λ l. w.far_front ++ (w.far ∷ l)) (sym m.tails) ∙ both) in
-        let near : unsigned_abs (offset f o.head s) < unsigned_abs (offset f x s) =
-        subst (λ (z : ℤ). unsigned_abs (offset f o.head s) < unsigned_abs (offset f z s)) far
-        (subst (λ (z : ℤ). unsigned_abs (offset f z s) < unsigned_abs (offset f w.far s)) m.heads
-        (subst (λ (l : List ℤ). unsigned_abs (offset f w.near l) < unsigned_abs (offset f w.far l)) m.tails w.nearer)) in
-        not-le_of_lt near (chosen_nearer f a s x c o.head k n e o.free)
+        let near : IsCloser (offset f o.head s) (offset f x s) =
+        subst (λ (z : ℤ). IsCloser (offset f o.head s) (offset f z s)) far
+        (subst (λ (z : ℤ). IsCloser (offset f z s) (offset f w.far s)) m.heads
+        (subst (λ (l : List ℤ). IsCloser (offset f w.near l) (offset f w.far l)) m.tails w.nearer)) in
+        chosen_first f a s x c o.head k n e o.free near
     go (inr (inl m)) = too_long w.far_front m.0 w.far o.head (ap (λ l. w.far_front ++ (w.far ∷ l)) (sym m.1) ∙ both)
     go (inr (inr m)) =
         let near : w.near ≡ w.far = inside [] w.far_front m.0 x w.far w.near s w.same (sym both) m.1 in
-        not-le_of_lt
-        (subst (λ (z : ℤ). unsigned_abs (offset f w.near w.same) < unsigned_abs (offset f z w.same)) (sym near) w.nearer) (le_refl (unsigned_abs (offset f w.near w.same)))
+        closer_never (offset f w.near w.same) (subst (λ (z : ℤ). IsCloser (offset f w.near w.same) (offset f z w.same)) (sym near) w.nearer)
 
-closed_before : (f : SearchForm) (a : Level) (r : List Level) (s q : List ℤ) (x c : ℤ) → AreLevels f (a ∷ r) s → IsNearest a c → offset f x s ≡ c → IsBefore f q (x ∷ s) → IsOpen (a ∷ r) s q → ⊥
+pub closed_before : (f : SearchForm) (a : Level) (r : List Level) (s q : List ℤ) (x c : ℤ) → AreLevels f (a ∷ r) s → IsNearest a c → offset f x s ≡ c → IsBefore f q (x ∷ s) → IsOpen (a ∷ r) s q → ⊥
 closed_before f a r s q x c k n e w (inl o) = closed_first f a s q x c k.0 n e w o
 closed_before f a r s q x c k n e w (inr o) = closed_below f r s q (x ∷ s) (x ∷ []) k.1 refl w o
-
--- ---- the suffix that is visited next
-second_bound : (f : SearchForm) (im : List ℤ → List ℤ) (one two : List ℤ) (p : ℤ) → length one ≡ f.size → length two ≡ f.size → IsLess f im one two → IsUpToSecond f p → p ≤ℤ value f.p two
-second_bound f im one two p g h o u = go (u.each one two g h (less_apart f im one two o))
-  where
-    go : (p ≤ℤ value f.p one) ⊎ (p ≤ℤ value f.p two) → p ≤ℤ value f.p two
-    go (inl l) = le_trans_ℤ l (less_le f im one two o)
-    go (inr l) = l
-
-pub next_reached : (f : SearchForm) (im : List ℤ → List ℤ) (a : Level) (r : List Level) (x c : ℤ) (s one two : List ℤ) (n m : ℕ) → IsSearch f im (a ∷ r) s one two n → IsNearest a c →
-    offset f x s ≡ c → n < m → IsReachedBy f m (x ∷ s)
-next_reached f im a r x c s one two n m k e i h = record {
-  fewer = λ p u qs d w. less (length qs) (within_most f (value f.p two) (a ∷ r) s n qs d k.visited (λ j q l. visited p (second_bound f im one two p k.one_size k.two_size k.ordered u) (get_or qs j q) (w j q l)));
-}
-  where
-    less : (j : ℕ) → j ≤ n → j < m
-    less j l = omega arith
-
-    past : (p v l : ℤ) → p ≤ℤ v → l ≤ℤ (pos (2 ^ 60) *ℤ p) → (pos (2 ^ 60) *ℤ v) <ℤ l → ⊥
-    past p v l g h j = omega (arith, polys)
-
-    only : (p : ℤ) → p ≤ℤ value f.p two → (q : List ℤ) → IsWithin f p q → IsBefore f q (x ∷ s) → IsMet f (value f.p two) (a ∷ r) s k.visited.suffixes q → Contains k.visited.suffixes q
-    only p g q w b (inl t) = t
-    only p g q w b (inr (inl t)) = absurd (past p (value f.p two) (low f q) g w.within t)
-    only p g q w b (inr (inr t)) = absurd (closed_before f a r s q x c k.levels e i b t)
-
-    visited : (p : ℤ) → p ≤ℤ value f.p two → (q : List ℤ) → IsWithin f p q × IsBefore f q (x ∷ s) → Contains k.visited.suffixes q
-    visited p g q w = only p g q w.0 w.1 (k.visited.met q w.0.some w.0.most)
-
--- ---- what is reached within some visits is reached within more
-pub reached_more : (f : SearchForm) (n m : ℕ) (s : List ℤ) → n ≤ m → IsReached f n s → IsReached f m s
-reached_more f n m s h (inl w) = inl w
-reached_more f n m s h (inr w) = inr (record { fewer = λ p u qs d g. less (length qs) (w.fewer p u qs d g) })
-  where
-    less : (j : ℕ) → j < n → j < m
-    less j l = omega arith
-
-pub wide_more : (f : SearchForm) (n m : ℕ) → n ≤ m → IsWide f n → IsWide f m
-wide_more f n m h w = record { wide = go w.wide }
-  where
-    go : (pos (2 ^ 62) ≤ℤ top f) ⊎ ((s : List ℤ) × (Counts f s × HasLarge s × IsReached f n s)) → (pos (2 ^ 62) ≤ℤ top f) ⊎ ((s : List ℤ) × (Counts f s × HasLarge s × IsReached f m s))
-    go (inl t) = inl t
-    go (inr t) = inr (t.0, (t.1.0, t.1.1, reached_more f n m t.0 h t.1.2))
-
-pub wide_image_more : (f : SearchForm) (im : List ℤ → List ℤ) (n m : ℕ) → n ≤ m → IsWideIn f im n → IsWideIn f im m
-wide_image_more f im n m h w = record { vector = w.vector; full = w.full; counted = w.counted; large = w.large; reached = reached_more f n m w.vector h w.reached }

@@ -1,5 +1,5 @@
 -- What the levels of a search leave open.
-use Rattle.std.specs.Prelude.{◌≡◌, ◌⊎◌, ◌<◌, ◌≤◌, ◌^◌, List, [], ◌∷◌, ◌++◌, length, ℤ, pos, ◌+ℤ◌, ◌*ℤ◌, ◌<ℤ◌, ◌≤ℤ◌, unsigned_abs}
+use Rattle.std.specs.Prelude.{◌≡◌, ◌⊎◌, ◌-◌, ◌<◌, ◌≤◌, ◌^◌, List, [], ◌∷◌, ◌++◌, length, ℤ, pos, negsuc, ◌+ℤ◌, ◌*ℤ◌, ◌<ℤ◌, ◌≤ℤ◌, unsigned_abs}
 use Rattle.int_search.specs.Suffixes.{SearchForm, offset, low}
 use Rattle.int_search.specs.PlainCount.{top}
 use Rattle.int_search.specs.declared.stack.Level.{Level}
@@ -34,6 +34,8 @@ pub record IsLevel (f : SearchForm) (a : Level) (s : List ℤ) : Type 0 where
   pub apart : a.down <ℤ a.up
   -- of the ends none is more than one entry further than the other, so no entry that is taken is further than one that isn't
   pub balanced : unsigned_abs (a.up_offset +ℤ a.down_offset) ≤ 2 ^ 30
+  -- and none that is taken is as far and below one that isn't
+  pub tied : (negsuc (2 ^ 30 - 1) <ℤ (a.up_offset +ℤ a.down_offset)) ⊎ (a.up_offset ≡ pos 0)
   pub low_is : a.low ≡ low f s
   pub within : low f s ≤ℤ (pos (2 ^ 60) *ℤ top f)
   pub up_size : unsigned_abs a.up ≤ 2 ^ 61

@@ -1,5 +1,5 @@
 -- The reduced count of a form: the count of suffixes in decorrelated coordinates.
-use Rattle.std.specs.Prelude.{◌≡◌, ◌⊎◌, ℕ, ◌^◌, List, length, ℤ, pos, ◌<ℤ◌, Ok}
+use Rattle.std.specs.Prelude.{◌≡◌, ◌⊎◌, ℕ, ◌^◌, List, length, ℤ, pos, ◌<ℤ◌, Result, Ok, Err}
 use Rattle.quadratic_form.specs.Elimination.{Factor, steps}
 use Rattle.quadratic_form.specs.Maps.{apply}
 use Rattle.decorrelate.specs.declared.unimodular.Unimodular.{Unimodular}
@@ -11,8 +11,10 @@ use Rattle.integer_form.specs.Kept.{constant_form}
 use Rattle.int_search.specs.Transformed.{transformed_form, IsTransformedSmall}
 use Rattle.int_search.specs.Suffixes.{SearchForm}
 use Rattle.int_search.specs.PlainCount.{AreAtMost, Counts, HasLarge, IsOver, top}
-use Rattle.int_search.specs.Answers.{IsVisitedIn}
+use Rattle.int_search.specs.VisitedSuffixes.{EndsByItself}
+use Rattle.int_search.specs.Answers.{IsVisitedIn, PlainEndsByItself, IsPlainEnd}
 use Rattle.int_search.specs.declared.answer.TwoBest.{TwoBest}
+use Rattle.int_search.specs.declared.answer.SearchFault.{SearchFault}
 
 -- the form in the coordinates of a map, with these factors and this last entry
 abbrev pub decorrelated : Form → List (List ℤ) → List Factor → ℤ → SearchForm
@@ -38,6 +40,30 @@ pub record HasReducedCount (f : Form) (n : ℕ) : Type 0 where
   pub change : Unimodular
   pub reduced : IsReduced (integers_of f) f.d f.l change
   pub count : HasCountIn f n change.map
+
+-- in the coordinates of the map the form has a search, and it ends by itself within n visits, with nothing too wide
+pub record EndsByItselfIn (f : Form) (n : ℕ) (map : List (List ℤ)) : Type 0 where
+  pub small : IsTransformedSmall (integers_of f) map f.p
+  pub factors : List Factor
+  pub g : ℤ
+  pub taken : steps 3 (integers_of f) (transformed_form (integers_of f) map f.p) ≡ Ok (factors, constant_form g)
+  pub finished : EndsByItself (decorrelated f map factors g) (apply (block (integers_of f) map)) n
+
+-- the same in the coordinates that the reduction leaves
+pub record ReducedEndsByItself (f : Form) (n : ℕ) : Type 0 where
+  pub change : Unimodular
+  pub reduced : IsReduced (integers_of f) f.d f.l change
+  pub finished : EndsByItselfIn f n change.map
+
+-- the form has an answer within n visits: one of the two searches ends by itself
+abbrev pub HasAnswer : Form → ℕ → Type 0
+HasAnswer f n = ReducedEndsByItself f n ⊎ PlainEndsByItself f n
+
+-- how both searches end with a budget of n visits: with an answer where one of them ends by itself, and else as the one in the
+-- form's own coordinates
+abbrev pub IsSearchEnd : Form → ℕ → Result TwoBest SearchFault → Type 0
+IsSearchEnd f n (Ok b) = HasAnswer f n
+IsSearchEnd f n (Err e) = (ReducedEndsByItself f n → ⊥) × IsPlainEnd f n (Err e)
 
 -- at most n suffixes in the coordinates of the map have a lower sum of at most 2^60 times the second best value
 pub record IsVisitedInMap (f : Form) (n : ℕ) (b : TwoBest) (map : List (List ℤ)) : Type 0 where

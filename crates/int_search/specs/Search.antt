@@ -1,25 +1,35 @@
 -- What a search keeps from turn to turn.
-use Rattle.std.specs.Prelude.{◌≡◌, ◌≢◌, ◌⊎◌, ℕ, ◌<◌, ◌≤◌, ◌^◌, List, length, ℤ, pos, ◌*ℤ◌, ◌<ℤ◌, ◌≤ℤ◌, All, AllPairs}
+use Rattle.std.specs.Prelude.{◌≡◌, ◌≢◌, ◌⊎◌, ℕ, ◌<◌, ◌≤◌, List, length, ℤ, ◌≤ℤ◌, All, AllPairs}
 use Rattle.std.specs.List.{Contains}
 use Rattle.quadratic_form.specs.Rows.{value}
-use Rattle.int_search.specs.Suffixes.{SearchForm, low}
-use Rattle.int_search.specs.PlainCount.{top, Counts}
+use Rattle.int_search.specs.Suffixes.{SearchForm}
+use Rattle.int_search.specs.PlainCount.{rounded, neighbour, top}
+use Rattle.int_search.specs.VisitOrder.{IsBefore}
+use Rattle.int_search.specs.VisitedSuffixes.{IsLeftOut, IsVisited, IsTooLarge, IsStartTooWide}
 use Rattle.int_search.specs.Order.{IsLess}
 use Rattle.int_search.specs.Levels.{IsOpen, AreLevels}
 use Rattle.int_search.specs.declared.stack.Level.{Level}
 
--- q is one of the suffixes, or open, or its lower sum is past 2^60 times p
-abbrev pub IsMet : SearchForm → ℤ → List Level → List ℤ → List (List ℤ) → List ℤ → Type 0
-IsMet f p stack s suffixes q = Contains suffixes q ⊎ (((pos (2 ^ 60) *ℤ p) <ℤ low f q) ⊎ IsOpen stack s q)
+-- v is one of the two points with which a search begins, or comes before q
+abbrev pub Precedes : SearchForm → List ℤ → List ℤ → Type 0
+Precedes f v q = ((v ≡ rounded f f.size) ⊎ (v ≡ neighbour f)) ⊎ IsBefore f v q
 
--- n different suffixes that count, none of them open; all others whose lower sums are at most 2^60 times p are still open
-pub record HasVisited (f : SearchForm) (p : ℤ) (stack : List Level) (s : List ℤ) (n : ℕ) : Type 0 where
+-- the two are the rounded point and its neighbour
+abbrev pub AreStartPoints : SearchForm → List ℤ → List ℤ → Type 0
+AreStartPoints f one two = ((one ≡ rounded f f.size) × (two ≡ neighbour f)) ⊎ ((one ≡ neighbour f) × (two ≡ rounded f f.size))
+
+-- n different suffixes, each visited by definition, none too large, and before all that are open; each other suffix is left out
+-- by definition or open; the two best precede all that are open
+pub record HasVisitedAll (f : SearchForm) (image : List ℤ → List ℤ) (stack : List Level) (s one two : List ℤ) (n : ℕ) : Type 0 where
   pub suffixes : List (List ℤ)
   pub many : length suffixes ≡ n
   pub different : AllPairs (λ q r. q ≢ r) suffixes
-  pub counted : All (Counts f) suffixes
-  pub closed : All (λ q. IsOpen stack s q → ⊥) suffixes
-  pub met : (q : List ℤ) → 0 < length q → length q ≤ f.size → IsMet f p stack s suffixes q
+  pub visited : All (IsVisited f) suffixes
+  pub first : All (λ t. (q : List ℤ) → IsOpen stack s q → IsBefore f t q) suffixes
+  pub small : All (λ t. IsTooLarge f image t → ⊥) suffixes
+  pub left : (q : List ℤ) → 0 < length q → length q ≤ f.size → Contains suffixes q ⊎ (IsLeftOut f q ⊎ IsOpen stack s q)
+  pub ahead : (q : List ℤ) → IsOpen stack s q → Precedes f one q × Precedes f two q
+  pub started : IsStartTooWide f image → ⊥
 
 -- v can no longer change the two best
 abbrev pub IsSettled : SearchForm → (List ℤ → List ℤ) → List ℤ → List ℤ → List ℤ → Type 0
@@ -37,7 +47,7 @@ pub record IsSearch (f : SearchForm) (image : List ℤ → List ℤ) (stack : Li
   pub bound : value f.p two ≤ℤ top f
   pub levels : AreLevels f stack s
   pub covered : IsCovered f image stack s one two
-  pub visited : HasVisited f (value f.p two) stack s visits
+  pub traced : HasVisitedAll f image stack s one two visits
 
 -- the two best after z is offered
 pub record IsOffered (f : SearchForm) (image : List ℤ → List ℤ) (one two z new_one new_two : List ℤ) : Type 0 where
@@ -47,3 +57,5 @@ pub record IsOffered (f : SearchForm) (image : List ℤ → List ℤ) (one two z
   pub bound : value f.p new_two ≤ℤ value f.p two
   pub kept : (v : List ℤ) → IsSettled f image one two v → IsSettled f image new_one new_two v
   pub offered : IsSettled f image new_one new_two z
+  pub first_from : (new_one ≡ one) ⊎ ((new_one ≡ two) ⊎ (new_one ≡ z))
+  pub second_from : (new_two ≡ one) ⊎ ((new_two ≡ two) ⊎ (new_two ≡ z))

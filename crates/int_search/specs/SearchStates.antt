@@ -1,15 +1,15 @@
 -- The state of a search.
-use Rattle.std.specs.Prelude.{◌≡◌, ◌⊎◌, ℕ, ◌+◌, ◌*◌, ◌-◌, ◌<◌, ◌≤◌, ◌^◌, List, ◌∷◌, length, drop, ℤ, pos, ◌*ℤ◌, ◌<ℤ◌, ◌≤ℤ◌, unsigned_abs}
+use Rattle.std.specs.Prelude.{◌≡◌, ℕ, ◌+◌, ◌*◌, ◌-◌, ◌<◌, ◌≤◌, ◌^◌, List, ◌∷◌, length, drop, ℤ, pos, ◌*ℤ◌, ◌<ℤ◌, ◌≤ℤ◌, unsigned_abs}
 use Rattle.quadratic_form.specs.Rows.{value}
 use Rattle.form_tables.specs.declared.sizes.TheConstants.{MOST_INTEGERS}
 use Rattle.integer_form.specs.declared.form.Form.{Form}
 use Rattle.integer_form.specs.Forms.{integers_of}
 use Rattle.int_search.specs.Suffixes.{SearchForm, low}
-use Rattle.int_search.specs.PlainCount.{top, AreAtMost, IsOver}
-use Rattle.int_search.specs.VisitOrder.{IsWide, IsWideIn}
+use Rattle.int_search.specs.PlainCount.{top, HasLarge}
+use Rattle.int_search.specs.VisitedSuffixes.{IsStartTooWide, MeetsTooWide, EndsByItself, IsOverBudget}
 use Rattle.int_search.specs.Order.{AreTwoLeast, IsLess, IsOneToOne}
 use Rattle.int_search.specs.Levels.{IsLevel}
-use Rattle.int_search.specs.Search.{IsSearch}
+use Rattle.int_search.specs.Search.{AreStartPoints, IsSearch}
 use Rattle.int_search.specs.LatestLevel.{IsLatest}
 use Rattle.int_search.specs.Vectors.{IsSmall, suffix}
 use Rattle.int_search.specs.Images.{image_of, IsMap}
@@ -53,7 +53,7 @@ IsFresh f image w = IsWalk f image w × (w.visits ≡ 0)
 -- w is the search with these two best at its first level, whatever vectors they stand for
 pub record BeginsWith (f : SearchForm) (b : Best) (w : SearchState) : Type 0 where
   pub begun : (image : List ℤ → List ℤ) (one two : List ℤ) → length one ≡ f.size → length two ≡ f.size → IsLess f image one two →
-      value f.p two ≤ℤ top f → top f <ℤ pos (2 ^ 62) → HoldsBest f image b one two → IsFresh f image w
+      value f.p two ≤ℤ top f → top f <ℤ pos (2 ^ 62) → AreStartPoints f one two → (IsStartTooWide f image → ⊥) → HoldsBest f image b one two → IsFresh f image w
 
 -- r is the next entry of the latest level, and within the second best
 pub record IsReach (f : SearchForm) (w : SearchState) (r : NextEntry) : Type 0 where
@@ -82,6 +82,11 @@ pub record Offers (f : SearchForm) (image : List ℤ → List ℤ) (old new : Se
   pub visits : new.visits ≡ old.visits
   pub taken : (one two : List ℤ) → length one ≡ f.size → length two ≡ f.size → IsLess f image one two →
       HoldsBest f image old.best one two → TakesOffer f image new.best one two (suffix old.z 0 f.size)
+  pub asked : value f.p (suffix old.z 0 f.size) ≤ℤ old.best.p2 → HasLarge (image (suffix old.z 0 f.size)) → ⊥
+
+-- the vector z is not past the second best, and too large in the coordinates of the answer
+abbrev pub IsImageTooLarge : SearchForm → (List ℤ → List ℤ) → SearchState → Type 0
+IsImageTooLarge f image w = HasLarge (image (suffix w.z 0 f.size)) × (value f.p (suffix w.z 0 f.size) ≤ℤ w.best.p2)
 
 -- what a visit leaves
 pub record Visits (f : SearchForm) (image : List ℤ → List ℤ) (old new : SearchState) : Type 0 where
@@ -89,26 +94,22 @@ pub record Visits (f : SearchForm) (image : List ℤ → List ℤ) (old new : Se
   pub visits : new.visits ≡ old.visits + 1
   pub depth : length new.stack ≤ length old.stack + 1
 
--- within n visits the search comes to something too wide, here or in the coordinates of the answer
-abbrev pub IsTooWide : SearchForm → (List ℤ → List ℤ) → ℕ → Type 0
-IsTooWide f image n = IsWide f n ⊎ IsWideIn f image n
-
 -- what is left to do, at most
 abbrev pub left_of : ℕ → SearchState → ℕ
 left_of budget w = (budget - w.visits) * (w.size + 2) + length w.stack
 
--- w has the two least vectors, and no more suffixes than the budget are within the second
+-- w has the two least vectors, and the search has ended by itself within the budget
 pub record HasFound (f : SearchForm) (image : List ℤ → List ℤ) (budget : ℕ) (w : SearchState) : Type 0 where
   pub size : w.size ≡ f.size
   pub one : List ℤ
   pub two : List ℤ
   pub best : HoldsBest f image w.best one two
   pub least : AreTwoLeast f image one two
-  pub visits : AreAtMost f w.best.p2 budget
+  pub finished : EndsByItself f image budget
 
 -- what a turn gives, from one state to the next
 abbrev pub Gives : SearchForm → (List ℤ → List ℤ) → ℕ → SearchState → SearchState → Turn → Type 0
 Gives f image budget old new Going = IsWalk f image new × (new.visits ≤ budget) × (left_of budget new < left_of budget old)
 Gives f image budget old new Done = HasFound f image budget new
-Gives f image budget old new Spent = IsOver f budget
-Gives f image budget old new Wide = IsTooWide f image budget
+Gives f image budget old new Spent = IsOverBudget f image budget
+Gives f image budget old new Wide = MeetsTooWide f image budget

@@ -18,7 +18,7 @@ pub record IsFresh (rest low : ℤ) (a : Level) : Type 0 where
 -- x, with the offset c, is the nearer of the two entries at the ends
 abbrev pub Chooses : Level → ℤ → ℤ → Bool → Type 0
 Chooses a x c true = (x ≡ a.up) × (c ≡ a.up_offset) × (a.up_offset ≤ℤ neg_ℤ a.down_offset)
-Chooses a x c false = (x ≡ a.down) × (c ≡ a.down_offset) × (neg_ℤ a.down_offset ≤ℤ a.up_offset)
+Chooses a x c false = (x ≡ a.down) × (c ≡ a.down_offset) × (neg_ℤ a.down_offset <ℤ a.up_offset)
 
 -- b is a with the entry of that end taken
 abbrev pub Moves : Level → Bool → Level → Type 0

@@ -47,4 +47,5 @@ IsTransformedSmall n map p = AreWholesSmall n (entry map) (half_entry n (entry m
 -- r is the form p of n integers in the coordinates of the map
 pub record IsTransformed (n : ℕ) (map p : List (List ℤ)) (r : FrontForm) : Type 0 where
   pub columns : r.columns ≡ n + 4
+  pub small : IsTransformedSmall n map p
   pub form : form_of_table r.p (r.columns - 3) ≡ transformed_form n map p

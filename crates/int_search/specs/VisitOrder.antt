@@ -1,5 +1,5 @@
 -- In which order a search takes suffixes, and what it comes to that is too wide.
-use Rattle.std.specs.Prelude.{◌≡◌, ◌≢◌, ◌⊎◌, ℕ, ◌<◌, ◌^◌, List, ◌∷◌, ◌++◌, length, ℤ, pos, ◌≤ℤ◌, unsigned_abs, All, AllPairs}
+use Rattle.std.specs.Prelude.{◌≡◌, ◌≢◌, ◌⊎◌, ℕ, ◌<◌, ◌^◌, List, ◌∷◌, ◌++◌, length, ℤ, pos, ◌<ℤ◌, ◌≤ℤ◌, unsigned_abs, All, AllPairs}
 use Rattle.quadratic_form.specs.Rows.{value}
 use Rattle.int_search.specs.Suffixes.{SearchForm, offset}
 use Rattle.int_search.specs.PlainCount.{rounded, neighbour, top, IsWithin, Counts, HasLarge}
@@ -10,7 +10,11 @@ pub record IsEndOf (q s : List ℤ) : Type 0 where
   pub some : 0 < length front
   pub split : s ≡ front ++ q
 
--- after the same entries at the end, the entry of q is nearer to the centre that they give than that of s
+-- an offset from the centre comes before another: it is nearer, or as near and above
+abbrev pub IsCloser : ℤ → ℤ → Type 0
+IsCloser a b = (unsigned_abs a < unsigned_abs b) ⊎ ((unsigned_abs a ≡ unsigned_abs b) × (b <ℤ a))
+
+-- after the same entries at the end, the entry of q is nearer to the centre that they give than that of s, or as near and above it
 pub record IsNearer (f : SearchForm) (q s : List ℤ) : Type 0 where
   pub same : List ℤ
   pub near : ℤ
@@ -19,7 +23,7 @@ pub record IsNearer (f : SearchForm) (q s : List ℤ) : Type 0 where
   pub far_front : List ℤ
   pub near_split : q ≡ near_front ++ (near ∷ same)
   pub far_split : s ≡ far_front ++ (far ∷ same)
-  pub nearer : unsigned_abs (offset f near same) < unsigned_abs (offset f far same)
+  pub nearer : IsCloser (offset f near same) (offset f far same)
 
 -- q comes before s: s ends with it, or it is nearer
 abbrev pub IsBefore : SearchForm → List ℤ → List ℤ → Type 0

@@ -5,8 +5,8 @@ ghost use Rattle.form_tables.specs.declared.sizes.TheConstants.{MOST_INTEGERS};
 ghost use Rattle.form_tables.specs.Matrices.{EntriesBelow};
 ghost use Rattle.int_search.specs.Transformed.{with_constant, half_entry};
 
-use crate::products::entry_product;
 use form_tables::{FormTable, MOST_INTEGERS, MapTable, NormalTable};
+use whole_math::product;
 
 /// The entry of the map of n integers, with 1 for the constant.
 pub(crate) fn map_entry(map: &MapTable, n: usize, i: usize, j: usize) -> i64
@@ -35,7 +35,7 @@ fn half(p: &FormTable, map: &MapTable, n: usize, a: usize, j: usize) -> i128
 {
     let mut sum: i128 = 0;
     for b in 0..n + 1 {
-        sum += entry_product(map_entry(map, n, b, j), p.at(a, b));
+        sum += product::<30, 52>(map_entry(map, n, b, j), p.at(a, b));
     }
     sum
 }

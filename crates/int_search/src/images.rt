@@ -8,15 +8,7 @@ ghost use Rattle.int_search.specs.Images.{image_of, IsMap};
 
 use crate::steps::is_large;
 use form_tables::{MOST_INTEGERS, MapTable};
-
-fn small_product(factor: i64, entry: i64) -> i128
-    requires factor_size { unsigned_abs factor ≤ 2 ^ 30 }
-    requires entry_size { unsigned_abs entry ≤ 2 ^ 30 }
-    ensures value { result ≡ factor *ℤ entry }
-    ensures size { unsigned_abs result ≤ 2 ^ 60 }
-{
-    factor as i128 * entry as i128
-}
+use whole_math::product;
 
 /// The product of a row of the map and the first `size` entries of z.
 fn row_product(map: &MapTable, row: usize, z: &[i64; MOST_INTEGERS], size: usize) -> i128
@@ -29,7 +21,7 @@ fn row_product(map: &MapTable, row: usize, z: &[i64; MOST_INTEGERS], size: usize
 {
     let mut sum = 0;
     for k in 0..size {
-        sum += small_product(map.at(row, k), z[k]);
+        sum += product::<30, 30>(map.at(row, k), z[k]);
     }
     sum
 }

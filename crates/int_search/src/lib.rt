@@ -17,7 +17,16 @@
 //! the budget are within the second value. Where both could be said, the budget is asked first. Where the form has a reduced count that is at most the budget, it answers (`reduced`): it searches in the coordinates of
 //! `reduce` first, and where that ends without an answer, in the form's own ones with the same budget. `plain_best`
 //! is the second search alone, with the first four clauses, `visits` in the form's own coordinates. No call takes
-//! memory. The engine takes a map to the coordinates of the answer, and `plain_best` gives it the identity.
+//! memory.
+//!
+//! How a search ends is said exactly (`end`), without the search (`VisitedSuffixes`): it visits each suffix that isn't left out,
+//! where a suffix is left out if two different full vectors that come before it have values so far below its lower sum. It
+//! answers exactly where these suffixes are no more than the budget and none is too large; else it is spent where nothing that
+//! comes within the budget is too large, and too wide where something is. `two_best` answers exactly where one of its two
+//! searches does. So a form has one end with each budget (`one_end_law`), and a greater budget never loses an answer
+//! (`more_visits_law`). The other clauses on budgets follow from this one (`CountLaws`).
+//!
+//! The engine takes a map to the coordinates of the answer, and `plain_best` gives it the identity.
 //!
 //! `coordinates::transformed` gives exactly the form in the coordinates of a map, with the matrix Mᵀ·p·M, where 1 stands for
 //! the constant, and the same h; it is refused exactly where an entry of this matrix is 2^52 or more in size. At each vector
@@ -30,8 +39,8 @@
 //! `stack::Stack` is seen in contracts as the list of its levels with the latest first.
 //!
 //! `specs/` has what the search promises by: lower sums (`Suffixes`), the order of vectors and the two least (`Order`),
-//! the plain count (`PlainCount`), which suffix comes first (`VisitOrder`), what levels leave open (`Levels`), what a search keeps from turn to turn (`Search`).
-//! `proofs/` has their laws for every form whose lower sums stay below its values (`IsSearchable`).
+//! the plain count (`PlainCount`), which suffix comes first (`VisitOrder`), what is visited (`VisitedSuffixes`), what levels leave open (`Levels`), what a search keeps from turn to turn (`Search`).
+//! `proofs/` has their laws for every form whose lower sums stay below its values (`IsSearchable`): `TraceLaws` that the walk visits exactly what is visited by definition.
 #![tactic(auto)]
 
 mod answer;
@@ -52,6 +61,6 @@ mod values;
 mod walk;
 
 pub use answer::{SearchFault, TwoBest};
-pub use laws::value_law;
+pub use laws::{more_visits_law, one_end_law, value_law};
 pub use reduced::two_best;
 pub use search::plain_best;

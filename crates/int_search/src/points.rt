@@ -1,8 +1,7 @@
 //! The rounded point and its neighbour.
 ghost use Rattle.std.specs.Prelude.{◌≡◌, ◌<◌, ◌≤◌, ◌^◌, get_or, pos, ◌+ℤ◌, unsigned_abs, MatchOption};
-ghost use Rattle.int_search.specs.PlainCount.{rounded, neighbour, side};
+ghost use Rattle.int_search.specs.PlainCount.{rounded, neighbour, side, HasLarge};
 ghost use Rattle.int_search.specs.Suffixes.{offset};
-ghost use Rattle.int_search.specs.VisitOrder.{IsWide};
 ghost use Rattle.integer_form.specs.Forms.{integers_of};
 ghost use Rattle.int_search.specs.Vectors.{Holds, IsSmall, suffix};
 ghost use Rattle.int_search.specs.SearchedForm.{search_form};
@@ -16,7 +15,7 @@ use integer_form::Form;
 /// entry is large.
 pub(crate) fn rounded_point(form: &Form) -> Option<[i64; MOST_INTEGERS]>
     requires { 4 < form.now.columns }
-    ensures { MatchOption result (IsWide (search_form form.now) 0) (λ z. Holds (integers_of form.now) z (rounded (search_form form.now) (integers_of form.now))) }
+    ensures { MatchOption result (HasLarge (rounded (search_form form.now) (integers_of form.now))) (λ z. Holds (integers_of form.now) z (rounded (search_form form.now) (integers_of form.now))) }
 {
     let integers = form.columns - BASELINE_COLUMNS - 1;
     let mut z = [0; MOST_INTEGERS];
@@ -58,7 +57,7 @@ fn one_further(x: i64, offset: i128) -> i64
 pub(crate) fn neighbour_point(form: &Form, z: &[i64; MOST_INTEGERS]) -> Option<[i64; MOST_INTEGERS]>
     requires some { 4 < form.now.columns }
     requires point { Holds (integers_of form.now) z.now (rounded (search_form form.now) (integers_of form.now)) }
-    ensures { MatchOption result (IsWide (search_form form.now) 0) (λ w. Holds (integers_of form.now) w (neighbour (search_form form.now))) }
+    ensures { MatchOption result (HasLarge (neighbour (search_form form.now))) (λ w. Holds (integers_of form.now) w (neighbour (search_form form.now))) }
 {
     let x = one_further(z[0], first_offset(form, z));
     if is_large(x as i128) {

@@ -1,16 +1,6 @@
 //! Products in the ranges of a form and of a map.
 ghost use Rattle.std.specs.Prelude.{◌≡◌, ◌^◌, ◌≤◌, ◌*ℤ◌, unsigned_abs};
 
-/// m · p
-pub(crate) fn entry_product(m: i64, p: i64) -> i128
-    requires m_size { unsigned_abs m ≤ 2 ^ 30 }
-    requires p_size { unsigned_abs p ≤ 2 ^ 52 }
-    ensures value { result ≡ m *ℤ p }
-    ensures size { unsigned_abs result ≤ 2 ^ 82 }
-{
-    m as i128 * p as i128
-}
-
 /// q · m
 pub(crate) fn half_product(q: i128, m: i64) -> i128
     requires q_size { unsigned_abs q ≤ 2 ^ 88 }

@@ -1,7 +1,7 @@
 //! The search in decorrelated coordinates.
 ghost use Rattle.std.specs.Prelude.{◌≡◌, ◌<◌, IfOk, IfErr, IfSome, MatchOption, Err};
 ghost use Rattle.int_search.specs.Answers.{IsTwoBest, IsPlainCountOver, IsSearchTooWide};
-ghost use Rattle.int_search.specs.ReducedCounts.{HasReducedCount, IsVisitedReducedIn, KeepsBudget};
+ghost use Rattle.int_search.specs.ReducedCounts.{HasReducedCount, IsVisitedReducedIn, KeepsBudget, ReducedEndsByItself, IsSearchEnd};
 ghost use Rattle.int_search.specs.declared.answer.SearchFault.TheVariants as SearchFault;
 
 use crate::answer::{SearchFault, TwoBest};
@@ -17,6 +17,7 @@ fn reduced_best(form: &Form, budget: u64) -> Option<TwoBest>
     requires { 4 < form.now.columns }
     ensures found { MatchOption result (HasReducedCount form.now budget → ⊥) (IsTwoBest form.now) }
     ensures visits { IfSome result (IsVisitedReducedIn form.now budget) }
+    ensures end { MatchOption result (ReducedEndsByItself form.now budget → ⊥) (λ b. ReducedEndsByItself form.now budget) }
 {
     let change = reduce(form.columns - BASELINE_COLUMNS - 1, &form.d, &form.l);
     let Some(front) = transformed(form, &change) else {
@@ -44,6 +45,7 @@ pub fn two_best(form: &Form, budget: u64) -> Result<TwoBest, SearchFault>
     ensures spent { result ≡ Err SearchFault.Spent → IsPlainCountOver form.now budget }
     ensures overwidth { result ≡ Err SearchFault.Overwidth → IsSearchTooWide form.now budget }
     ensures reduced { HasReducedCount form.now budget → IfErr result (λ e. ⊥) }
+    ensures end { IsSearchEnd form.now budget result }
 {
     match reduced_best(form, budget) {
         Some(best) => Ok(best),

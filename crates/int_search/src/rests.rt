@@ -7,15 +7,7 @@ ghost use Rattle.int_search.specs.SearchedForm.{search_form};
 
 use form_tables::{BASELINE_COLUMNS, MOST_INTEGERS};
 use integer_form::Form;
-
-fn product(factor: i64, entry: i64) -> i128
-    requires factor_size { unsigned_abs factor ≤ 2 ^ 52 }
-    requires entry_size { unsigned_abs entry ≤ 2 ^ 30 }
-    ensures value { result ≡ factor *ℤ entry }
-    ensures size { unsigned_abs result ≤ 2 ^ 82 }
-{
-    factor as i128 * entry as i128
-}
+use whole_math::product;
 
 /// Σ l·z over the integers after integer i, and the constant's l.
 pub(crate) fn later_part(form: &Form, i: usize, z: &[i64; MOST_INTEGERS]) -> i128
@@ -28,7 +20,7 @@ pub(crate) fn later_part(form: &Form, i: usize, z: &[i64; MOST_INTEGERS]) -> i12
     let column = BASELINE_COLUMNS + i;
     let mut sum = 0;
     for k in i + 1..integers {
-        sum += product(form.l.at(BASELINE_COLUMNS + k, column), z[k]);
+        sum += product::<52, 30>(form.l.at(BASELINE_COLUMNS + k, column), z[k]);
     }
     sum + form.l.at(BASELINE_COLUMNS + integers, column) as i128
 }

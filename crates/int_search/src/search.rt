@@ -2,7 +2,7 @@
 ghost use Rattle.std.specs.Prelude.{◌≡◌, ◌<◌, IfOk, MatchResult, Err};
 ghost use Rattle.int_search.specs.SearchedForm.{search_form};
 ghost use Rattle.int_search.specs.SearchStates.{CanSearch, search_image};
-ghost use Rattle.int_search.specs.Answers.{IsAnswer, IsFault, IsTwoBest, IsVisitedIn, IsPlainCountOver, IsSearchTooWide};
+ghost use Rattle.int_search.specs.Answers.{IsAnswer, IsFault, IsTwoBest, IsVisitedIn, IsPlainCountOver, IsSearchTooWide, IsPlainEnd};
 ghost use Rattle.int_search.specs.declared.answer.SearchFault.TheVariants as SearchFault;
 
 use crate::answer::{SearchFault, TwoBest};
@@ -46,6 +46,7 @@ pub fn plain_best(form: &Form, budget: u64) -> Result<TwoBest, SearchFault>
     ensures visits { IfOk result (IsVisitedIn form.now budget) }
     ensures spent { result ≡ Err SearchFault.Spent → IsPlainCountOver form.now budget }
     ensures overwidth { result ≡ Err SearchFault.Overwidth → IsSearchTooWide form.now budget }
+    ensures end { IsPlainEnd form.now budget result }
 {
     search(form, &identity(), budget)
 }

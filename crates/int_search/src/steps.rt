@@ -4,6 +4,7 @@ ghost use Rattle.int_search.specs.Steps.{IsFresh, Chooses, Moves, IsTermWithin};
 ghost use Rattle.whole_math.specs.Rounding.{floor_div, ceil_div, nearest_div};
 
 use crate::stack::Level;
+use whole_math::wide_product;
 
 /// The entry that comes next at a level.
 #[derive(Clone, Copy, Debug)]
@@ -135,16 +136,6 @@ fn small_square(c: i128) -> i128
     c * c
 }
 
-// d · q, where q is small
-fn small_product(d: i64, q: i128) -> i128
-    requires d_size { unsigned_abs d ≤ 2 ^ 52 }
-    requires q_size { unsigned_abs q ≤ 2 ^ 74 }
-    ensures value { result ≡ d *ℤ q }
-    ensures size { unsigned_abs result ≤ 2 ^ 126 }
-{
-    d as i128 * q
-}
-
 // ⌊room / d⌋
 fn share(room: i128, d: i64) -> i128
     requires room_size { unsigned_abs room ≤ 2 ^ 123 }
@@ -174,7 +165,7 @@ pub(crate) fn term_within(room: i128, d: i64, c: i128) -> Option<i128>
     ensures { MatchOption result (room <ℤ (d *ℤ (c *ℤ c))) (IsTermWithin room d c) }
 {
     if c.unsigned_abs() <= 1 << 37 {
-        let term = small_product(d, small_square(c));
+        let term = wide_product::<52, 74>(d, small_square(c));
         return if term <= room { Some(term) } else { None };
     }
     if room < 0 || c.unsigned_abs() > 1 << 62 {

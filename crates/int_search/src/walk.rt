@@ -1,11 +1,10 @@
 //! The search, depth first from the last integer to the first, at each level the nearest entry first.
 ghost use Rattle.std.specs.Prelude.{◌≡◌, ◌+◌, ◌^◌, ◌<◌, ◌≤◌, length, unsigned_abs, MatchOption, MatchBool};
 ghost use Rattle.integer_form.specs.Forms.{integers_of};
-ghost use Rattle.int_search.specs.PlainCount.{HasLarge};
-ghost use Rattle.int_search.specs.VisitOrder.{IsWideIn};
-ghost use Rattle.int_search.specs.Vectors.{IsSmall, suffix};
+ghost use Rattle.int_search.specs.VisitedSuffixes.{IsStartTooWide, MeetsTooWide};
+ghost use Rattle.int_search.specs.Vectors.{IsSmall};
 ghost use Rattle.int_search.specs.SearchedForm.{search_form};
-ghost use Rattle.int_search.specs.SearchStates.{CanSearch, search_image, IsWalk, IsFresh, BeginsWith, IsReach, IsPassed, IsPlainWalk, IsTooWide, Offers, Visits, Gives};
+ghost use Rattle.int_search.specs.SearchStates.{CanSearch, search_image, IsWalk, IsFresh, BeginsWith, IsReach, IsPassed, IsPlainWalk, IsImageTooLarge, Offers, Visits, Gives};
 
 use crate::best::Best;
 use crate::images::image;
@@ -72,7 +71,7 @@ impl SearchState {
     /// The search over a form, with the rounded point and its neighbour as its two best; None where one is too wide.
     pub(crate) fn start(form: &Form, map: &MapTable) -> Option<SearchState>
         requires { CanSearch form.now map.now }
-        ensures { MatchOption result (IsTooWide (search_form form.now) (search_image form.now map.now) 0) (IsFresh (search_form form.now) (search_image form.now map.now)) }
+        ensures { MatchOption result (IsStartTooWide (search_form form.now) (search_image form.now map.now)) (IsFresh (search_form form.now) (search_image form.now map.now)) }
     {
         let size = form.columns - BASELINE_COLUMNS - 1;
         let z = rounded_point(form)?;
@@ -112,7 +111,7 @@ impl SearchState {
         requires can { CanSearch form.now map.now }
         requires size { self.old.size ≡ integers_of form.now }
         requires small { IsSmall self.old.z }
-        ensures { MatchBool result (Offers (search_form form.now) (search_image form.now map.now) self.old self.new) (HasLarge (search_image form.now map.now (suffix self.old.z 0 (integers_of form.now)))) }
+        ensures { MatchBool result (Offers (search_form form.now) (search_image form.now map.now) self.old self.new) (IsImageTooLarge (search_form form.now) (search_image form.now map.now) self.old) }
     {
         let p = value_at(form, &self.z);
         if p > self.best.p2 {
@@ -150,7 +149,7 @@ impl SearchState {
         requires reach { IsReach (search_form form.now) self.old reach.now }
         requires small { unsigned_abs reach.now.choice.entry < 2 ^ 30 }
         requires visits { self.old.visits + 1 < 2 ^ 64 }
-        ensures { MatchBool result (Visits (search_form form.now) (search_image form.now map.now) self.old self.new) (IsWideIn (search_form form.now) (search_image form.now map.now) (self.old.visits + 1)) }
+        ensures { MatchBool result (Visits (search_form form.now) (search_image form.now map.now) self.old self.new) (MeetsTooWide (search_form form.now) (search_image form.now map.now) (self.old.visits + 1)) }
     {
         let i = self.size - self.stack.len();
         self.visits += 1;

@@ -9,10 +9,9 @@ ghost use Rattle.integer_form.specs.Forms.{integers_of};
 ghost use Rattle.integer_form.specs.declared.faults.Place.TheVariants.{Float};
 ghost use Rattle.integer_form.specs.FloatPoint.{next_number, solved, float_point, baseline_at, HasWide, HasWideBefore};
 
-use crate::products::times;
 use crate::{Form, FrontForm, Overwidth, Place};
 use form_tables::{BASELINE_COLUMNS, MOST_COLUMNS, MOST_FACTORS, MOST_INTEGERS, Table};
-use whole_math::nearest;
+use whole_math::{nearest, product};
 
 /// The number of the constant: 1 in units of 2^-16.
 const ONE: i64 = 1 << 16;
@@ -48,9 +47,9 @@ fn factor_sum<const WIDTH: usize>(
     let last = columns - 1;
     let mut sum = 0;
     for i in j + 1..last {
-        sum += times(l.at(i, j), numbers[i]);
+        sum += product::<52, 46>(l.at(i, j), numbers[i]);
     }
-    sum + times(l.at(last, j), ONE)
+    sum + product::<52, 46>(l.at(last, j), ONE)
 }
 
 /// The number of column j, from those of the columns after it.

@@ -7,8 +7,9 @@ ghost use Rattle.form_tables.specs.Matrices.{EntriesBelow};
 ghost use Rattle.integer_form.specs.Forms.{integers_of, value_of};
 
 use crate::Form;
-use crate::products::{column_value, times};
+use crate::products::column_value;
 use form_tables::{BASELINE_COLUMNS, FormTable, MOST_FORM_COLUMNS, MOST_INTEGERS};
+use whole_math::product;
 
 /// The integers and 1 for the constant.
 fn with_one(z: &[i64]) -> [i64; MOST_FORM_COLUMNS]
@@ -36,7 +37,7 @@ fn later_products(p: &FormTable, x: &[i64; MOST_FORM_COLUMNS], r: usize, n: usiz
 {
     let mut sum = 0;
     for c in r + 1..n {
-        sum += times(p.at(r, c), x[c]);
+        sum += product::<52, 46>(p.at(r, c), x[c]);
     }
     sum
 }

@@ -1,6 +1,6 @@
 -- What is promised of the quotient of two boxes, and of the root of one.
 use Rattle.std.specs.Prelude.{◌≡◌, ℕ, ◌+◌, ◌-◌, ◌^◌, ◌<◌, ℤ, pos, ◌+ℤ◌, ◌-ℤ◌, ◌*ℤ◌, ◌≤ℤ◌, ◌<ℤ◌, Result, Err, IfOk, ◌↔◌}
-use Rattle.rational.specs.Rational.{Rational, InBox, mul_r, ◌≈◌, IsNearRoot}
+use Rattle.rational.specs.Rational.{Rational, InBox, ◌*ʳ◌, ◌≈◌, IsNearRoot}
 use Rattle.iv_core.specs.Boxes.{Past}
 use Rattle.iv_core.specs.Intervals.{Holds, width_of, HasZero, IsClearOfZero, low_quotient, high_quotient, IsRatioWithin, under_root, IsCloseBelowRoot, IsCloseAboveRoot}
 use Rattle.iv_core.specs.declared.Iv.{Iv}
@@ -12,9 +12,9 @@ pub record IsBoxOfQuotients {k m n : ℕ} (x : Iv k) (y : Iv m) (r : Result (Iv 
   pub ends : IfOk r (λ c. (c.lo ≡ low_quotient n x y) × (c.hi ≡ high_quotient n x y))
   pub zero_inside : (r ≡ Err ZeroInside) ↔ HasZero y
   pub overwidth : (r ≡ Err Overwidth) ↔ (IsClearOfZero y × Past (low_quotient n x y) (high_quotient n x y))
-  pub holds : IfOk r (λ c. (p q z : Rational) → Holds x p → Holds y q → mul_r z q ≈ p → Holds c z)
+  pub holds : IfOk r (λ c. (p q z : Rational) → Holds x p → Holds y q → z *ʳ q ≈ p → Holds c z)
   pub least : IfOk r (λ c. (l h : ℤ) →
-      ((p q z : Rational) → Holds x p → Holds y q → mul_r z q ≈ p → InBox n l h z) →
+      ((p q z : Rational) → Holds x p → Holds y q → z *ʳ q ≈ p → InBox n l h z) →
       (l ≤ℤ c.lo) × (c.hi ≤ℤ h))
   pub width : IfOk r (λ c. (d g : ℕ) → 0 < d → pos d ≤ℤ y.lo → IsRatioWithin (2 ^ (n + m - k)) g x y →
       (pos d *ℤ width_of c) <ℤ

@@ -1,6 +1,7 @@
 -- The statuses of endings, and what a file whose text is known and admitted ends with.
-use Rattle.std.proofs.Common.{◌≡◌, ◌≢◌, inl, inr, ◌<◌, ℕ, List, [], ◌∷◌, length, Some, Option, Result, Ok, Err, refl, sym, ap, ◌∙◌, subst, arith, IfSome}
+use Rattle.std.proofs.Common.{◌≡◌, ◌≢◌, inl, inr, ◌<◌, ℕ, List, [], length, Some, Option, Result, Ok, Err, sym, ap, ◌∙◌, subst, arith, IfSome}
 use Rattle.line_source.specs.Openings.{Unread, IsReadToEnd}
+use Rattle.line_source.specs.Givens.{Given, GivesWhole, GivesTooMany}
 use Rattle.job_answers.specs.declared.output.JobOutput.{JobOutput}
 use Rattle.job_answers.specs.declared.stop.JobStop.{JobStop}
 use Rattle.job_answers.specs.declared.stop.JobStop.TheVariants as stop
@@ -10,7 +11,7 @@ use Rattle.job_answers.specs.declared.status.Status.TheVariants.{Refused, ReadFa
 use Rattle.job_answers.specs.Answers.{ending_of, IfEnds, IfStopped, IfEnded}
 use Rattle.job_answers.specs.Statuses.{IsVerdictStatus, IsJobStatus}
 use Rattle.job_answers.specs.Texts.{refusal_line}
-use Rattle.job_answers.specs.Endings.{Ending, ending, EndsByFile, IsTooLarge, IsRefusal, IsAdmitted, IsRefusedWhole}
+use Rattle.job_answers.specs.Endings.{Ending, ending, EndsByFile, IsTooLarge, IsRefusal, IsAdmitted, IsRefusalOf}
 use Rattle.job_answers.specs.Delivered.{SinkChange, IsDelivered}
 
 told_at : (text_of : List ℕ → Option (List ℕ)) (name bytes : List ℕ) (P : List ℕ → Type 0) → text_of name ≡ Some bytes → IfSome (text_of name) P → P bytes
@@ -48,18 +49,19 @@ delivered_status end result status out err (inr (inr by_err)) is other = absurd 
 
 -- ---- refusals
 -- that of a file that was read to its end
-pub read_whole : (text_of : List ℕ → Option (List ℕ)) (left : Unread) (name : List ℕ) (at : At) (end : Ending) → IsReadToEnd text_of left name
-    → end ≡ ending Refused [] (refusal_line name at) → IsRefusedWhole text_of left (name ∷ []) end
-read_whole text_of left name at end read is = λ refused. (0, name, omega arith, refl, inl (record { at = at; line = ap (λ (e : Ending). e.err) is; read = read }))
+pub read_whole : (text_of : List ℕ → Option (List ℕ)) (before : List Given) (left : Unread) (name text : List ℕ) (at : At) (end : Ending) → IsReadToEnd text_of left name
+    → GivesWhole name text before left.given → end ≡ ending Refused [] (refusal_line name at) → IsRefusalOf text_of before left name end
+read_whole text_of before left name text at end read given is = λ refused. inl (record { at = at; end_is = is; read = read; text = text; given = given })
 
 -- that of a file that is too large
-pub large_whole : (text_of : List ℕ → Option (List ℕ)) (left : Unread) (name : List ℕ) (end : Ending) → IsTooLarge text_of name end → IsRefusedWhole text_of left (name ∷ []) end
-large_whole text_of left name end large = λ refused. (0, name, omega arith, refl, inr (record { line = ap (λ (e : Ending). e.err) large.end_is; large = large.large }))
+pub large_whole : (text_of : List ℕ → Option (List ℕ)) (before : List Given) (left : Unread) (name : List ℕ) (end : Ending) → IsTooLarge text_of name end
+    → GivesTooMany name before left.given → IsRefusalOf text_of before left name end
+large_whole text_of before left name end large given = λ refused. inr (record { large = large; given = given })
 
 -- that of a file whose text is none of the form
-pub refusal_whole : {X : Type 0} {gives : List (List ℕ) → Result X At} {IsFile : List (List ℕ) → Type 0} (text_of : List ℕ → Option (List ℕ)) (left : Unread) (name text : List ℕ) (end : Ending) → IsReadToEnd text_of left name → IsRefusal gives IsFile name text end
-    → IsRefusedWhole text_of left (name ∷ []) end
-refusal_whole text_of left name text end read refusal = read_whole text_of left name refusal.at end read refusal.end_is
+pub refusal_whole : {X : Type 0} {gives : List (List ℕ) → Result X At} {IsFile : List (List ℕ) → Type 0} (text_of : List ℕ → Option (List ℕ)) (before : List Given) (left : Unread) (name text : List ℕ) (end : Ending)
+    → IsReadToEnd text_of left name → GivesWhole name text before left.given → IsRefusal gives IsFile name text end → IsRefusalOf text_of before left name end
+refusal_whole text_of before left name text end read given refusal = read_whole text_of before left name text refusal.at end read given refusal.end_is
 
 -- ---- what is weaker holds too
 pub ends_weaker : (stop : JobStop) (P Q : Ending → Type 0) → ((end : Ending) → P end → Q end) → IfEnds stop P → IfEnds stop Q

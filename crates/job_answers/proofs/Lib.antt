@@ -1,3 +1,4 @@
 pub mod EndingLaws
 pub mod WorkLaws
 pub mod TextLaws
+pub mod KnownLaws

@@ -4,6 +4,7 @@ use Rattle.std.proofs.Math.Seq.{take-nil}
 use Rattle.std.proofs.lemmas.List.{map-append}
 use Rattle.line_source.specs.Causes.{Rose}
 use Rattle.line_source.specs.Openings.{names_of, OpensIt, OpensFirst, IsReadToEnd}
+use Rattle.line_source.specs.Givens.{GivesFirst, GivesWhole}
 use Rattle.line_source.proofs.OpeningLaws.{one_first}
 use Rattle.job_answers.specs.declared.output.JobOutput.{JobOutput}
 use Rattle.job_answers.specs.declared.stop.JobStop.{JobStop}
@@ -12,10 +13,11 @@ use Rattle.job_answers.specs.declared.status.Status.TheVariants.{ReadFault}
 use Rattle.job_answers.specs.Statuses.{IsVerdictStatus}
 use Rattle.job_answers.specs.Answers.{ending_of, IfEnds, IfEnded}
 use Rattle.job_answers.specs.Texts.{read_fault_line}
-use Rattle.job_answers.specs.Endings.{Ending, IsTextOf, EndsUnloaded}
-use Rattle.job_answers.specs.Works.{FileWork, AreOpened, AreAllRead, IsFaultOf, NoLine, EndsOver, IsDoneOver}
+use Rattle.job_answers.specs.Endings.{Ending, IsTextOf, EndsUnloaded, IsRefusedFile, IsRefusalOf}
+use Rattle.job_answers.specs.Works.{FileWork, AreOpened, AreGivenWhole, AreAllRead, RefusesOne, IsFaultOf, NoLine, EndsOver, IsDoneOver}
 use Rattle.job_answers.specs.TextJobs.{TextJob, EndsOnText, TextEnds}
-use Rattle.job_answers.proofs.EndingLaws.{ended_weaker, read_whole, large_whole}
+use Rattle.job_answers.proofs.EndingLaws.{ended_weaker, read_whole}
+use Rattle.job_answers.proofs.KnownLaws.{none_given, one_given, one_gives}
 
 -- ---- which files were opened
 pub none_opened : (before : List (List ℕ × ℕ)) → AreOpened [] before before
@@ -35,8 +37,8 @@ at_most_one_more earlier name before mid now opened (suc n, same) = inr (
     same ∙ ap (λ (rest : List (List ℕ)). names_of mid ++ name ∷ rest) (take-nil n)
     ∙ ap (λ (names : List (List ℕ)). names ++ name ∷ []) opened ∙ append_assoc (names_of before) earlier (name ∷ []))
 
-one_read : (work : FileWork) (name : List ℕ) → OpensIt name work.openings work.left.openings → IsReadToEnd work.text_of work.left name → AreAllRead work (name ∷ [])
-one_read work name opens read = record { opened = one_more [] name work.openings work.openings work.left.openings (none_opened work.openings) opens; last = read }
+one_read : (work : FileWork) (name : List ℕ) → OpensIt name work.openings work.left.openings → IsReadToEnd work.told work.left name → AreGivenWhole (name ∷ []) work.given work.left.given → AreAllRead work (name ∷ [])
+one_read work name opens read given = record { opened = one_more [] name work.openings work.openings work.left.openings (none_opened work.openings) opens; last = read; whole = given }
 
 -- ---- how a job ends
 -- a verdict is neither a refusal nor a read fault
@@ -49,27 +51,40 @@ verdict_over work names IsLine ends end read verdict so = record {
   named = λ is. absurd (subst IsVerdictStatus is verdict);
 }
 
+-- a refusal of the only file
+pub only_refused : (work : FileWork) (name : List ℕ) (end : Ending) → IsRefusedFile work.told work.given work.left name end → RefusesOne work (name ∷ []) end
+only_refused work name end refused = record {
+  earlier = [];
+  name = name;
+  later = [];
+  among = refl;
+  given = work.given;
+  whole = none_given work.given work.given (sym (append-nil work.given));
+  refused = refused;
+}
+
 -- a text of a file that was read to its end
-text_over : (work : FileWork) (name text : List ℕ) (job : TextJob) (end : Ending) → IsTextOf work.text_of name text → AreAllRead work (name ∷ [])
+text_over : (work : FileWork) (name text : List ℕ) (job : TextJob) (end : Ending) → IsTextOf work.text_of name text → AreAllRead work (name ∷ []) → GivesWhole name text work.given work.left.given
     → EndsOnText job name text end → EndsOver work (name ∷ []) NoLine (TextEnds job work.text_of name) end
-text_over work name text job end is read (inl answered) =
+text_over work name text job end is read given (inl answered) =
     verdict_over work (name ∷ []) NoLine (TextEnds job work.text_of name) end read answered.verdict (inl (record { text = text; is = is; ends_so = inl answered }))
-text_over work name text job end is read (inr refused) =
+text_over work name text job end is read given (inr refused) =
     let status_is = ap (λ (e : Ending). e.status) refused.end_is in
     record {
       ends_so = inl (record { text = text; is = is; ends_so = inr refused });
       answered = λ verdict. read;
-      refused = λ is_refused. inl (read_whole work.text_of work.left name refused.at end read.last refused.end_is is_refused);
+      refused = λ is_refused. inl (only_refused work name end (read_whole work.told work.given work.left name text refused.at end read.last given refused.end_is is_refused));
       fault = λ fault. absurd (cc (status_is, fault));
       named = λ fault. absurd (cc (status_is, fault));
     }
 
-pub text_done : (work : FileWork) (name text : List ℕ) (job : TextJob) (r : Result JobOutput JobStop) → IsTextOf work.text_of name text → IsReadToEnd work.text_of work.left name
-    → OpensIt name work.openings work.left.openings → IfEnded r (EndsOnText job name text) → IsDoneOver work (name ∷ []) NoLine (TextEnds job work.text_of name) r
-text_done work name text job r is read opens ends = record {
+pub text_done : (work : FileWork) (name text : List ℕ) (job : TextJob) (r : Result JobOutput JobStop) → IsTextOf work.text_of name text → IsReadToEnd work.told work.left name
+    → OpensIt name work.openings work.left.openings → GivesWhole name text work.given work.left.given → IfEnded r (EndsOnText job name text) → IsDoneOver work (name ∷ []) NoLine (TextEnds job work.text_of name) r
+text_done work name text job r is read opens given ends = record {
   opened = one_first name [] work.openings work.left.openings opens;
+  given = one_gives name text [] work.given work.left.given given;
   ended = ended_weaker r (EndsOnText job name text) (EndsOver work (name ∷ []) NoLine (TextEnds job work.text_of name))
-      (λ end so. text_over work name text job end is (one_read work name opens read) so) ends;
+      (λ end so. text_over work name text job end is (one_read work name opens read (one_given name text work.given work.left.given given)) given so) ends;
 }
 
 -- a read fault of the only file
@@ -87,17 +102,18 @@ only_fault work name end opens line never = λ is. record {
 
 -- a file that can't be had
 unloaded_over : (work : FileWork) (name : List ℕ) (job : TextJob) (end : Ending) → OpensFirst (name ∷ []) work.openings work.left.openings → EndsUnloaded work.text_of name end
+    → IsRefusalOf work.told work.given work.left name end
     → (end.status ≡ ReadFault → Rose work.faults work.faults_now) → (work.sure name → end.status ≢ ReadFault) → EndsOver work (name ∷ []) NoLine (TextEnds job work.text_of name) end
-unloaded_over work name job end opens (inl large) rose never =
+unloaded_over work name job end opens (inl large) refused rose never =
     let status_is = ap (λ (e : Ending). e.status) large.end_is in
     record {
       ends_so = inr (inl large);
       answered = λ verdict. absurd (subst IsVerdictStatus status_is verdict);
-      refused = λ is. inl (large_whole work.text_of work.left name end large is);
+      refused = λ is. inl (only_refused work name end (refused is));
       fault = rose;
       named = λ fault. absurd (cc (status_is, fault));
     }
-unloaded_over work name job end opens (inr fault) rose never =
+unloaded_over work name job end opens (inr fault) refused rose never =
     let status_is = ap (λ (e : Ending). e.status) fault in
     record {
       ends_so = inr (inr fault);
@@ -107,8 +123,9 @@ unloaded_over work name job end opens (inr fault) rose never =
       named = only_fault work name end opens (λ is. ap (λ (e : Ending). e.err) fault) never;
     }
 
-pub stop_done : (work : FileWork) (name : List ℕ) (job : TextJob) (why : JobStop) → OpensFirst (name ∷ []) work.openings work.left.openings → IfEnds why (EndsUnloaded work.text_of name)
+pub stop_done : (work : FileWork) (name : List ℕ) (job : TextJob) (why : JobStop) → OpensFirst (name ∷ []) work.openings work.left.openings → GivesFirst (name ∷ []) work.given work.left.given → IfEnds why (EndsUnloaded work.text_of name)
+    → IfEnds why (IsRefusalOf work.told work.given work.left name)
     → IfEnds why (λ end. end.status ≡ ReadFault → Rose work.faults work.faults_now) → (work.sure name → IfEnds why (λ end. end.status ≢ ReadFault))
     → IsDoneOver work (name ∷ []) NoLine (TextEnds job work.text_of name) (Err why)
-stop_done work name job (stop.Ended a) opens ends rose never = record { opened = opens; ended = unloaded_over work name job (ending_of a) opens ends rose never }
-stop_done work name job stop.NoMemory opens ends rose never = record { opened = opens; ended = tt }
+stop_done work name job (stop.Ended a) opens gives ends refused rose never = record { opened = opens; given = gives; ended = unloaded_over work name job (ending_of a) opens ends refused rose never }
+stop_done work name job stop.NoMemory opens gives ends refused rose never = record { opened = opens; given = gives; ended = tt }

@@ -1,5 +1,5 @@
 -- What is written of an answer, whatever the job.
-use Rattle.std.specs.Prelude.{◌≡◌, ◌⊎◌, ℕ, Bool, List}
+use Rattle.std.specs.Prelude.{◌≡◌, ◌⊎◌, ℕ, Bool, List, Some}
 use Rattle.std.specs.declared.option.Option.{Option}
 use Rattle.std.specs.Io.KnownBytes.{Appends}
 use Rattle.line_source.specs.declared.Sink.{Ghosts}
@@ -11,25 +11,38 @@ use Rattle.job_answers.specs.Statuses.{IsVerdictStatus}
 use Rattle.job_answers.specs.Texts.{write_fault_line}
 use Rattle.job_answers.specs.Endings.{Ending}
 
--- what a sink held and holds, where it reports them, its count of faults before and now, and whether its last call failed
+-- The bytes that a sink's calls answered to have taken, before and now, which are always known; what it held and holds, where it
+-- reports that; its count of faults before and now, and whether its last call failed.
 pub record SinkChange : Type 0 where
   pub old : Option (List ℕ)
   pub new : Option (List ℕ)
+  pub held : Option (List ℕ)
+  pub holds : Option (List ℕ)
   pub before : ℕ
   pub now : ℕ
   pub failed : Bool
 
 abbrev pub sink_change : {S : Type 0} → Ghosts S → S → S → SinkChange
-sink_change sink old new = record { old = sink.contents old; new = sink.contents new; before = sink.faults old; now = sink.faults new; failed = sink.has_failed new }
+sink_change sink old new = record {
+  old = Some (sink.taken old);
+  new = Some (sink.taken new);
+  held = sink.contents old;
+  holds = sink.contents new;
+  before = sink.faults old;
+  now = sink.faults new;
+  failed = sink.has_failed new;
+}
 
--- the sink has gained the text, and had no fault
+-- the sink has taken the text, and had no fault
 pub record GainsWhole (sink : SinkChange) (text : List ℕ) : Type 0 where
   pub whole : Appends sink.old sink.new text
+  pub held : Appends sink.held sink.holds text
   pub steady : sink.now ≡ sink.before
 
--- The sink has gained a first part of the text, and then had one fault. Nothing was tried after it.
+-- The sink has taken a first part of the text, and then had one fault. Nothing was tried after it.
 pub record GainsPart (sink : SinkChange) (text : List ℕ) : Type 0 where
   pub prefix : AppendsPrefix sink.old sink.new text
+  pub held : AppendsPrefix sink.held sink.holds text
   pub stops : StopsAtFault sink.before sink.now sink.failed
 
 abbrev pub GainsUnlessFault : SinkChange → List ℕ → Type 0

@@ -1,8 +1,9 @@
 -- What a job may end with: a status and two texts. These parts are those of every command.
-use Rattle.std.specs.Prelude.{◌≡◌, ◌⊎◌, ℕ, ◌<◌, ◌≤◌, List, [], length, IfSome, Result, Err, Some, Any}
+use Rattle.std.specs.Prelude.{◌≡◌, ◌⊎◌, ℕ, ◌<◌, ◌≤◌, List, [], length, IfSome, Result, Err, Some}
 use Rattle.std.specs.declared.option.Option.{Option}
 use Rattle.line_source.specs.Lines.{lines_of}
 use Rattle.line_source.specs.Openings.{Unread, IsReadToEnd}
+use Rattle.line_source.specs.Givens.{Given, GivesWhole, GivesTooMany}
 use Rattle.rinex_head.specs.declared.place.At.{At}
 use Rattle.rinex_head.specs.FirstFailing.{IsFirstFailing}
 use Rattle.job_answers.specs.declared.status.Status.{Status}
@@ -62,20 +63,24 @@ pub record IsAdmitted (text_of : List ℕ → Option (List ℕ)) (name : List �
   pub fits : length text ≤ 67108864
   pub file : IsFile (lines_of text)
 
--- The file's refusal is reported, and the file was read to its end: a read fault would have come before.
-pub record IsReadAndRefused (text_of : List ℕ → Option (List ℕ)) (left : Unread) (reports : List ℕ → Type 0) (name : List ℕ) : Type 0 where
+-- The job ends with the file's refusal at a place. The file was opened after these, and read to its end: a read fault would have
+-- come before.
+pub record IsReadAndRefused (text_of : List ℕ → Option (List ℕ)) (before : List Given) (left : Unread) (name : List ℕ) (end : Ending) : Type 0 where
   pub at : At
-  pub line : reports (refusal_line name at)
+  pub end_is : end ≡ ending Refused [] (refusal_line name at)
   pub read : IsReadToEnd text_of left name
+  pub text : List ℕ
+  pub given : GivesWhole name text before left.given
 
--- It is reported that the file is too large, and it is.
-pub record IsRefusedAsLarge (text_of : List ℕ → Option (List ℕ)) (reports : List ℕ → Type 0) (name : List ℕ) : Type 0 where
-  pub line : reports (too_large_line name)
-  pub large : HasTooManyBytes text_of name
+-- The job ends with that the file is too large, and it is. It was opened after these, and its reads gave more bytes than a file may
+-- have.
+pub record IsRefusedAsLarge (text_of : List ℕ → Option (List ℕ)) (before : List Given) (left : Unread) (name : List ℕ) (end : Ending) : Type 0 where
+  pub large : IsTooLarge text_of name end
+  pub given : GivesTooMany name before left.given
 
-abbrev pub IsRefusedFile : (List ℕ → Option (List ℕ)) → Unread → (List ℕ → Type 0) → List ℕ → Type 0
-IsRefusedFile text_of left reports name = IsReadAndRefused text_of left reports name ⊎ IsRefusedAsLarge text_of reports name
+abbrev pub IsRefusedFile : (List ℕ → Option (List ℕ)) → List Given → Unread → List ℕ → Ending → Type 0
+IsRefusedFile text_of before left name end = IsReadAndRefused text_of before left name end ⊎ IsRefusedAsLarge text_of before left name end
 
--- a refusal is that of one of the files
-abbrev pub IsRefusedWhole : (List ℕ → Option (List ℕ)) → Unread → List (List ℕ) → Ending → Type 0
-IsRefusedWhole text_of left names end = end.status ≡ Refused → Any (IsRefusedFile text_of left (λ text. end.err ≡ text)) names
+-- a refusal is that of this file
+abbrev pub IsRefusalOf : (List ℕ → Option (List ℕ)) → List Given → Unread → List ℕ → Ending → Type 0
+IsRefusalOf text_of before left name end = end.status ≡ Refused → IsRefusedFile text_of before left name end

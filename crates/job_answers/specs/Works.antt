@@ -1,34 +1,49 @@
 -- What a job does with its files, whatever the job.
-use Rattle.std.specs.Prelude.{◌≡◌, ◌⊎◌, ℕ, List, [], ◌∷◌, ◌++◌, None, IfSome, Any, Result}
+use Rattle.std.specs.Prelude.{◌≡◌, ◌⊎◌, ℕ, true, List, [], ◌∷◌, ◌++◌, None, IfSome, Result}
 use Rattle.std.specs.List.{last_or}
 use Rattle.std.specs.declared.option.Option.{Option}
 use Rattle.line_source.specs.declared.Files.{Ghosts}
 use Rattle.line_source.specs.Causes.{Rose}
 use Rattle.line_source.specs.Openings.{names_of, Unread, unread, OpensFirst, IsReadToEnd}
+use Rattle.line_source.specs.Givens.{Given, names_given, GivesFirst, known_text, IsKnownFrom}
 use Rattle.job_answers.specs.declared.output.JobOutput.{JobOutput}
 use Rattle.job_answers.specs.declared.stop.JobStop.{JobStop}
 use Rattle.job_answers.specs.declared.status.Status.TheVariants.{Refused, ReadFault}
 use Rattle.job_answers.specs.Statuses.{IsVerdictStatus}
 use Rattle.job_answers.specs.Answers.{IfEnded}
 use Rattle.job_answers.specs.Texts.{read_fault_line}
-use Rattle.job_answers.specs.Endings.{Ending, IsRefusedFile}
+use Rattle.job_answers.specs.Endings.{Ending, ending, IsRefusedFile}
 
--- What is reported of files before a job: the bytes under each name, the names that can't fail, the count of faults and what
--- was opened; and after it: what was opened and is left of it, and the count.
+-- what holds whatever is known of the texts by what was told before and by what the calls between two states gave
+abbrev pub ForAllKnown : {F : Type 0} → Ghosts F → F → F → ((List ℕ → Option (List ℕ)) → Type 0) → Type 0
+ForAllKnown files before after P = (known : List ℕ → Option (List ℕ)) → IsKnownFrom known (files.text_of before) (files.given before) (files.given after) → P known
+
+-- the text under a name: what was told of it before, or else what was given under that name between two states, where all its openings
+-- gave the same
+abbrev pub known_between : {F : Type 0} → Ghosts F → F → F → List ℕ → Option (List ℕ)
+known_between files before after = known_text (files.text_of before) (files.given before) (files.given after)
+
+-- What is known of files by a job: the bytes under each name, by what is told of them before or by what its calls gave; what is
+-- told; the names that can't fail; the count of faults, what was opened and what it gave before the job; and after it what was
+-- opened, what it gave and what is left of it, and the count.
 pub record FileWork : Type 1 where
   pub text_of : List ℕ → Option (List ℕ)
+  pub told : List ℕ → Option (List ℕ)
   pub sure : List ℕ → Type 0
   pub openings : List (List ℕ × ℕ)
+  pub given : List Given
   pub left : Unread
   pub faults : ℕ
   pub faults_now : ℕ
 
 abbrev pub file_work : {F : Type 0} → Ghosts F → F → F → FileWork
 file_work files before after = record {
-  text_of = files.text_of before;
+  text_of = known_between files before after;
+  told = files.text_of before;
   sure = files.is_sure_name before;
   openings = files.openings before;
-  left = unread (files.openings after) (files.unread after);
+  given = files.given before;
+  left = unread (files.openings after) (files.unread after) (files.given after);
   faults = files.faults before;
   faults_now = files.faults after;
 }
@@ -37,10 +52,22 @@ file_work files before after = record {
 abbrev pub AreOpened : List (List ℕ) → List (List ℕ × ℕ) → List (List ℕ × ℕ) → Type 0
 AreOpened names before now = names_of now ≡ names_of before ++ names
 
--- All of these files were opened, each name once and in this order, and no other; and the last was read to its end.
+abbrev pub AllEnded : List Given → Type 0
+AllEnded [] = Unit {0}
+AllEnded (g ∷ gs) = (g.ended ≡ true) × AllEnded gs
+
+-- The reads between two states gave exactly the files under these names, in this order, each to its end.
+pub record AreGivenWhole (names : List (List ℕ)) (before now : List Given) : Type 0 where
+  pub more : List Given
+  pub now_is : now ≡ before ++ more
+  pub names_are : names_given more ≡ names
+  pub ended : AllEnded more
+
+-- All of these files were opened, each name once and in this order, and no other; each was read to its end.
 pub record AreAllRead (work : FileWork) (names : List (List ℕ)) : Type 0 where
   pub opened : AreOpened names work.openings work.left.openings
-  pub last : IfSome (last_or None names) (IsReadToEnd work.text_of work.left)
+  pub last : IfSome (last_or None names) (IsReadToEnd work.told work.left)
+  pub whole : AreGivenWhole names work.given work.left.given
 
 -- The line is that of a read fault of one of these files, which isn't one that can't fail. All files before it were opened, and it
 -- too unless its opening failed, and no other.
@@ -56,21 +83,43 @@ pub record NamesFault (work : FileWork) (names : List (List ℕ)) (line : List �
 abbrev pub IsFaultOf : FileWork → List (List ℕ) → Ending → Type 0
 IsFaultOf work names end = end.status ≡ ReadFault → NamesFault work names end.err
 
+-- The job ends with the refusal of one of these files. All files before it were read to their ends, and then it was opened, and no
+-- other after it: it too was read to its end, or it gave more bytes than a file may have.
+pub record RefusesOne (work : FileWork) (names : List (List ℕ)) (end : Ending) : Type 0 where
+  pub earlier : List (List ℕ)
+  pub name : List ℕ
+  pub later : List (List ℕ)
+  pub among : names ≡ earlier ++ name ∷ later
+  pub given : List Given
+  pub whole : AreGivenWhole earlier work.given given
+  pub refused : IsRefusedFile work.told given work.left name end
+
+abbrev pub IsRefusalAmong : FileWork → List (List ℕ) → Ending → Type 0
+IsRefusalAmong work names end = end.status ≡ Refused → RefusesOne work names end
+
+-- the job ends with a line about these files together, after each was read to its end
+pub record RefusesAll (work : FileWork) (names : List (List ℕ)) (IsLine : List ℕ → Type 0) (end : Ending) : Type 0 where
+  pub line : List ℕ
+  pub is : IsLine line
+  pub end_is : end ≡ ending Refused [] line
+  pub read : AreAllRead work names
+
 -- a line about the files together: of a job on one file there is none
 abbrev pub NoLine : List ℕ → Type 0
 NoLine line = ⊥
 
--- The job ends so. An answer comes after all files were opened and the last was read to its end. A refusal names one of these files,
--- which was read to its end or is too large, or has a line about them together, after all were read. A read fault comes only where the
--- count of faults rose, and names a file that isn't sure: the last that was opened, or the one after it.
+-- The job ends so. An answer comes after all files were opened and each was read to its end. A refusal is that of one of these files,
+-- each before it read to its end, and it too, or it is too large; or it is about them together, after each was read to its end. A read
+-- fault comes only where the count of faults rose, and names a file that isn't sure: the last that was opened, or the one after it.
 pub record EndsOver (work : FileWork) (names : List (List ℕ)) (IsLine : List ℕ → Type 0) (ends : Ending → Type 0) (end : Ending) : Type 0 where
   pub ends_so : ends end
   pub answered : IsVerdictStatus end.status → AreAllRead work names
-  pub refused : end.status ≡ Refused → Any (IsRefusedFile work.text_of work.left (λ text. end.err ≡ text)) names ⊎ (IsLine end.err × AreAllRead work names)
+  pub refused : end.status ≡ Refused → RefusesOne work names end ⊎ RefusesAll work names IsLine end
   pub fault : end.status ≡ ReadFault → Rose work.faults work.faults_now
   pub named : IsFaultOf work names end
 
 -- The files under a first part of the names were opened, each name once, and the job ends so, or ran out of memory.
 pub record IsDoneOver (work : FileWork) (names : List (List ℕ)) (IsLine : List ℕ → Type 0) (ends : Ending → Type 0) (result : Result JobOutput JobStop) : Type 0 where
   pub opened : OpensFirst names work.openings work.left.openings
+  pub given : GivesFirst names work.given work.left.given
   pub ended : IfEnded result (EndsOver work names IsLine ends)

@@ -3,11 +3,13 @@ ghost use Rattle.std.specs.Prelude.{◌≡◌, ◌≢◌, ◌⊎◌, ◌<◌, �
 ghost use Rattle.line_source.specs.Causes.{Rose};
 ghost use Rattle.line_source.specs.Openings.{OpensIt, OpensFirst, IsReadToEnd, unread};
 ghost use Rattle.line_source.specs.Reports.{Same, Stays};
+ghost use Rattle.line_source.specs.Givens.{GivesFirst, GivesWhole};
 ghost use Rattle.job_answers.specs.Statuses.{IsVerdictStatus};
 ghost use Rattle.job_answers.specs.declared.stop.JobStop.TheVariants.{NoMemory};
 ghost use Rattle.job_answers.specs.Texts.{refusal_line, too_large_line, read_fault_line, usage_line};
-ghost use Rattle.job_answers.specs.Endings.{ending, IsTextOf, EndsUnloaded, IsRefusedWhole};
+ghost use Rattle.job_answers.specs.Endings.{ending, IsTextOf, EndsUnloaded, IsRefusalOf};
 ghost use Rattle.job_answers.specs.Answers.{ending_of, IfStopped};
+ghost use Rattle.job_answers.specs.Works.{ForAllKnown};
 
 use crate::{JobOutput, Status};
 use line_source::{Files, LoadFault, load};
@@ -95,10 +97,12 @@ pub fn read_fault(alloc: Global, name: &str) -> Result<JobOutput, AllocError>
 /// The whole file of a job, which is opened once, or the job's end where it can't be had. It runs out of memory only at a
 /// file with some bytes, or at the line about a fault.
 pub fn load_file<F: Files>(alloc: Global, files: &mut F, name: &str) -> Result<Vec<u8>, JobStop>
-    ensures text { IfOk result (λ v. IsTextOf (F.text_of files.old) name.now v.items) }
-    ensures stopped { IfStopped result (λ end. EndsUnloaded (F.text_of files.old) name.now end) }
-    ensures whole { OnOk result (IsReadToEnd (F.text_of files.old) (unread (F.openings files.new) (F.unread files.new)) name.now) }
-    ensures refused { IfStopped result (IsRefusedWhole (F.text_of files.old) (unread (F.openings files.new) (F.unread files.new)) (name.now ∷ [])) }
+    ensures text { ForAllKnown F.Files files.old files.new (λ known. IfOk result (λ v. IsTextOf known name.now v.items)) }
+    ensures stopped { ForAllKnown F.Files files.old files.new (λ known. IfStopped result (λ end. EndsUnloaded known name.now end)) }
+    ensures gives { GivesFirst (name.now ∷ []) (F.given files.old) (F.given files.new) }
+    ensures given { IfOk result (λ v. GivesWhole name.now v.items (F.given files.old) (F.given files.new)) }
+    ensures whole { OnOk result (IsReadToEnd (F.text_of files.old) (unread (F.openings files.new) (F.unread files.new) (F.given files.new)) name.now) }
+    ensures refused { IfStopped result (IsRefusalOf (F.text_of files.old) (F.given files.old) (unread (F.openings files.new) (F.unread files.new) (F.given files.new)) name.now) }
     ensures opened { OpensFirst (name.now ∷ []) (F.openings files.old) (F.openings files.new) }
     ensures opens { OnOk result (OpensIt name.now (F.openings files.old) (F.openings files.new)) }
     ensures cause { F.faults files.old ≤ F.faults files.new }

@@ -2,7 +2,7 @@
 ghost use Rattle.std.specs.Prelude.{◌≤◌, [], ◌∷◌, length, IfOk};
 ghost use Rattle.rinex_head.specs.LineRules.{IfRefused};
 ghost use Rattle.job_answers.specs.Answers.{ending_of, IfEnded};
-ghost use Rattle.job_answers.specs.Works.{file_work, NoLine, IsDoneOver};
+ghost use Rattle.job_answers.specs.Works.{known_between, file_work, NoLine, IsDoneOver};
 ghost use Rattle.job_answers.specs.TextJobs.{TextJob, IsAnswered, IsRefusedAt, EndsOnText, TextEnds};
 
 use crate::{JobOutput, JobStop, load_file, refused};
@@ -47,7 +47,7 @@ pub fn answer_file<C: TextCommand, F: Files>(
     command: &C,
     name: &str,
 ) -> Result<JobOutput, JobStop>
-    ensures { IsDoneOver (file_work F.Files files.old files.new) (name.now ∷ []) NoLine (TextEnds (C.job command.now) (F.text_of files.old) name.now) result }
+    ensures { IsDoneOver (file_work F.Files files.old files.new) (name.now ∷ []) NoLine (TextEnds (C.job command.now) (known_between F.Files files.old files.new) name.now) result }
 {
     let text = load_file(alloc, files, name)?;
     answer_bytes(alloc, command, name, &text)

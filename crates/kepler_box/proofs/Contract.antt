@@ -6,7 +6,7 @@ use Rattle.whole_math.proofs.Ring.{ring, va, ko, ◌⊖◌, ◌⊗◌}
 use Rattle.whole_math.proofs.Order.{lins, mul_le_right, le_pos, lt_pos}
 use Rattle.whole_math.proofs.Certificates.{cert, weak, nm}
 use Rattle.whole_math.proofs.Inequalities.{le_refl_ℤ, le_eq, less_nn}
-use Rattle.rational.specs.Rational.{Rational, InBox, add_r, sub_r, mul_r, ◌≤ʳ◌, AreWithin, times, two_to_minus, IsNearBox, of_scale}
+use Rattle.rational.specs.Rational.{Rational, InBox, ◌+ʳ◌, ◌-ʳ◌, ◌*ʳ◌, ◌≤ʳ◌, AreWithin, times, two_to_minus, IsNearBox, of_scale}
 use Rattle.trig_box.specs.AnglePairs.{IsAnglePair, InRange}
 use Rattle.trig_box.proofs.PairLaws.{canonical_exists, canonical_is_pair, sharp_law}
 use Rattle.trig_box.proofs.PointLaws.{near_nn}
@@ -17,7 +17,7 @@ use Rattle.kepler_box.proofs.SolutionCertificates.{upper, lower, upper_easy, low
 pub record IsSeen (x r lo hi : ℤ) (d mean other e angle c s t : Rational) : Type 0 where
   pub is_anomaly : SolvesKepler mean e angle c s
   pub near : AreWithin d mean other
-  pub held : InBox 56 lo hi (add_r other (mul_r e t))
+  pub held : InBox 56 lo hi (other +ʳ e *ʳ t)
   pub e_low : pos 0 ≤ℤ e.num
   pub e_high : (pos 32 *ℤ e.num) ≤ℤ pos e.den
   pub above : ((pos 16 *ℤ (hi -ℤ x)) +ℤ pos 1) ≤ℤ (pos 15 *ℤ r)
@@ -75,7 +75,7 @@ pub record IsFound (ml mh el eh x r a b fl fh al ah cl ch sl sh : ℤ) : Type 0 
   pub e_low : pos 0 ≤ℤ el
   pub e_high : eh ≤ℤ pos (2 ^ 55)
   pub sine : (c s : Rational) → IsAnglePair 5 (of_scale 56 x) c s → InBox 60 a b s
-  pub right : (u v w : Rational) → InBox 56 ml mh u → InBox 60 el eh v → InBox 60 a b w → InBox 56 fl fh (add_r u (mul_r v w))
+  pub right : (u v w : Rational) → InBox 56 ml mh u → InBox 60 el eh v → InBox 60 a b w → InBox 56 fl fh (u +ʳ v *ʳ w)
   pub above : ((pos 16 *ℤ (fh -ℤ x)) +ℤ pos 1) ≤ℤ (pos 15 *ℤ r)
   pub below : ((pos 16 *ℤ (x -ℤ fl)) +ℤ pos 1) ≤ℤ (pos 15 *ℤ r)
   pub radius : pos 0 ≤ℤ r
@@ -185,7 +185,7 @@ clamp x r al ah d angle q i r0 d0 e f h k =
 
 pub found_near : (ml mh el eh x r a b fl fh al ah cl ch sl sh : ℤ) (d mean e angle c s : Rational) → IsFound ml mh el eh x r a b fl fh al ah cl ch sl sh →
     IsNearBox 56 ml mh d mean → InBox 60 el eh e → SolvesKepler mean e angle c s → IsNearBox 56 al ah (times 2 d) angle
-    × IsNearBox 60 cl ch (add_r (times 4 d) (two_to_minus 60)) c × IsNearBox 60 sl sh (add_r (times 4 d) (two_to_minus 60)) s
+    × IsNearBox 60 cl ch (times 4 d +ʳ two_to_minus 60) c × IsNearBox 60 sl sh (times 4 d +ʳ two_to_minus 60) s
 found_near ml mh el eh x r a b fl fh al ah cl ch sl sh d mean e angle c s f h k g =
     let is_close = contraction ml mh el eh x r a b fl fh al ah cl ch sl sh d mean h.inside e angle c s f h.held h.near k g in
     let d_not_negative = near_nn d mean h.inside h.near in
@@ -202,5 +202,5 @@ found_near ml mh el eh x r a b fl fh al ah cl ch sl sh d mean e angle c s f h k 
       record { inside = v; held = pair_in_boxes.1; near = (loose s v law.1.0 den_not_negative, loose v s law.1.1 den_not_negative) },
     )
   where
-    loose : (x y : Rational) → sub_r x y ≤ʳ add_r (times 2 (times 2 d)) (two_to_minus 67) → pos 0 ≤ℤ pos d.den → sub_r x y ≤ʳ add_r (times 4 d) (two_to_minus 60)
-    loose x y h w0 = looser (sub_r x y).num d.num (pos d.den) (pos (x.den * y.den)) h w0 (weak _ _ (lt_pos 0 (x.den * y.den) (mul-pos x.positive y.positive)))
+    loose : (x y : Rational) → x -ʳ y ≤ʳ times 2 (times 2 d) +ʳ two_to_minus 67 → pos 0 ≤ℤ pos d.den → x -ʳ y ≤ʳ times 4 d +ʳ two_to_minus 60
+    loose x y h w0 = looser (x -ʳ y).num d.num (pos d.den) (pos (x.den * y.den)) h w0 (weak _ _ (lt_pos 0 (x.den * y.den) (mul-pos x.positive y.positive)))

@@ -1,6 +1,6 @@
 -- Kepler's equation over rationals, and what a box of its solutions holds.
 use Rattle.std.specs.Prelude.{◌*◌, ◌^◌, ℤ, ◌≤ℤ◌}
-use Rattle.rational.specs.Rational.{Rational, sub_r, mul_r, add_r, ◌≈◌, times, two_to_minus, IsNearBox}
+use Rattle.rational.specs.Rational.{Rational, ◌-ʳ◌, ◌*ʳ◌, ◌+ʳ◌, ◌≈◌, times, two_to_minus, IsNearBox}
 use Rattle.iv_core.specs.Intervals.{Holds, width_of, IsWithin}
 use Rattle.trig_box.specs.AnglePairs.{IsAnglePair}
 use Rattle.iv_core.specs.declared.Iv.{Iv}
@@ -10,7 +10,7 @@ use Rattle.kepler_box.specs.Steps.{angle_width_limit, pair_width_limit}
 -- M = E - e sin E, where (c, s) is a 5-pair of E
 pub record SolvesKepler (mean eccentricity angle c s : Rational) : Type 0 where
   pub is_pair : IsAnglePair 5 angle c s
-  pub equation : mean ≈ sub_r angle (mul_r eccentricity s)
+  pub equation : mean ≈ angle -ʳ eccentricity *ʳ s
 
 -- each of the three lies in its box
 abbrev pub HoldsAnomaly : Anomaly → Rational → Rational → Rational → Type 0
@@ -20,8 +20,8 @@ HoldsAnomaly b angle c s = Holds b.angle angle × Holds b.cos c × Holds b.sin s
 abbrev pub IsNearAnomaly : Rational → Anomaly → Rational → Rational → Rational → Type 0
 IsNearAnomaly d b angle c s =
     IsNearBox 56 b.angle.lo b.angle.hi (times 2 d) angle
-    × IsNearBox 60 b.cos.lo b.cos.hi (add_r (times 4 d) (two_to_minus 60)) c
-    × IsNearBox 60 b.sin.lo b.sin.hi (add_r (times 4 d) (two_to_minus 60)) s
+    × IsNearBox 60 b.cos.lo b.cos.hi (times 4 d +ʳ two_to_minus 60) c
+    × IsNearBox 60 b.sin.lo b.sin.hi (times 4 d +ʳ two_to_minus 60) s
 
 -- neither box of the pair is wider than w, in units of 2^-60
 abbrev pub IsPairAtMostWide : ℤ → Anomaly → Type 0

@@ -8,7 +8,7 @@
 ghost use Rattle.std.specs.Prelude.{◌≡◌, ◌+◌, ◌-◌, ◌*◌, ◌^◌, ◌<◌, ◌≤◌, pos, ◌+ℤ◌, ◌-ℤ◌, ◌*ℤ◌, ℤ, ◌≤ℤ◌, unsigned_abs, IfSome};
 ghost use Rattle.whole_math.specs.Rounding.{floor_div, ceil_div};
 ghost use Rattle.whole_math.specs.Bounds.{Within};
-ghost use Rattle.rational.specs.Rational.{Rational, add_r, mul_r, of_scale, IsNearBox};
+ghost use Rattle.rational.specs.Rational.{Rational, ◌+ʳ◌, ◌*ʳ◌, of_scale, IsNearBox};
 ghost use Rattle.iv_core.specs.Boxes.{least_corner, most_corner};
 ghost use Rattle.iv_core.specs.Intervals.{Holds, width_of, IsWithin};
 ghost use Rattle.trig_box.specs.AnglePairs.{IsAnglePair};
@@ -172,7 +172,7 @@ fn right_side(m: &Iv<56>, e: &Iv<60>, sine: &Iv<60>) -> Iv<56>
     requires lo_size { unsigned_abs sine.now.lo ≤ 2 ^ 61 }
     requires hi_size { unsigned_abs sine.now.hi ≤ 2 ^ 61 }
     ensures holds { (x y z : Rational) →
-        Holds m.now x → Holds e.now y → Holds sine.now z → Holds result (add_r x (mul_r y z)) }
+        Holds m.now x → Holds e.now y → Holds sine.now z → Holds result (x +ʳ y *ʳ z) }
     ensures lo { result.lo ≡
         m.now.lo +ℤ floor_div (least_corner e.now.lo e.now.hi sine.now.lo sine.now.hi) (2 ^ 64) }
     ensures hi { result.hi ≡

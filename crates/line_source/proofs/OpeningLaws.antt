@@ -5,6 +5,7 @@ use Rattle.std.specs.declared.option.Option.{Option}
 use Rattle.std.specs.Io.KnownBytes.{IsAtEnd}
 use Rattle.std.proofs.lemmas.List.{map-append}
 use Rattle.line_source.specs.Openings.{names_of, OpensIt, OpensFirst, Unread, IsReadToEnd}
+use Rattle.line_source.specs.Givens.{WasReadToEnd}
 use Rattle.line_source.proofs.Rests.{IsSplit}
 
 pub none_first : (names : List (List ℕ)) (before now : List (List ℕ × ℕ)) → now ≡ before → OpensFirst names before now
@@ -49,6 +50,6 @@ whole (Some text) front left end split = at_end text front left end split
 -- the file that was opened last has no byte left, and this part of it was read
 pub read_to_end : (told : List ℕ → Option (List ℕ)) (left : Unread) (earlier : List (List ℕ × ℕ)) (name front : List ℕ) (id : ℕ)
     → left.openings ≡ earlier ++ (name, id) ∷ [] → IsAtEnd (left.bytes id) → IfSome (told name) (λ text. IsSplit text front (left.bytes id))
-    → IsReadToEnd told left name
-read_to_end told left earlier name front id last end split =
-    record { earlier = earlier; id = id; last = last; at_end = end; whole = whole (told name) front (left.bytes id) end split }
+    → WasReadToEnd left.given name → IsReadToEnd told left name
+read_to_end told left earlier name front id last end split met =
+    record { earlier = earlier; id = id; last = last; at_end = end; whole = whole (told name) front (left.bytes id) end split; met = met }

@@ -4,6 +4,7 @@ ghost use Rattle.line_source.specs.Causes.{Rose};
 ghost use Rattle.line_source.specs.Openings.{OpensIt, OpensFirst, IsReadToEnd, unread};
 ghost use Rattle.line_source.specs.Reports.{Same, Stays};
 ghost use Rattle.line_source.specs.Pieces.{IsTakenWhole};
+ghost use Rattle.line_source.specs.Givens.{GivesFirst, GivesTooMany};
 
 use crate::{Failed, Files, LoadFault, MAX_FILE};
 use std::alloc::AllocError;
@@ -35,7 +36,7 @@ pub const MAX_PIECE: usize = 65_536;
 /// `ReadFault` comes only where the count of faults rose, and never for a sure name; `BigFile` exactly where the file has
 /// more than [`MAX_FILE`] bytes, of which no more than that many are handed on; `NoMemory` only where the taker was
 /// refused memory. The file is opened once at most, and read to its end where it is all handed on.
-#[tactic(auto, using(crate::proofs::OpeningLaws::none_first, crate::proofs::OpeningLaws::one_first, crate::proofs::OpeningLaws::read_to_end))]
+#[tactic(auto, using(crate::proofs::OpeningLaws::none_first, crate::proofs::OpeningLaws::one_first, crate::proofs::OpeningLaws::read_to_end, crate::proofs::GivenLaws::gives_none, crate::proofs::GivenLaws::gives_one, crate::proofs::GivenLaws::met_end))]
 pub fn load_into<F: Files, T: Taker>(
     files: &mut F,
     name: &str,
@@ -43,12 +44,14 @@ pub fn load_into<F: Files, T: Taker>(
 ) -> Result<(), LoadFault>
     requires none_taken { T.taken taker.old ≡ 0 }
     requires stands_for_none { T.stands_for taker.old [] }
-    ensures whole { OnOk result (IsTakenWhole (F.text_of files.old name.now) (T.taken taker.new) (T.stands_for taker.new)) }
+    ensures whole { OnOk result (IsTakenWhole (F.text_of files.old name.now) name.now (F.given files.old) (F.given files.new) (T.taken taker.new) (T.stands_for taker.new)) }
     ensures big { IfSome (F.text_of files.old name.now) (λ text. IsErrOf result LoadFault.BigFile → MAX_FILE < length text) }
     ensures big_taken { IsErrOf result LoadFault.BigFile → T.taken taker.new ≤ MAX_FILE }
     ensures opened { OpensFirst (name.now ∷ []) (F.openings files.old) (F.openings files.new) }
     ensures opens { result ≢ Err LoadFault.ReadFault → OpensIt name.now (F.openings files.old) (F.openings files.new) }
-    ensures ended { OnOk result (IsReadToEnd (F.text_of files.old) (unread (F.openings files.new) (F.unread files.new)) name.now) }
+    ensures gives { GivesFirst (name.now ∷ []) (F.given files.old) (F.given files.new) }
+    ensures given_big { IsErrOf result LoadFault.BigFile → GivesTooMany name.now (F.given files.old) (F.given files.new) }
+    ensures ended { OnOk result (IsReadToEnd (F.text_of files.old) (unread (F.openings files.new) (F.unread files.new) (F.given files.new)) name.now) }
     ensures memory { IsErrOf result LoadFault.NoMemory → T.is_refused taker.new }
     ensures cause { F.faults files.old ≤ F.faults files.new }
     ensures fault { IsErrOf result LoadFault.ReadFault → Rose (F.faults files.old) (F.faults files.new) }

@@ -1,6 +1,6 @@
 -- The front of the elimination of a normal matrix, and the bound that its form gives over all data.
 use Rattle.std.specs.Prelude.{◌≡◌, ℕ, ◌^◌, true, false, List, length, ℤ, pos, ◌*ℤ◌, Result, Err}
-use Rattle.rational.specs.Rational.{of_whole, mul_r, ◌≤ʳ◌}
+use Rattle.rational.specs.Rational.{of_whole, ◌*ʳ◌, ◌≤ʳ◌}
 use Rattle.quadratic_form.specs.Forms.{Column}
 use Rattle.quadratic_form.specs.Elimination.{Factor, Refusal, wide_entry, form_small, steps}
 use Rattle.quadratic_form.specs.Rows.{value}
@@ -20,4 +20,4 @@ front_of h n = elim (form_small (first_form h n)) [ true ↦ steps 0 3 (first_fo
 -- for all data in the boxes, all integer vectors and all rational baselines: 64 times the sum of squares is at least 2^h times the form's value
 pub record BoundsAllData (arcs : List Arc) (ss : List ℕ) (pairs : List PairRows) (h : ℕ) (p : List Column) : Type 0 where
   pub below : (z : List ℤ) (b : Baseline) (observed : List (List Observed)) → length z ≡ integer_count arcs ss → AreData ss pairs observed →
-      of_whole (pos (2 ^ h) *ℤ value p z) ≤ʳ mul_r (of_whole (pos 64)) (sum_of_squares arcs ss pairs z b observed)
+      of_whole (pos (2 ^ h) *ℤ value p z) ≤ʳ of_whole (pos 64) *ʳ sum_of_squares arcs ss pairs z b observed

@@ -3,7 +3,7 @@ use Rattle.std.proofs.Common.{◌≡◌, ℕ, ◌*◌, ◌<◌, List, [], ◌∷
 use Rattle.whole_math.proofs.Ring.{◌⊕◌, ◌⊖◌, ◌⊗◌}
 use Rattle.whole_math.proofs.Inequalities.{same_by, nat}
 use Rattle.whole_math.specs.Vectors.{len, dot}
-use Rattle.rational.specs.Rational.{Rational, ◌≈◌, ◌≤ʳ◌, of_whole, mul_r}
+use Rattle.rational.specs.Rational.{Rational, ◌≈◌, ◌≤ʳ◌, of_whole, ◌*ʳ◌}
 use Rattle.quadratic_form.specs.Forms.{Column, quad}
 use Rattle.quadratic_form.specs.Spread.{spread}
 use Rattle.quadratic_form.specs.Rows.{SignalRow, SignalGroup, WholeData, WholeBaseline, Radii, coefficients, columns, columns_at, share, matrix, radii, bounding_form, RowsOf, GroupsOf, whole_residual, whole_residuals, whole_sum_of_squares}
@@ -57,8 +57,8 @@ stays_below arcs ss pairs n h = record { below = λ observed d z l e p c. go obs
         ∙ ap (λ (r : Radii). bounding_form (length z) (matrix (length z) gs) r) (radii_are arcs ss pairs n h)
 
     go : (observed : List (List Observed)) → AreData ss pairs observed → (z : List ℤ) → length z ≡ integer_count arcs ss → (e : ℕ) (p : 0 < e) (c : WholeBaseline) →
-        value_over e p (bounding_of n (length z)) z c ≤ʳ mul_r (of_whole (pos 64)) (sum_of_squares arcs ss pairs z (baseline_over e p c) observed)
-    go observed d z l e p c = subst (λ (f : Rational). value_over e p (bounding_of n (length z)) z c ≤ʳ mul_r (of_whole (pos 64)) f) (sym (sum_is arcs ss pairs z (baseline_over e p c) observed d))
+        value_over e p (bounding_of n (length z)) z c ≤ʳ of_whole (pos 64) *ʳ sum_of_squares arcs ss pairs z (baseline_over e p c) observed
+    go observed d z l e p c = subst (λ (f : Rational). value_over e p (bounding_of n (length z)) z c ≤ʳ of_whole (pos 64) *ʳ f) (sym (sum_is arcs ss pairs z (baseline_over e p c) observed d))
         (bounding_over_rationals e z c (baseline_over e p c) gs (group_data ss observed) (value_over e p (bounding_of n (length z)) z c) p (over_base e p c)
         (groups_of_vector arcs ss pairs z l) (data_fit arcs ss pairs observed d)
         (ap (λ (f : List Column). quad f (columns_at (pos e) z c) *ℤ pos (e * e)) (bounding_is z l)))

@@ -1,7 +1,7 @@
 -- The normal matrix as a form, and what its value is to the sum of squares.
 use Rattle.std.specs.Prelude.{◌≡◌, ℕ, ◌*◌, ◌<◌, List, length, ℤ, pos, slice_index_or}
 use Rattle.std.proofs.Common.{mul-pos}
-use Rattle.rational.specs.Rational.{Rational, ◌≈◌, ◌≤ʳ◌, of_whole, mul_r}
+use Rattle.rational.specs.Rational.{Rational, ◌≈◌, ◌≤ʳ◌, of_whole, ◌*ʳ◌}
 use Rattle.quadratic_form.specs.Forms.{Column, quad}
 use Rattle.quadratic_form.specs.Rows.{Radii, WholeBaseline, bounding_form, columns_at}
 use Rattle.quadratic_form.specs.RationalData.{Baseline}
@@ -41,4 +41,4 @@ pub record IsSumAtCentres (arcs : List Arc) (ss : List ℕ) (pairs : List PairRo
 -- for all data in the boxes, every integer vector and every rational baseline c / e, B's value is at most 64 times the sum of squares
 pub record StaysBelow (arcs : List Arc) (ss : List ℕ) (pairs : List PairRows) (n : Normal) : Type 0 where
   pub below : (observed : List (List Observed)) → AreData ss pairs observed → (z : List ℤ) → length z ≡ integer_count arcs ss → (e : ℕ) (h : 0 < e) (c : WholeBaseline) →
-      value_over e h (bounding_of n (length z)) z c ≤ʳ mul_r (of_whole (pos 64)) (sum_of_squares arcs ss pairs z (baseline_over e h c) observed)
+      value_over e h (bounding_of n (length z)) z c ≤ʳ of_whole (pos 64) *ʳ sum_of_squares arcs ss pairs z (baseline_over e h c) observed

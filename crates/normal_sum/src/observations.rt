@@ -13,6 +13,7 @@ use crate::products::add_to_entry;
 use crate::signals::turned_share;
 use form_tables::{BASELINE_COLUMNS, NormalTable};
 use obs_rows::{Row, SIGNALS};
+use whole_math::product;
 
 /// The sum of the observations of the rows.
 fn observation_sum(rows: &[Row], signal: usize) -> i64
@@ -28,16 +29,6 @@ fn observation_sum(rows: &[Row], signal: usize) -> i64
     sum
 }
 
-/// a · b
-fn product(a: i64, b: i64) -> i128
-    requires a_size { unsigned_abs a ≤ 2 ^ 34 }
-    requires b_size { unsigned_abs b ≤ 2 ^ 34 }
-    ensures value { result ≡ a *ℤ b }
-    ensures size { unsigned_abs result ≤ 2 ^ 68 }
-{
-    a as i128 * b as i128
-}
-
 /// u_i · y
 fn observation_product(row: &Row, axis: usize, signal: usize) -> i128
     requires axis { axis < BASELINE_COLUMNS }
@@ -45,7 +36,7 @@ fn observation_product(row: &Row, axis: usize, signal: usize) -> i128
     ensures value { result ≡ number_at row.now.u axis *ℤ number_at row.now.y signal }
     ensures size { unsigned_abs result ≤ 2 ^ 68 }
 {
-    product(row.u[axis], row.y[signal])
+    product::<34, 34>(row.u[axis], row.y[signal])
 }
 
 /// The sum of the products of the rows' directions along an axis and their observations.
@@ -69,7 +60,7 @@ fn observation_square(row: &Row, signal: usize) -> i128
     ensures value { result ≡ number_at row.now.y signal *ℤ number_at row.now.y signal }
     ensures size { unsigned_abs result ≤ 2 ^ 68 }
 {
-    product(row.y[signal], row.y[signal])
+    product::<34, 34>(row.y[signal], row.y[signal])
 }
 
 /// The sum of the squares of the observations of the rows.

@@ -6,16 +6,7 @@ ghost use Rattle.form_tables.specs.declared.sizes.TheConstants.{BASELINE_COLUMNS
 ghost use Rattle.normal_sum.specs.Columns.{AreColumnsOf, AreColumnsFrom};
 
 use form_tables::{BASELINE_COLUMNS, MOST_COLUMNS, NormalTable};
-
-/// weight · value
-pub(crate) fn times(weight: i64, value: i64) -> i128
-    requires weight_size { unsigned_abs weight ≤ 2 ^ 35 }
-    requires value_size { unsigned_abs value ≤ 2 ^ 40 }
-    ensures value { result ≡ weight *ℤ value }
-    ensures size { unsigned_abs result ≤ 2 ^ 75 }
-{
-    weight as i128 * value as i128
-}
+use whole_math::product;
 
 /// sum + factor · value
 fn plus_times(sum: i128, factor: i128, value: i64) -> i128
@@ -167,7 +158,13 @@ fn add_product_row(
     if is_short(value) {
         add_short_to_row(table, row, short_times(weight, value), values, columns);
     } else {
-        add_to_row(table, row, times(weight, value), values, columns);
+        add_to_row(
+            table,
+            row,
+            product::<35, 40>(weight, value),
+            values,
+            columns,
+        );
     }
 }
 

@@ -6,8 +6,8 @@ ghost use Rattle.obs_rows.specs.SignalGroups.{signal_row};
 ghost use Rattle.normal_sum.specs.RadiusSums.{radii_of, IsAtMost, squares_of};
 
 use crate::places::MOST_ROWS;
-use crate::products::times;
 use obs_rows::Row;
+use whole_math::product;
 
 /// Sums of weighted squares of the radii of the three directions and of the observations.
 #[derive(Clone, Copy)]
@@ -39,7 +39,7 @@ fn weighted_square(weight: i64, radius: i64) -> i128
     ensures from { pos 0 ≤ℤ result }
     ensures to { result ≤ℤ pos (2 ^ 75) }
 {
-    times(weight, square(radius))
+    product::<35, 40>(weight, square(radius))
 }
 
 /// sum + weight · radius²

@@ -6,7 +6,7 @@ use Rattle.std.proofs.lemmas.List.Elements.{All-head, All-tail}
 use Rattle.whole_math.specs.Vectors.{dot}
 use Rattle.whole_math.proofs.Ring.{◌⊕◌, ◌⊖◌, ◌⊗◌, ng}
 use Rattle.whole_math.proofs.Inequalities.{same_by, nat}
-use Rattle.rational.specs.Rational.{Rational, Near, of_whole, add_r, sub_r, mul_r}
+use Rattle.rational.specs.Rational.{Rational, Near, of_whole, ◌+ʳ◌, ◌-ʳ◌, ◌*ʳ◌}
 use Rattle.quadratic_form.specs.Rows.{SignalGroup, share as group_share}
 use Rattle.quadratic_form.specs.RationalData.{RowData, Baseline, Fits, FitsAll, sum_of_rationals, spread_of_rationals, residual as group_residual, residuals as group_residuals}
 use Rattle.quadratic_form.specs.RationalData.{sum_of_squares as group_sum}
@@ -21,7 +21,7 @@ use Rattle.obs_rows.specs.SignalGroups.{cycles, signal_row, signal_group, signal
 use Rattle.obs_rows.proofs.IntegerPlaces.{place_below, dot_only_at}
 
 -- ---- residuals
-sub_of_whole : (p : Rational) (k : ℤ) → sub_r p (of_whole k) ≡ add_r p (of_whole (neg_ℤ k))
+sub_of_whole : (p : Rational) (k : ℤ) → p -ʳ of_whole k ≡ p +ʳ of_whole (neg_ℤ k)
 sub_of_whole p k = ap with_num (same_by (p.num ∷ k ∷ pos p.den ∷ []) (λ n k d. (n ⊗ nat 1 ⊖ k ⊗ d, n ⊗ nat 1 ⊕ ng k ⊗ d)) refl)
   where
     with_num : ℤ → Rational
@@ -35,8 +35,8 @@ cycles_give arcs ss s z r =
 
 residual_is : (arcs : List Arc) (ss : List ℕ) (z : List ℤ) (b : Baseline) (s : ℕ) (r : Row) (q : Observed) → residual arcs ss z b s r q ≡ group_residual z b (signal_row arcs ss s r) (signal_data s q)
 residual_is arcs ss z b s r q =
-    sub_of_whole (sub_r (q.y s) (along q b)) (cycle s *ℤ integer arcs ss z r.arc s)
-    ∙ ap (λ (k : ℤ). add_r (sub_r (q.y s) (along q b)) (of_whole k)) (cycles_give arcs ss s z r)
+    sub_of_whole (q.y s -ʳ along q b) (cycle s *ℤ integer arcs ss z r.arc s)
+    ∙ ap (λ (k : ℤ). q.y s -ʳ along q b +ʳ of_whole k) (cycles_give arcs ss s z r)
 
 residuals_are : (arcs : List Arc) (ss : List ℕ) (z : List ℤ) (b : Baseline) (s : ℕ) (rs : List Row) (qs : List Observed) →
     residuals arcs ss z b s rs qs ≡ group_residuals z b (map (signal_row arcs ss s) rs) (map (signal_data s) qs)
@@ -46,16 +46,16 @@ residuals_are arcs ss z b s (r ∷ rs) (q ∷ qs) = ap₂ (λ (x : Rational) (xs
 
 -- ---- the sum
 term_is : (arcs : List Arc) (ss : List ℕ) (z : List ℤ) (b : Baseline) (p : PairRows) (qs : List Observed) (s : ℕ) →
-    term arcs ss z b p qs s ≡ mul_r (of_whole (group_share (signal_group arcs ss p s))) (spread_of_rationals (group_residuals z b (map (signal_row arcs ss s) p.rows) (map (signal_data s) qs)))
+    term arcs ss z b p qs s ≡ of_whole (group_share (signal_group arcs ss p s)) *ʳ spread_of_rationals (group_residuals z b (map (signal_row arcs ss s) p.rows) (map (signal_data s) qs))
 term_is arcs ss z b p qs s =
-    ap₂ (λ (n : ℕ) (xs : List Rational). mul_r (of_whole (share n s)) (spread_of_rationals xs)) (sym (length-map p.rows (signal_row arcs ss s))) (residuals_are arcs ss z b s p.rows qs)
+    ap₂ (λ (n : ℕ) (xs : List Rational). of_whole (share n s) *ʳ spread_of_rationals xs) (sym (length-map p.rows (signal_row arcs ss s))) (residuals_are arcs ss z b s p.rows qs)
 
 terms_of_pair : (arcs : List Arc) (ss : List ℕ) (z : List ℤ) (b : Baseline) (p : PairRows) (qs : List Observed) (signals : List ℕ) (rest : List Rational) (gs : List SignalGroup)
     (ds : List (List RowData)) →
     sum_of_rationals rest ≡ group_sum z b gs ds →
     sum_of_rationals (map (term arcs ss z b p qs) signals ++ rest) ≡ group_sum z b (map (signal_group arcs ss p) signals ++ gs) (map (λ s. map (signal_data s) qs) signals ++ ds)
 terms_of_pair arcs ss z b p qs [] rest gs ds e = e
-terms_of_pair arcs ss z b p qs (s ∷ signals) rest gs ds e = ap₂ add_r (term_is arcs ss z b p qs s) (terms_of_pair arcs ss z b p qs signals rest gs ds e)
+terms_of_pair arcs ss z b p qs (s ∷ signals) rest gs ds e = ap₂ ◌+ʳ◌ (term_is arcs ss z b p qs s) (terms_of_pair arcs ss z b p qs signals rest gs ds e)
 
 -- the sum of squares is that of the groups
 pub sum_is : (arcs : List Arc) (ss : List ℕ) (pairs : List PairRows) (z : List ℤ) (b : Baseline) (observed : List (List Observed)) → AreData ss pairs observed →

@@ -2,7 +2,7 @@
 use Rattle.std.proofs.Common.{◌≡◌, ◌≢◌, ℕ, ◌^◌, List, length, ℤ, pos, ◌*ℤ◌, Ok, sym, ◌∙◌, ap, subst}
 use Rattle.whole_math.specs.Vectors.{len}
 use Rattle.whole_math.proofs.Vectors.{len_is}
-use Rattle.rational.specs.Rational.{Rational, of_whole, mul_r, ◌≤ʳ◌, ◌<ʳ◌}
+use Rattle.rational.specs.Rational.{Rational, of_whole, ◌*ʳ◌, ◌≤ʳ◌, ◌<ʳ◌}
 use Rattle.rational.proofs.Over.{Over}
 use Rattle.quadratic_form.specs.Forms.{Column}
 use Rattle.quadratic_form.specs.Elimination.{Factor, steps}
@@ -36,9 +36,9 @@ sum_over arcs ss pairs d e z c b ts observed h over base =
 -- 64 times the sum of squares is at least 2^h times the value of the form that three steps leave, for all data, all integers and all rational baselines
 pub bound_for_all_data : (arcs : List Arc) (ss : List ℕ) (pairs : List PairRows) (h : ℕ) (z : List ℤ) (b : Baseline) (observed : List (List Observed)) (p : List Factor × List Column) →
     length z ≡ integer_count arcs ss → AreData ss pairs observed → steps 0 3 (first_rounding h (length z) (signal_groups arcs ss pairs)) ≡ Ok p →
-    of_whole (pos (2 ^ h) *ℤ value p.1 z) ≤ʳ mul_r (of_whole (pos 64)) (sum_of_squares arcs ss pairs z b observed)
+    of_whole (pos (2 ^ h) *ℤ value p.1 z) ≤ʳ of_whole (pos 64) *ʳ sum_of_squares arcs ss pairs z b observed
 bound_for_all_data arcs ss pairs h z b observed p e f s =
-    subst (λ (q : Rational). of_whole (pos (2 ^ h) *ℤ value p.1 z) ≤ʳ mul_r (of_whole (pos 64)) q) (sym (sum_is arcs ss pairs z b observed f))
+    subst (λ (q : Rational). of_whole (pos (2 ^ h) *ℤ value p.1 z) ≤ʳ of_whole (pos 64) *ʳ q) (sym (sum_is arcs ss pairs z b observed f))
     (bound_over_rationals h z b (signal_groups arcs ss pairs) (group_data ss observed) p (groups_of_vector arcs ss pairs z e) (data_fit arcs ss pairs observed f) s)
 
 -- integers that are best for the groups are best in the session

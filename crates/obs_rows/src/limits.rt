@@ -9,7 +9,7 @@ pub const LAST_PAIR: u64 = MOST_PAIRS as u64 - 1;
 /// The most satellites of a pair.
 pub const MOST_SATELLITES: usize = 15;
 
-/// The most arcs that are kept.
+/// The most kept arcs of an outcome. A session has 200 at most.
 pub const MOST_KEPT_ARCS: usize = 54_000;
 
 /// The greatest ratio of the second best value to the best that a run asks for, in thousandths.

@@ -7,7 +7,7 @@ use Rattle.whole_math.proofs.Order.{lins, le_pos, mul_nn}
 use Rattle.whole_math.proofs.Inequalities.{same_by, nat, pos_nn}
 use Rattle.whole_math.proofs.Certificates.{◌≼◌, hy, nm, ◌⊞◌, ◌⊠◌}
 use Rattle.decimal_text.specs.declared.exponent.Dec.{Dec}
-use Rattle.rational.specs.Rational.{Rational, ◌≈◌, ◌≤ʳ◌, of_whole, of_scale, add_r, sub_r, mul_r, IsRatio, times}
+use Rattle.rational.specs.Rational.{Rational, ◌≈◌, ◌≤ʳ◌, of_whole, of_scale, ◌+ʳ◌, ◌-ʳ◌, ◌*ʳ◌, IsRatio, times}
 use Rattle.rational.proofs.Laws.{≤ʳ_trans, ≤ʳ_from_same}
 use Rattle.rational.proofs.Orders.{order_r, equal_r, ◌≐◌}
 use Rattle.rational.proofs.Ends.{low_end}
@@ -59,22 +59,22 @@ low_of_nn k places b q h l =
     zeros m n = omega (arith, ints)
 
 -- 4500² ≤ a² and 4500³ ≤ a³
-pub square_least : (a : Rational) → of_whole (pos 4500) ≤ʳ a → of_whole (pos 20250000) ≤ʳ mul_r a a
+pub square_least : (a : Rational) → of_whole (pos 4500) ≤ʳ a → of_whole (pos 20250000) ≤ʳ a *ʳ a
 square_least a h = order_r (a ∷ []) ((ko (pos 4500) ≼ va 0) ∷ []) [] (ko (pos 20250000)) (va 0 ⊗ va 0) (hy 0 ⊠ hy 0 ⊞ nm 9000 ⊠ hy 0) [] refl (h, tt) tt
 
-pub axis_least : (b : Iv 36) (a : Rational) → of_whole (pos 4500) ≤ʳ a → Holds b (mul_r a a) → width_of b ≤ℤ pos 4 → pos (20249999 * 2 ^ 36) ≤ℤ b.lo
-axis_least b a h i w = step (low_end 36 b.lo b.hi (pos 4) (pos (20250000 * 2 ^ 36)) (mul_r a a) w
-    (≤ʳ_trans (of_scale 36 (pos (20250000 * 2 ^ 36))) (of_whole (pos 20250000)) (mul_r a a) (le_pos _ _ (lit≤ tt)) (square_least a h)) i)
+pub axis_least : (b : Iv 36) (a : Rational) → of_whole (pos 4500) ≤ʳ a → Holds b (a *ʳ a) → width_of b ≤ℤ pos 4 → pos (20249999 * 2 ^ 36) ≤ℤ b.lo
+axis_least b a h i w = step (low_end 36 b.lo b.hi (pos 4) (pos (20250000 * 2 ^ 36)) (a *ʳ a) w
+    (≤ʳ_trans (of_scale 36 (pos (20250000 * 2 ^ 36))) (of_whole (pos 20250000)) (a *ʳ a) (le_pos _ _ (lit≤ tt)) (square_least a h)) i)
   where
     step : (pos (20250000 * 2 ^ 36) -ℤ pos 4) ≤ℤ b.lo → pos (20249999 * 2 ^ 36) ≤ℤ b.lo
     step l = omega (arith, ints)
 
-pub cube_least : (b : Iv 24) (a : Rational) → of_whole (pos 4500) ≤ʳ a → Holds b (mul_r (mul_r a a) a) → width_of b ≤ℤ pos 10 → pos (91124999999 * 2 ^ 24) ≤ℤ b.lo
-cube_least b a h i w = step (low_end 24 b.lo b.hi (pos 10) (pos (91125000000 * 2 ^ 24)) (mul_r (mul_r a a) a) w
-    (≤ʳ_trans (of_scale 24 (pos (91125000000 * 2 ^ 24))) (of_whole (pos 91125000000)) (mul_r (mul_r a a) a) (le_pos _ _ (lit≤ tt)) product) i)
+pub cube_least : (b : Iv 24) (a : Rational) → of_whole (pos 4500) ≤ʳ a → Holds b (a *ʳ a *ʳ a) → width_of b ≤ℤ pos 10 → pos (91124999999 * 2 ^ 24) ≤ℤ b.lo
+cube_least b a h i w = step (low_end 24 b.lo b.hi (pos 10) (pos (91125000000 * 2 ^ 24)) (a *ʳ a *ʳ a) w
+    (≤ʳ_trans (of_scale 24 (pos (91125000000 * 2 ^ 24))) (of_whole (pos 91125000000)) (a *ʳ a *ʳ a) (le_pos _ _ (lit≤ tt)) product) i)
   where
-    product : of_whole (pos 91125000000) ≤ʳ mul_r (mul_r a a) a
-    product = order_r (a ∷ mul_r a a ∷ []) ((ko (pos 4500) ≼ va 0) ∷ (ko (pos 20250000) ≼ va 1) ∷ []) [] (ko (pos 91125000000)) (va 1 ⊗ va 0)
+    product : of_whole (pos 91125000000) ≤ʳ a *ʳ a *ʳ a
+    product = order_r (a ∷ a *ʳ a ∷ []) ((ko (pos 4500) ≼ va 0) ∷ (ko (pos 20250000) ≼ va 1) ∷ []) [] (ko (pos 91125000000)) (va 1 ⊗ va 0)
         (hy 1 ⊠ hy 0 ⊞ nm 4500 ⊠ hy 1 ⊞ nm 20250000 ⊠ hy 0) [] refl (h, (square_least a h, tt)) tt
 
     step : (pos (91125000000 * 2 ^ 24) -ℤ pos 10) ≤ℤ b.lo → pos (91124999999 * 2 ^ 24) ≤ℤ b.lo
@@ -82,26 +82,26 @@ cube_least b a h i w = step (low_end 24 b.lo b.hi (pos 10) (pos (91125000000 * 2
 
 -- ---- 10^4 n: what 10^4 times the root of μ over A √A is, and what Δn adds
 -- the product by a whole number
-pub times_is : (n : ℕ) (q : Rational) → times n q ≈ mul_r (of_whole (pos n)) q
+pub times_is : (n : ℕ) (q : Rational) → times n q ≈ of_whole (pos n) *ʳ q
 times_is n q = same_by (pos n ∷ q.num ∷ pos q.den ∷ []) (λ n a d. (n ⊗ a ⊗ (nat 1 ⊗ d), n ⊗ a ⊗ d)) refl
 
-pub scaled_motion : (n0 axis a r : Rational) → mul_r n0 (mul_r axis a) ≈ r → mul_r (times 10000 n0) (mul_r axis a) ≈ mul_r r (of_whole (pos 10000))
+pub scaled_motion : (n0 axis a r : Rational) → n0 *ʳ (axis *ʳ a) ≈ r → times 10000 n0 *ʳ (axis *ʳ a) ≈ r *ʳ of_whole (pos 10000)
 scaled_motion n0 axis a r h =
     equal_r (times 10000 n0 ∷ n0 ∷ axis ∷ a ∷ r ∷ []) ((va 0 ≐ ko (pos 10000) ⊗ va 1) ∷ (va 1 ⊗ (va 2 ⊗ va 3) ≐ va 4) ∷ []) ((va 2 ⊗ va 3) ∷ ko (pos 10000) ∷ [])
     (va 0 ⊗ (va 2 ⊗ va 3)) (va 4 ⊗ ko (pos 10000)) refl (times_is 10000 n0, (h, tt))
 
-pub scaled_sum : (n n0 dn : Rational) → n ≈ add_r n0 dn → add_r (times 10000 n0) (times 10000 dn) ≈ times 10000 n
+pub scaled_sum : (n n0 dn : Rational) → n ≈ n0 +ʳ dn → times 10000 n0 +ʳ times 10000 dn ≈ times 10000 n
 scaled_sum n n0 dn h =
     equal_r (times 10000 n0 ∷ times 10000 dn ∷ times 10000 n ∷ n0 ∷ dn ∷ n ∷ [])
     ((va 0 ≐ ko (pos 10000) ⊗ va 3) ∷ (va 1 ≐ ko (pos 10000) ⊗ va 4) ∷ (va 2 ≐ ko (pos 10000) ⊗ va 5) ∷ (va 5 ≐ va 3 ⊕ va 4) ∷ [])
     (ko (pos 1) ∷ ko (pos 1) ∷ ng (ko (pos 1)) ∷ ng (ko (pos 10000)) ∷ []) (va 0 ⊕ va 1) (va 2) refl (times_is 10000 n0, (times_is 10000 dn, (times_is 10000 n, (h, tt))))
 
 -- 10^4 times a 10^4th
-pub part_is : (x : Rational) → mul_r (part x) (of_whole (pos 10000)) ≈ x
+pub part_is : (x : Rational) → part x *ʳ of_whole (pos 10000) ≈ x
 part_is x = same_by (x.num ∷ pos x.den ∷ []) (λ a d. (a ⊗ nat 10000 ⊗ d, a ⊗ (nat 10000 ⊗ d ⊗ nat 1))) refl
 
 -- (tag - epoch) - code / c, over 10^4 s
-pub sent_ratio : (t e : ℕ) (code n d : ℤ) → n ≡ (pos t -ℤ pos e) *ℤ pos 149896229 -ℤ code *ℤ pos 5000 → d ≡ pos 14989622900000000000 → IsRatio (part (sub_r (sent_at t code) (seconds e))) n d
+pub sent_ratio : (t e : ℕ) (code n d : ℤ) → n ≡ (pos t -ℤ pos e) *ℤ pos 149896229 -ℤ code *ℤ pos 5000 → d ≡ pos 14989622900000000000 → IsRatio (part (sent_at t code -ʳ seconds e)) n d
 sent_ratio t e code n d f g = rw (f, g)
     (same_by (pos t ∷ pos e ∷ code ∷ []) (λ t e k. (
       ((t ⊗ nat 149896229 ⊖ k ⊗ nat 5000) ⊗ nat 10000000 ⊖ e ⊗ nat 1498962290000000) ⊗ nat 14989622900000000000,
@@ -110,24 +110,24 @@ sent_ratio t e code n d f g = rw (f, g)
 
 -- the correction by steps: with the time over 10^4, the drift times 10^4 and the aging times 10^8
 abbrev pub stepped : Rational → Rational → Rational → Rational → Rational → Rational
-stepped bias drift aging time effect = add_r (add_r bias (mul_r time (add_r drift (mul_r aging time)))) effect
+stepped bias drift aging time effect = bias +ʳ time *ʳ (drift +ʳ aging *ʳ time) +ʳ effect
 
 pub correction_is : (eph : Elements) (sent x y : Rational) →
-    stepped eph.af0 (times (10 ^ 4) eph.af1) (times (10 ^ 8) eph.af2) (sub_r (part (sub_r sent eph.toc)) (part x)) y ≈ correction eph sent x y
+    stepped eph.af0 (times (10 ^ 4) eph.af1) (times (10 ^ 8) eph.af2) (part (sent -ʳ eph.toc) -ʳ part x) y ≈ correction eph sent x y
 correction_is eph sent x y =
-    let values : List Rational = eph.af0 ∷ eph.af1 ∷ eph.af2 ∷ sent ∷ eph.toc ∷ x ∷ y ∷ part (sub_r sent eph.toc) ∷ part x ∷ times (10 ^ 4) eph.af1 ∷ times (10 ^ 8) eph.af2 ∷ [] in
+    let values : List Rational = eph.af0 ∷ eph.af1 ∷ eph.af2 ∷ sent ∷ eph.toc ∷ x ∷ y ∷ part (sent -ʳ eph.toc) ∷ part x ∷ times (10 ^ 4) eph.af1 ∷ times (10 ^ 8) eph.af2 ∷ [] in
     let time : Ex = va 7 ⊖ va 8 in
     let since : Ex = (va 3 ⊖ va 5) ⊖ va 4 in
     let slope : Ex = va 1 ⊕ va 2 ⊗ (ko (pos 10000) ⊗ time ⊕ since) in
     equal_r values ((va 7 ⊗ ko (pos 10000) ≐ va 3 ⊖ va 4) ∷ (va 8 ⊗ ko (pos 10000) ≐ va 5) ∷ (va 9 ≐ ko (pos 10000) ⊗ va 1) ∷ (va 10 ≐ ko (pos 100000000) ⊗ va 2) ∷ [])
     (slope ∷ ng slope ∷ time ∷ (time ⊗ time) ∷ [])
     ((va 0 ⊕ time ⊗ (va 9 ⊕ va 10 ⊗ time)) ⊕ va 6) (((va 0 ⊕ va 1 ⊗ since) ⊕ va 2 ⊗ (since ⊗ since)) ⊕ va 6) refl
-    (part_is (sub_r sent eph.toc), (part_is x, (times_is (10 ^ 4) eph.af1, (times_is (10 ^ 8) eph.af2, tt))))
+    (part_is (sent -ʳ eph.toc), (part_is x, (times_is (10 ^ 4) eph.af1, (times_is (10 ^ 8) eph.af2, tt))))
 
 -- 10^4 F in 10^-15, where F is in 10^-19
 pub factor_ratio : (rel n d : ℤ) → n ≡ rel → d ≡ pos 1000000000000000 → IsRatio (times (10 ^ 4) (decimal rel 19)) n d
 factor_ratio rel n d f g = rw (f, g) (same_by (rel ∷ []) (λ r. (nat 10000 ⊗ r ⊗ nat 1000000000000000, r ⊗ nat 10000000000000000000)) refl)
 
-pub relativity_is : (f e a : Rational) → mul_r (mul_r (mul_r f e) a) (of_whole (pos 10000)) ≈ mul_r (mul_r (times (10 ^ 4) f) a) e
+pub relativity_is : (f e a : Rational) → f *ʳ e *ʳ a *ʳ of_whole (pos 10000) ≈ times (10 ^ 4) f *ʳ a *ʳ e
 relativity_is f e a = equal_r (f ∷ e ∷ a ∷ times (10 ^ 4) f ∷ []) ((va 3 ≐ ko (pos 10000) ⊗ va 0) ∷ []) (ng (va 2 ⊗ va 1) ∷ [])
     (((va 0 ⊗ va 1) ⊗ va 2) ⊗ ko (pos 10000)) ((va 3 ⊗ va 2) ⊗ va 1) refl (times_is (10 ^ 4) f, tt)

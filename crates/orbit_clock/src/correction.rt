@@ -1,7 +1,7 @@
 //! The clock's correction: IS-GPS-200, 20.3.3.3.3.1. Times are over 10^4 s, so the drift is times 10^4 and the aging times 10^8.
 ghost use Rattle.std.specs.Prelude.{◌≡◌, ◌+◌, ◌*◌, ◌^◌, ◌<◌, ◌≤◌, pos, ◌+ℤ◌, ◌-ℤ◌, ◌*ℤ◌, ◌≤ℤ◌, ◌<ℤ◌, unsigned_abs};
 ghost use Rattle.std.specs.Int.{abs_diff};
-ghost use Rattle.rational.specs.Rational.{Rational, sub_r, two_to_minus, IsAtMostInSize};
+ghost use Rattle.rational.specs.Rational.{Rational, ◌-ʳ◌, two_to_minus, IsAtMostInSize};
 ghost use Rattle.iv_core.specs.Intervals.{Holds};
 ghost use Rattle.orbit_model.specs.Elements.{Elements, sent_at};
 ghost use Rattle.orbit_model.specs.Solution.{with_share};
@@ -82,7 +82,7 @@ pub fn time_since<const TICKS: u64, const SIZE: u64>(
     requires code_high { code ≤ℤ pos (10 ^ 11) }
     requires size { (TICKS * 149896229 + 5 * 10 ^ 14) * 2 ^ 60 ≤ SIZE * 14989622900000000000 }
     requires limit { SIZE ≤ 2 ^ 62 }
-    ensures { Holds result.held (part (sub_r (sent_at tag.0 code) (seconds epoch.0))) }
+    ensures { Holds result.held (part (sent_at tag.0 code -ʳ seconds epoch.0)) }
 {
     quotient(sent_since(epoch, tag, code), 14_989_622_900_000_000_000)
 }
@@ -132,8 +132,8 @@ fn offset_of(
     requires near { abs_diff tag.0 made.now.eph.toe.0 ≤ 72010000000 }
     requires code_low { pos 0 ≤ℤ code }
     requires code_high { code ≤ℤ pos (10 ^ 11) }
-    requires sent { Holds sent.now.held (part (sub_r (sent_at tag.0 code) (seconds made.now.eph.toe.0))) }
-    ensures { Holds result.held (part (sub_r (sent_at tag.0 code) (seconds made.now.eph.toc.0))) }
+    requires sent { Holds sent.now.held (part (sent_at tag.0 code -ʳ seconds made.now.eph.toe.0)) }
+    ensures { Holds result.held (part (sent_at tag.0 code -ʳ seconds made.now.eph.toc.0)) }
 {
     if made.eph.toc.0 == made.eph.toe.0 {
         sent.loose()
@@ -148,7 +148,7 @@ impl Terms {
         requires near { abs_diff tag.0 made.now.eph.toe.0 ≤ 72010000000 }
         requires code_low { pos 0 ≤ℤ code }
         requires code_high { code ≤ℤ pos (10 ^ 11) }
-        requires sent { Holds sent.now.held (part (sub_r (sent_at tag.0 code) (seconds made.now.eph.toe.0))) }
+        requires sent { Holds sent.now.held (part (sent_at tag.0 code -ʳ seconds made.now.eph.toe.0)) }
         ensures { (share : Rational) → IsAtMostInSize (two_to_minus 44) share → HoldsTerms result (with_share (elements_of made.now.eph) share) (sent_at tag.0 code) }
     {
         Terms {

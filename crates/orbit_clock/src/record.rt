@@ -1,6 +1,6 @@
 //! What a record and a system say at every time.
 ghost use Rattle.std.specs.Prelude.{◌≡◌, ◌^◌, pos, ◌≤ℤ◌};
-ghost use Rattle.rational.specs.Rational.{Rational, add_r, mul_r, times, of_scale, two_to_minus, IsAtMostInSize};
+ghost use Rattle.rational.specs.Rational.{Rational, ◌+ʳ◌, ◌*ʳ◌, times, of_scale, two_to_minus, IsAtMostInSize};
 ghost use Rattle.iv_core.specs.Intervals.{Holds};
 ghost use Rattle.orbit_model.specs.Solution.{Quantities, IsNearSolution, with_share};
 ghost use Rattle.orbit_clock.specs.Records.{elements_of, constants_of};
@@ -57,12 +57,12 @@ pub struct ClockRecord {
     pub ghost eccentricity_low: { pos 0 ≤ℤ eccentricity.held.lo },
     pub ghost start_in: { Holds start.held (elements_of eph).m0 },
     pub ghost motion_in: { (sent : Rational) (q : Quantities) → IsNearSolution (constants_of world) (elements_of eph) sent q → Holds motion.held (times 10000 q.motion) },
-    pub ghost relativity_in: { Holds relativity.held (mul_r (mul_r (constants_of world).relativity (elements_of eph).ecc) (elements_of eph).root_a) },
+    pub ghost relativity_in: { Holds relativity.held ((constants_of world).relativity *ʳ (elements_of eph).ecc *ʳ (elements_of eph).root_a) },
 }
 
 // F e √A, in s
 fn relativity(eph: &Eph, world: &World) -> SizedBox<60, RELATIVITY, 2>
-    ensures { Holds result.held (mul_r (mul_r (constants_of world.now).relativity (elements_of eph.now).ecc) (elements_of eph.now).root_a) }
+    ensures { Holds result.held ((constants_of world.now).relativity *ʳ (elements_of eph.now).ecc *ʳ (elements_of eph.now).root_a) }
 {
     let factor: SizedBox<60, FACTOR, 1> = factor_of(world);
     let by_root: SizedBox<60, BY_ROOT, 6_002> = factor.mul(&root_of_axis(eph));
@@ -79,7 +79,7 @@ fn factor_of(world: &World) -> SizedBox<60, FACTOR, 1>
 
 // A unit wider on both sides
 fn widened(bias: &SizedBox<60, OWN_BIAS, 1>) -> SizedBox<60, BIAS, 3>
-    ensures { (x y : Rational) → Holds bias.now.held x → IsAtMostInSize (of_scale 60 (pos 1)) y → Holds result.held (add_r x y) }
+    ensures { (x y : Rational) → Holds bias.now.held x → IsAtMostInSize (of_scale 60 (pos 1)) y → Holds result.held (x +ʳ y) }
 {
     SizedBox::new(Iv::from_ends(bias.held.lo() - 1, bias.held.hi() + 1))
 }

@@ -1,6 +1,6 @@
 //! The orbit's size and shape, and how fast it is run through, from the numbers of a record.
 ghost use Rattle.std.specs.Prelude.{◌≡◌, ◌*◌, ◌^◌, pos, ◌*ℤ◌, ◌≤ℤ◌};
-ghost use Rattle.rational.specs.Rational.{Rational, ◌≈◌, of_whole, times, mul_r, IsNearRoot};
+ghost use Rattle.rational.specs.Rational.{Rational, ◌≈◌, of_whole, times, ◌*ʳ◌, IsNearRoot};
 ghost use Rattle.iv_core.specs.Intervals.{Holds};
 ghost use Rattle.orbit_model.specs.Solution.{Quantities, IsNearSolution};
 ghost use Rattle.orbit_clock.specs.Records.{elements_of, constants_of};
@@ -68,7 +68,7 @@ pub fn root_of_axis(eph: &Eph) -> SizedBox<48, ROOT, 1>
 
 /// The semi-major axis, in metres.
 pub fn axis(eph: &Eph) -> SizedBox<36, AXIS, 4>
-    ensures holds { (x : Rational) → x ≈ mul_r (elements_of eph.now).root_a (elements_of eph.now).root_a → Holds result.held x }
+    ensures holds { (x : Rational) → x ≈ (elements_of eph.now).root_a *ʳ (elements_of eph.now).root_a → Holds result.held x }
     ensures least { pos (20249999 * 2 ^ 36) ≤ℤ result.held.lo }
 {
     root_of_axis(eph).square()
@@ -76,8 +76,8 @@ pub fn axis(eph: &Eph) -> SizedBox<36, AXIS, 4>
 
 // A √A
 fn cube(eph: &Eph) -> SizedBox<24, CUBE, 10>
-    ensures holds { (x : Rational) → x ≈ mul_r (elements_of eph.now).root_a (elements_of eph.now).root_a →
-        Holds result.held (mul_r x (elements_of eph.now).root_a) }
+    ensures holds { (x : Rational) → x ≈ (elements_of eph.now).root_a *ʳ (elements_of eph.now).root_a →
+        Holds result.held (x *ʳ (elements_of eph.now).root_a) }
     ensures least { pos (91124999999 * 2 ^ 24) ≤ℤ result.held.lo }
 {
     axis(eph).mul(&root_of_axis(eph))

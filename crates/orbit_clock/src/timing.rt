@@ -1,7 +1,7 @@
 //! The clock by three passes of its correction, and the mean anomaly at the time that it gives.
 ghost use Rattle.std.specs.Prelude.{◌+◌, ◌*◌, ◌^◌, ◌<◌, ◌≤◌, pos, ◌+ℤ◌, ◌-ℤ◌, neg_ℤ, ◌≤ℤ◌};
 ghost use Rattle.std.specs.Int.{abs_diff};
-ghost use Rattle.rational.specs.Rational.{Rational, add_r, sub_r, mul_r, of_scale, two_to_minus, IsNearBox, IsAtMostInSize};
+ghost use Rattle.rational.specs.Rational.{Rational, ◌+ʳ◌, ◌-ʳ◌, ◌*ʳ◌, of_scale, two_to_minus, IsNearBox, IsAtMostInSize};
 ghost use Rattle.iv_core.specs.Intervals.{Holds};
 ghost use Rattle.kepler_box.specs.Kepler.{SolvesKepler};
 ghost use Rattle.orbit_model.specs.Elements.{sent_at};
@@ -59,7 +59,7 @@ fn time_at<const WIDTH: u64>(
     clock: &SizedBox<60, CLOCK, WIDTH>,
 ) -> SizedBox<60, EPOCH_TIME, 3>
     requires { WIDTH ≤ 10000 }
-    ensures { (s x : Rational) → Holds sent.now.held s → Holds clock.now.held x → Holds result.held (sub_r s (part x)) }
+    ensures { (s x : Rational) → Holds sent.now.held s → Holds clock.now.held x → Holds result.held (s -ʳ part x) }
 {
     let share: SizedBox<60, SHARE, 2> = share_of(clock);
     sent.sub(&share)
@@ -68,7 +68,7 @@ fn time_at<const WIDTH: u64>(
 // M0 + n tk
 fn mean_anomaly(made: &ClockRecord, time: &SizedBox<60, EPOCH_TIME, 3>) -> SizedBox<56, MEAN, 4>
     ensures { (n t : Rational) → Holds made.now.motion.held n → Holds time.now.held t →
-        Holds result.held (add_r (elements_of made.now.eph).m0 (mul_r n t)) }
+        Holds result.held ((elements_of made.now.eph).m0 +ʳ n *ʳ t) }
 {
     let turned: SizedBox<56, TURNED, 3> = made.motion.mul(time);
     made.start.add(&turned)
@@ -127,8 +127,8 @@ fn effect_of(
     first: &SizedBox<60, CLOCK, FIRST_WIDTH>,
 ) -> SizedBox<60, EFFECT, EFFECT_WIDTH>
     ensures { (s : Rational) (q : Quantities) → IsNearSolution (constants_of made.now.world) (elements_of made.now.eph) s q →
-        Holds sent.now.held (part (sub_r s (elements_of made.now.eph).toe)) → Holds first.now.held q.clock →
-        Holds result.held (mul_r (mul_r (mul_r (constants_of made.now.world).relativity (elements_of made.now.eph).ecc) (elements_of made.now.eph).root_a) q.eccentric_pair.sin) }
+        Holds sent.now.held (part (s -ʳ (elements_of made.now.eph).toe)) → Holds first.now.held q.clock →
+        Holds result.held ((constants_of made.now.world).relativity *ʳ (elements_of made.now.eph).ecc *ʳ (elements_of made.now.eph).root_a *ʳ q.eccentric_pair.sin) }
 {
     let time = time_at(sent, &clock_at(middle_of(first)));
     let mean = mean_anomaly(made, &time);

@@ -2,7 +2,7 @@
 use Rattle.std.proofs.Common.{ℕ, ◌≤◌, pos, ◌*ℤ◌, ◌≤ℤ◌, arith, lit≤}
 use Rattle.std.proofs.lemmas.Int.{ints}
 use Rattle.whole_math.proofs.Order.{le_pos}
-use Rattle.rational.specs.Rational.{Rational, ◌≤ʳ◌, of_whole, mul_r, two_to_minus}
+use Rattle.rational.specs.Rational.{Rational, ◌≤ʳ◌, of_whole, ◌*ʳ◌, two_to_minus}
 use Rattle.rational.proofs.Laws.{≤ʳ_trans}
 use Rattle.trig_box.specs.AnglePairs.{Pair, IsAnglePair}
 use Rattle.trig_box.proofs.PairLaws.{norm_law_5}
@@ -19,7 +19,7 @@ whole_le a b h = go a b h
     go : (a b : ℕ) → a ≤ b → (pos a *ℤ pos 1) ≤ℤ (pos b *ℤ pos 1)
     go a b h = omega (arith, ints)
 
-small : mul_r (of_whole (pos 65536)) (two_to_minus 16) ≤ʳ of_whole (pos 1)
+small : of_whole (pos 65536) *ʳ two_to_minus 16 ≤ʳ of_whole (pos 1)
 small = le_pos 65536 65536 (lit≤ tt)
 
 -- a place that the Earth has turned

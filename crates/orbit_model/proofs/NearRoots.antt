@@ -5,31 +5,25 @@ use Rattle.whole_math.proofs.Ring.{◌⊖◌, ◌⊗◌}
 use Rattle.whole_math.proofs.Order.{lt_pos}
 use Rattle.whole_math.proofs.Inequalities.{same_by, nat, pos_nn}
 use Rattle.whole_math.proofs.Absolute.{abs_times_le}
-use Rattle.rational.specs.Rational.{Rational, ◌≤ʳ◌, of_whole, sub_r, mul_r, IsNearRoot}
+use Rattle.rational.specs.Rational.{Rational, ◌≤ʳ◌, of_whole, ◌-ʳ◌, ◌*ʳ◌, IsNearRoot}
 use Rattle.orbit_model.specs.SeenPlaces.{over_light_speed_squared, range_of}
 use Rattle.orbit_model.proofs.NearRootCertificates.{high, low, from_high, from_low}
+use Rattle.rational.proofs.NearRoots.{near_root_whole, near_root_from_whole, times_abs}
 
 pub root_nn : (r q : Rational) → IsNearRoot r q → of_whole (pos 0) ≤ʳ r
-root_nn r q h = go r.num r.den h.0
-  where
-    go : (n : ℤ) (d : ℕ) → pos 0 ≤ℤ n → (pos 0 *ℤ pos d) ≤ℤ (n *ℤ pos 1)
-    go n d h = omega (arith, ints)
+root_nn r q h = h.0
 
 -- 2^60 (r² - q) ≤ q and 2^60 (q - r²) ≤ q
-pub near_high : (r q : Rational) → IsNearRoot r q → mul_r (of_whole (pos 1152921504606846976)) (sub_r (mul_r r r) q) ≤ʳ q
+pub near_high : (r q : Rational) → IsNearRoot r q → of_whole (pos 1152921504606846976) *ʳ (r *ʳ r -ʳ q) ≤ʳ q
 near_high r q h = high r.num (pos r.den) q.num (pos q.den) (pos_nn q.den)
-    (abs_times_le (((r.num *ℤ r.num) *ℤ pos q.den) -ℤ (q.num *ℤ pos (r.den * r.den))) (q.num *ℤ pos (r.den * r.den)) (2 ^ 60) h.1).0
+    (abs_times_le (((r.num *ℤ r.num) *ℤ pos q.den) -ℤ (q.num *ℤ pos (r.den * r.den))) (q.num *ℤ pos (r.den * r.den)) (2 ^ 60) (near_root_whole r q h).1).0
 
-pub near_low : (r q : Rational) → IsNearRoot r q → mul_r (of_whole (pos 1152921504606846976)) (sub_r q (mul_r r r)) ≤ʳ q
-near_low r q h = low r.num (pos r.den) q.num (pos q.den) (pos_nn q.den) (abs_times_le (((r.num *ℤ r.num) *ℤ pos q.den) -ℤ (q.num *ℤ pos (r.den * r.den))) (q.num *ℤ pos (r.den * r.den)) (2 ^ 60) h.1).1
+pub near_low : (r q : Rational) → IsNearRoot r q → of_whole (pos 1152921504606846976) *ʳ (q -ʳ r *ʳ r) ≤ʳ q
+near_low r q h = low r.num (pos r.den) q.num (pos q.den) (pos_nn q.den) (abs_times_le (((r.num *ℤ r.num) *ℤ pos q.den) -ℤ (q.num *ℤ pos (r.den * r.den))) (q.num *ℤ pos (r.den * r.den)) (2 ^ 60) (near_root_whole r q h).1).1
 
-pub times_abs : (z m : ℤ) (s : ℕ) → (z *ℤ pos s) ≤ℤ m → (neg_ℤ z *ℤ pos s) ≤ℤ m → (pos (unsigned_abs z) *ℤ pos s) ≤ℤ m
-times_abs (pos n) m s h k = h
-times_abs (negsuc n) m s h k = k
-
-pub near_root : (r q : Rational) → of_whole (pos 0) ≤ʳ r → mul_r (of_whole (pos 1152921504606846976)) (sub_r (mul_r r r) q) ≤ʳ q
-    → mul_r (of_whole (pos 1152921504606846976)) (sub_r q (mul_r r r)) ≤ʳ q → IsNearRoot r q
-near_root r q n h k = (
+pub near_root : (r q : Rational) → of_whole (pos 0) ≤ʳ r → of_whole (pos 1152921504606846976) *ʳ (r *ʳ r -ʳ q) ≤ʳ q
+    → of_whole (pos 1152921504606846976) *ʳ (q -ʳ r *ʳ r) ≤ʳ q → IsNearRoot r q
+near_root r q n h k = near_root_from_whole r q (
   go r.num r.den n,
   times_abs (((r.num *ℤ r.num) *ℤ pos q.den) -ℤ (q.num *ℤ pos (r.den * r.den))) (q.num *ℤ pos (r.den * r.den)) (2 ^ 60)
       (from_high r.num (pos r.den) q.num (pos q.den) h (lt_pos 0 q.den q.positive)) (from_low r.num (pos r.den) q.num (pos q.den) k (lt_pos 0 q.den q.positive)),
@@ -46,7 +40,7 @@ size n u = same_by (n ∷ u ∷ []) (λ n u. (n ⊗ (u ⊗ u), n ⊗ (nat 1 ⊗ 
 
 -- the range, c times the travel time, is a near-root of the squared distance
 pub range_root : (t q : Rational) → IsNearRoot t (over_light_speed_squared q) → IsNearRoot (range_of t) q
-range_root t q h = (
+range_root t q near = let h = near_root_whole t (over_light_speed_squared q) near in near_root_from_whole (range_of t) q (
   go t.num h.0,
   subst₂ (λ (z w : ℤ). (pos (unsigned_abs z) *ℤ pos (2 ^ 60)) ≤ℤ w) (gap t.num (pos t.den) q.num (pos q.den)) (size q.num (pos t.den)) h.1,
 )
@@ -55,7 +49,7 @@ range_root t q h = (
     go n h = omega (arith, ints)
 
 pub travel_root : (t q : Rational) → IsNearRoot (range_of t) q → IsNearRoot t (over_light_speed_squared q)
-travel_root t q h = (
+travel_root t q near = let h = near_root_whole (range_of t) q near in near_root_from_whole t (over_light_speed_squared q) (
   go t.num h.0,
   subst₂ (λ (z w : ℤ). (pos (unsigned_abs z) *ℤ pos (2 ^ 60)) ≤ℤ w) (sym (gap t.num (pos t.den) q.num (pos q.den))) (sym (size q.num (pos t.den))) h.1,
 )

@@ -5,7 +5,7 @@ use Rattle.whole_math.proofs.Ring.{Ex, ◌⊕◌, ◌⊖◌, ◌⊗◌, norm}
 use Rattle.whole_math.proofs.Order.{mul_nn}
 use Rattle.whole_math.proofs.Inequalities.{le_by, less_nn, pos_nn}
 use Rattle.whole_math.proofs.Certificates.{Hy, Ce, as_ex, square_root}
-use Rattle.rational.specs.Rational.{Rational, ◌≤ʳ◌, of_whole, mul_r}
+use Rattle.rational.specs.Rational.{Rational, ◌≤ʳ◌, of_whole, ◌*ʳ◌}
 use Rattle.rational.proofs.Identities.{ev_r, balanced}
 use Rattle.rational.proofs.Orders.{AreGiven, combined, order_r}
 pub use Rattle.rational.proofs.Orders.{cancel_r}
@@ -16,7 +16,7 @@ pub cert_r : (r : List Rational) (hs : List Hy) (l u : Ex) (d : Ce) → norm (ba
 cert_r r hs l u d e g = order_r r hs [] l u d [] e g tt
 
 -- of squares
-pub root_r : (p q : Rational) → of_whole (pos 0) ≤ʳ q → mul_r p p ≤ʳ mul_r q q → p ≤ʳ q
+pub root_r : (p q : Rational) → of_whole (pos 0) ≤ʳ q → p *ʳ p ≤ʳ q *ʳ q → p ≤ʳ q
 root_r p q h g = square_root (p.num *ℤ pos q.den) (q.num *ℤ pos p.den) (mul_nn q.num (pos p.den) (least q.num (pos q.den) h) (pos_nn p.den))
     (le_by (p.num ∷ pos p.den ∷ q.num ∷ pos q.den ∷ []) (λ p d q e. (p ⊗ e ⊗ (p ⊗ e), q ⊗ d ⊗ (q ⊗ d), q ⊗ q ⊗ (d ⊗ d) ⊖ p ⊗ p ⊗ (e ⊗ e))) refl (less_nn g))
   where

@@ -1,6 +1,6 @@
 -- What holds of every seen place.
 use Rattle.std.proofs.Common.{pos, refl, lit≤}
-use Rattle.rational.specs.Rational.{Rational, ◌≈◌, ◌≤ʳ◌, of_whole, add_r, sub_r, mul_r, neg_r}
+use Rattle.rational.specs.Rational.{Rational, ◌≈◌, ◌≤ʳ◌, of_whole, ◌+ʳ◌, ◌-ʳ◌, ◌*ʳ◌, neg_r}
 use Rattle.rational.proofs.Laws.{≈_sym, ≈_trans, ≤ʳ_trans, ≤ʳ_along, add_r-same, add_r-comm, mul_r-same, mul_r-comm, sub_r-is}
 use Rattle.orbit_model.proofs.Orders.{root_r}
 use Rattle.orbit_model.specs.SeenPlaces.{Place, difference, square, turned_back, AreSamePlace, IsSeenPlace, IsSentPlace, IsReceiverPlace, HasLengthBetween, over_light_speed_squared, range_of}
@@ -9,21 +9,21 @@ use Rattle.orbit_model.proofs.NearRoots.{range_root, near_high, root_nn}
 use Rattle.orbit_model.proofs.DistanceCertificates.{time_square}
 
 -- ---- equal places have equal lengths
-add_both : (p q r s : Rational) → p ≈ q → r ≈ s → add_r p r ≈ add_r q s
-add_both p q r s e f = ≈_trans (add_r p r) (add_r q r) (add_r q s) (add_r-same p q r e)
-    (≈_trans (add_r q r) (add_r r q) (add_r q s) (add_r-comm q r) (≈_trans (add_r r q) (add_r s q) (add_r q s) (add_r-same r s q f) (add_r-comm s q)))
+add_both : (p q r s : Rational) → p ≈ q → r ≈ s → p +ʳ r ≈ q +ʳ s
+add_both p q r s e f = ≈_trans (p +ʳ r) (q +ʳ r) (q +ʳ s) (add_r-same p q r e)
+    (≈_trans (q +ʳ r) (r +ʳ q) (q +ʳ s) (add_r-comm q r) (≈_trans (r +ʳ q) (s +ʳ q) (q +ʳ s) (add_r-same r s q f) (add_r-comm s q)))
 
-mul_both : (p q r s : Rational) → p ≈ q → r ≈ s → mul_r p r ≈ mul_r q s
-mul_both p q r s e f = ≈_trans (mul_r p r) (mul_r q r) (mul_r q s) (mul_r-same p q r e)
-    (≈_trans (mul_r q r) (mul_r r q) (mul_r q s) (mul_r-comm q r) (≈_trans (mul_r r q) (mul_r s q) (mul_r q s) (mul_r-same r s q f) (mul_r-comm s q)))
+mul_both : (p q r s : Rational) → p ≈ q → r ≈ s → p *ʳ r ≈ q *ʳ s
+mul_both p q r s e f = ≈_trans (p *ʳ r) (q *ʳ r) (q *ʳ s) (mul_r-same p q r e)
+    (≈_trans (q *ʳ r) (r *ʳ q) (q *ʳ s) (mul_r-comm q r) (≈_trans (r *ʳ q) (s *ʳ q) (q *ʳ s) (mul_r-same r s q f) (mul_r-comm s q)))
 
-less_same : (p q r : Rational) → p ≈ q → sub_r p r ≈ sub_r q r
-less_same p q r e = ≈_trans (sub_r p r) (add_r p (neg_r r)) (sub_r q r) (sub_r-is p r)
-    (≈_trans (add_r p (neg_r r)) (add_r q (neg_r r)) (sub_r q r) (add_r-same p q (neg_r r) e) (≈_sym (sub_r q r) (add_r q (neg_r r)) (sub_r-is q r)))
+less_same : (p q r : Rational) → p ≈ q → p -ʳ r ≈ q -ʳ r
+less_same p q r e = ≈_trans (p -ʳ r) (p +ʳ neg_r r) (q -ʳ r) (sub_r-is p r)
+    (≈_trans (p +ʳ neg_r r) (q +ʳ neg_r r) (q -ʳ r) (add_r-same p q (neg_r r) e) (≈_sym (q -ʳ r) (q +ʳ neg_r r) (sub_r-is q r)))
 
 pub square_same : (p q : Place) → AreSamePlace p q → square p ≈ square q
-square_same p q e = add_both (add_r (mul_r p.x p.x) (mul_r p.y p.y)) (add_r (mul_r q.x q.x) (mul_r q.y q.y)) (mul_r p.z p.z) (mul_r q.z q.z)
-    (add_both (mul_r p.x p.x) (mul_r q.x q.x) (mul_r p.y p.y) (mul_r q.y q.y) (mul_both p.x q.x p.x q.x e.0 e.0) (mul_both p.y q.y p.y q.y e.1 e.1)) (mul_both p.z q.z p.z q.z e.2 e.2)
+square_same p q e = add_both (p.x *ʳ p.x +ʳ p.y *ʳ p.y) (q.x *ʳ q.x +ʳ q.y *ʳ q.y) (p.z *ʳ p.z) (q.z *ʳ q.z)
+    (add_both (p.x *ʳ p.x) (q.x *ʳ q.x) (p.y *ʳ p.y) (q.y *ʳ q.y) (mul_both p.x q.x p.x q.x e.0 e.0) (mul_both p.y q.y p.y q.y e.1 e.1)) (mul_both p.z q.z p.z q.z e.2 e.2)
 
 pub difference_same : (p q r : Place) → AreSamePlace p q → AreSamePlace (difference p r) (difference q r)
 difference_same p q r e = (less_same p.x q.x r.x e.0, less_same p.y q.y r.y e.1, less_same p.z q.z r.z e.2)
@@ -57,8 +57,8 @@ seen_distance sent point seen t s h =
 pub travel_nn : (sent point seen : Place) (t : Rational) → IsSeenPlace sent point t seen → of_whole (pos 0) ≤ʳ t
 travel_nn sent point seen t h = root_nn t (over_light_speed_squared (square (difference seen point))) h.travel_is
 
-pub travel_most : (sent point seen : Place) (t : Rational) → IsSentPlace sent → IsReceiverPlace point → IsSeenPlace sent point t seen → mul_r (of_whole (pos 6)) t ≤ʳ of_whole (pos 1)
+pub travel_most : (sent point seen : Place) (t : Rational) → IsSentPlace sent → IsReceiverPlace point → IsSeenPlace sent point t seen → of_whole (pos 6) *ʳ t ≤ʳ of_whole (pos 1)
 travel_most sent point seen t s r h =
     let squared : Rational = square (difference seen point) in
     let length_between = seen_vector sent point seen t s r h in
-    root_r (mul_r (of_whole (pos 6)) t) (of_whole (pos 1)) (whole_le 0 1 (lit≤ tt)) (time_square t squared (near_high (range_of t) squared (range_root t squared h.travel_is)) length_between.1)
+    root_r (of_whole (pos 6) *ʳ t) (of_whole (pos 1)) (whole_le 0 1 (lit≤ tt)) (time_square t squared (near_high (range_of t) squared (range_root t squared h.travel_is)) length_between.1)

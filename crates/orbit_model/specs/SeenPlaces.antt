@@ -1,7 +1,7 @@
 -- Where a receiver sees a satellite, over rationals: metres and seconds, in the Earth-fixed frame of the moment of reception.
 use Rattle.std.specs.Prelude.{ℕ, ◌*◌, ◌^◌, ℤ, pos, ◌⊎◌}
 use Rattle.std.proofs.Common.{lit<}
-use Rattle.rational.specs.Rational.{Rational, ◌≈◌, ◌≤ʳ◌, ◌<ʳ◌, of_whole, add_r, sub_r, mul_r, divided, IsNearRoot}
+use Rattle.rational.specs.Rational.{Rational, ◌≈◌, ◌≤ʳ◌, ◌<ʳ◌, of_whole, ◌+ʳ◌, ◌-ʳ◌, ◌*ʳ◌, divided, IsNearRoot}
 use Rattle.trig_box.specs.AnglePairs.{Pair, IsAnglePair}
 use Rattle.orbit_model.specs.Elements.{earth_rate}
 use Rattle.orbit_model.specs.Solution.{Quantities}
@@ -16,10 +16,10 @@ abbrev pub sent_place : Quantities → Place
 sent_place q = record { x = q.x; y = q.y; z = q.z }
 
 abbrev pub difference : Place → Place → Place
-difference p q = record { x = sub_r p.x q.x; y = sub_r p.y q.y; z = sub_r p.z q.z }
+difference p q = record { x = p.x -ʳ q.x; y = p.y -ʳ q.y; z = p.z -ʳ q.z }
 
 abbrev pub dot : Place → Place → Rational
-dot p q = add_r (add_r (mul_r p.x q.x) (mul_r p.y q.y)) (mul_r p.z q.z)
+dot p q = p.x *ʳ q.x +ʳ p.y *ʳ q.y +ʳ p.z *ʳ q.z
 
 -- |p|²
 abbrev pub square : Place → Rational
@@ -41,8 +41,8 @@ over_light_speed_squared q = divided q (299792458 * 299792458) (lit< tt)
 -- a place that the Earth turns away from by the angle of the pair: (C X + S Y, -S X + C Y, Z)
 abbrev pub turned_back : Pair → Place → Place
 turned_back turn p = record {
-  x = add_r (mul_r turn.cos p.x) (mul_r turn.sin p.y);
-  y = sub_r (mul_r turn.cos p.y) (mul_r turn.sin p.x);
+  x = turn.cos *ʳ p.x +ʳ turn.sin *ʳ p.y;
+  y = turn.cos *ʳ p.y -ʳ turn.sin *ʳ p.x;
   z = p.z;
 }
 
@@ -53,7 +53,7 @@ AreSamePlace p q = (p.x ≈ q.x) × (p.y ≈ q.y) × (p.z ≈ q.z)
 -- |seen - point|² / c², in which the Earth turned by its rate times this time
 pub record IsSeenPlace (sent point : Place) (travel : Rational) (seen : Place) : Type 0 where
   pub turn : Pair
-  pub turn_is : IsAnglePair 5 (mul_r earth_rate travel) turn.cos turn.sin
+  pub turn_is : IsAnglePair 5 (earth_rate *ʳ travel) turn.cos turn.sin
   pub seen_is : AreSamePlace seen (turned_back turn sent)
   pub travel_is : IsNearRoot travel (over_light_speed_squared (square (difference seen point)))
 
@@ -73,7 +73,7 @@ pub record HasSeenPlace (sent point : Place) : Type 0 where
 
 -- c times the travel time
 abbrev pub range_of : Rational → Rational
-range_of travel = mul_r (of_whole (pos 299792458)) travel
+range_of travel = of_whole (pos 299792458) *ʳ travel
 
 -- ---- the mean direction
 -- a displacement is at most 16 m
@@ -87,17 +87,17 @@ pub record IsMeanDirection (seen point move direction : Place) : Type 0 where
   pub after : Rational
   pub before_is : IsNearRoot before (square (difference seen point))
   pub after_is : IsNearRoot after (square (difference (difference seen point) move))
-  pub x_is : mul_r direction.x (add_r before after) ≈ sub_r move.x (mul_r (of_whole (pos 2)) (sub_r seen.x point.x))
-  pub y_is : mul_r direction.y (add_r before after) ≈ sub_r move.y (mul_r (of_whole (pos 2)) (sub_r seen.y point.y))
-  pub z_is : mul_r direction.z (add_r before after) ≈ sub_r move.z (mul_r (of_whole (pos 2)) (sub_r seen.z point.z))
+  pub x_is : direction.x *ʳ (before +ʳ after) ≈ move.x -ʳ of_whole (pos 2) *ʳ (seen.x -ʳ point.x)
+  pub y_is : direction.y *ʳ (before +ʳ after) ≈ move.y -ʳ of_whole (pos 2) *ʳ (seen.y -ʳ point.y)
+  pub z_is : direction.z *ʳ (before +ʳ after) ≈ move.z -ʳ of_whole (pos 2) *ʳ (seen.z -ʳ point.z)
 
 -- ---- the mask
 -- mask² |seen - point|² |point|², and 10^6 ((seen - point) · point)²
 abbrev pub mask_side : ℕ → Place → Place → Rational
-mask_side mask seen point = mul_r (of_whole (pos (mask * mask))) (mul_r (square (difference seen point)) (square point))
+mask_side mask seen point = of_whole (pos (mask * mask)) *ʳ (square (difference seen point) *ʳ square point)
 
 abbrev pub height_side : Place → Place → Rational
-height_side seen point = mul_r (of_whole (pos (10 ^ 6))) (mul_r (dot (difference seen point) point) (dot (difference seen point) point))
+height_side seen point = of_whole (pos (10 ^ 6)) *ʳ (dot (difference seen point) point *ʳ dot (difference seen point) point)
 
 -- the sine of the elevation, above the plane across the line from the Earth's centre to the point, is at least mask / 1000
 abbrev pub IsAboveMask : ℕ → Place → Place → Type 0

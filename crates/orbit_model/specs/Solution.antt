@@ -1,6 +1,6 @@
 -- A satellite's place and clock by the user algorithm of IS-GPS-200, as a set of equations over rationals.
 use Rattle.std.specs.Prelude.{pos}
-use Rattle.rational.specs.Rational.{Rational, ◌≈◌, of_whole, add_r, sub_r, mul_r, two_to_minus, IsAtMostInSize, IsNearRoot}
+use Rattle.rational.specs.Rational.{Rational, ◌≈◌, of_whole, ◌+ʳ◌, ◌-ʳ◌, ◌*ʳ◌, two_to_minus, IsAtMostInSize, IsNearRoot}
 use Rattle.trig_box.specs.AnglePairs.{Pair, IsAnglePair, double}
 use Rattle.kepler_box.specs.Kepler.{SolvesKepler}
 use Rattle.orbit_model.specs.Elements.{Elements, Constants, earth_rate}
@@ -14,11 +14,11 @@ ArePairs p q = (p.cos ≈ q.cos) × (p.sin ≈ q.sin)
 
 -- the pair of the sum of two angles
 abbrev pub turned : Pair → Pair → Pair
-turned p q = record { cos = sub_r (mul_r p.cos q.cos) (mul_r p.sin q.sin); sin = add_r (mul_r p.sin q.cos) (mul_r p.cos q.sin) }
+turned p q = record { cos = p.cos *ʳ q.cos -ʳ p.sin *ʳ q.sin; sin = p.sin *ʳ q.cos +ʳ p.cos *ʳ q.sin }
 
 -- a harmonic correction: s sin + c cos
 abbrev pub harmonic : Rational → Rational → Pair → Rational
-harmonic s c p = add_r (mul_r s p.sin) (mul_r c p.cos)
+harmonic s c p = s *ʳ p.sin +ʳ c *ʳ p.cos
 
 -- p is a k-pair of x; Ω has k = 7, every other angle 5
 abbrev pub IsPairOf5 : Rational → Pair → Type 0
@@ -68,23 +68,23 @@ pub record Quantities : Type 0 where
 -- the equations, in the order of table 20-IV; sent is the satellite's clock time of sending
 pub record IsSatelliteSolution (world : Constants) (eph : Elements) (sent : Rational) (q : Quantities) : Type 0 where
   -- A = (√A)²
-  pub semi_major_axis : q.axis ≈ mul_r eph.root_a eph.root_a
+  pub semi_major_axis : q.axis ≈ eph.root_a *ʳ eph.root_a
   -- n0 = √(μ / A³)
   pub root_of_mu : IsNearRoot q.root_mu world.mu
-  pub computed_mean_motion : mul_r q.computed_motion (mul_r q.axis eph.root_a) ≈ q.root_mu
+  pub computed_mean_motion : q.computed_motion *ʳ (q.axis *ʳ eph.root_a) ≈ q.root_mu
   -- t = tsv - Δt, and tk = t - toe
-  pub time_of_sending : q.t ≈ sub_r sent q.clock
-  pub time_from_epoch : q.tk ≈ sub_r q.t eph.toe
+  pub time_of_sending : q.t ≈ sent -ʳ q.clock
+  pub time_from_epoch : q.tk ≈ q.t -ʳ eph.toe
   -- n = n0 + Δn
-  pub corrected_mean_motion : q.motion ≈ add_r q.computed_motion eph.dn
+  pub corrected_mean_motion : q.motion ≈ q.computed_motion +ʳ eph.dn
   -- M = M0 + n tk
-  pub mean_anomaly : q.mean ≈ add_r eph.m0 (mul_r q.motion q.tk)
+  pub mean_anomaly : q.mean ≈ eph.m0 +ʳ q.motion *ʳ q.tk
   -- M = E - e sin E
   pub kepler : SolvesKepler q.mean eph.ecc q.eccentric q.eccentric_pair.cos q.eccentric_pair.sin
   -- cos ν = (cos E - e) / (1 - e cos E), sin ν = √(1 - e²) sin E / (1 - e cos E)
-  pub root_of_rest : IsNearRoot q.root_rest (sub_r one (mul_r eph.ecc eph.ecc))
-  pub true_anomaly_cos : mul_r q.true_pair.cos (sub_r one (mul_r eph.ecc q.eccentric_pair.cos)) ≈ sub_r q.eccentric_pair.cos eph.ecc
-  pub true_anomaly_sin : mul_r q.true_pair.sin (sub_r one (mul_r eph.ecc q.eccentric_pair.cos)) ≈ mul_r q.root_rest q.eccentric_pair.sin
+  pub root_of_rest : IsNearRoot q.root_rest (one -ʳ eph.ecc *ʳ eph.ecc)
+  pub true_anomaly_cos : q.true_pair.cos *ʳ (one -ʳ eph.ecc *ʳ q.eccentric_pair.cos) ≈ q.eccentric_pair.cos -ʳ eph.ecc
+  pub true_anomaly_sin : q.true_pair.sin *ʳ (one -ʳ eph.ecc *ʳ q.eccentric_pair.cos) ≈ q.root_rest *ʳ q.eccentric_pair.sin
   -- Φ = ν + ω
   pub perigee : IsPairOf5 eph.peri q.perigee_pair
   pub argument_of_latitude : ArePairs q.latitude_pair (turned q.true_pair q.perigee_pair)
@@ -97,27 +97,27 @@ pub record IsSatelliteSolution (world : Constants) (eph : Elements) (sent : Rati
   pub change_of_latitude : IsPairOf5 q.latitude_change q.change_pair
   pub corrected_latitude : ArePairs q.corrected_pair (turned q.latitude_pair q.change_pair)
   -- r = A (1 - e cos E) + δr
-  pub corrected_radius : q.radius ≈ add_r (mul_r q.axis (sub_r one (mul_r eph.ecc q.eccentric_pair.cos))) q.radius_change
+  pub corrected_radius : q.radius ≈ q.axis *ʳ (one -ʳ eph.ecc *ʳ q.eccentric_pair.cos) +ʳ q.radius_change
   -- i = i0 + δi + IDOT tk
-  pub corrected_inclination : q.inclination ≈ add_r (add_r eph.incl q.inclination_change) (mul_r eph.incl_rate q.tk)
+  pub corrected_inclination : q.inclination ≈ eph.incl +ʳ q.inclination_change +ʳ eph.incl_rate *ʳ q.tk
   -- x' = r cos u, y' = r sin u
-  pub position_in_plane_x : q.plane_x ≈ mul_r q.radius q.corrected_pair.cos
-  pub position_in_plane_y : q.plane_y ≈ mul_r q.radius q.corrected_pair.sin
+  pub position_in_plane_x : q.plane_x ≈ q.radius *ʳ q.corrected_pair.cos
+  pub position_in_plane_y : q.plane_y ≈ q.radius *ʳ q.corrected_pair.sin
   -- Ω = Ω0 + (Ωdot - Ωe) tk - Ωe toe
-  pub corrected_node : q.node ≈ sub_r (add_r eph.node (mul_r (sub_r eph.node_rate earth_rate) q.tk)) (mul_r earth_rate eph.toe_second)
+  pub corrected_node : q.node ≈ eph.node +ʳ (eph.node_rate -ʳ earth_rate) *ʳ q.tk -ʳ earth_rate *ʳ eph.toe_second
   pub node_of_angle : IsPairOf7 q.node q.node_pair
   pub inclination_of_angle : IsPairOf5 q.inclination q.inclination_pair
   -- x = x' cos Ω - y' cos i sin Ω, y = x' sin Ω + y' cos i cos Ω, z = y' sin i
-  pub earth_fixed_x : q.x ≈ sub_r (mul_r q.plane_x q.node_pair.cos) (mul_r (mul_r q.plane_y q.inclination_pair.cos) q.node_pair.sin)
-  pub earth_fixed_y : q.y ≈ add_r (mul_r q.plane_x q.node_pair.sin) (mul_r (mul_r q.plane_y q.inclination_pair.cos) q.node_pair.cos)
-  pub earth_fixed_z : q.z ≈ mul_r q.plane_y q.inclination_pair.sin
+  pub earth_fixed_x : q.x ≈ q.plane_x *ʳ q.node_pair.cos -ʳ q.plane_y *ʳ q.inclination_pair.cos *ʳ q.node_pair.sin
+  pub earth_fixed_y : q.y ≈ q.plane_x *ʳ q.node_pair.sin +ʳ q.plane_y *ʳ q.inclination_pair.cos *ʳ q.node_pair.cos
+  pub earth_fixed_z : q.z ≈ q.plane_y *ʳ q.inclination_pair.sin
   -- Δt = af0 + af1 (t - toc) + af2 (t - toc)² + F e √A sin E
-  pub clock_correction : q.clock ≈ add_r (add_r (add_r eph.af0 (mul_r eph.af1 (sub_r q.t eph.toc)))
-      (mul_r eph.af2 (mul_r (sub_r q.t eph.toc) (sub_r q.t eph.toc)))) (mul_r (mul_r (mul_r world.relativity eph.ecc) eph.root_a) q.eccentric_pair.sin)
+  pub clock_correction : q.clock ≈ eph.af0 +ʳ eph.af1 *ʳ (q.t -ʳ eph.toc) +ʳ
+      eph.af2 *ʳ ((q.t -ʳ eph.toc) *ʳ (q.t -ʳ eph.toc)) +ʳ world.relativity *ʳ eph.ecc *ʳ eph.root_a *ʳ q.eccentric_pair.sin
 
 -- the record with af0 + share af2 for af0
 abbrev pub with_share : Elements → Rational → Elements
-with_share eph share = record eph { af0 = add_r eph.af0 (mul_r eph.af2 share) }
+with_share eph share = record eph { af0 = eph.af0 +ʳ eph.af2 *ʳ share }
 
 -- a near solution: a solution of the record whose af0 has changed by a share of af2, of at most 2^-44 s² in size. So each line holds
 -- exactly, but for 2^-44 s² times |af2| in the clock's; where af2 is 0 it is a solution

@@ -6,7 +6,7 @@
 //! (`seen_places`), and over a displacement of at most 16 m the range changes by at most 33/2 m, whichever near-roots
 //! stand for it (`range_change`).
 ghost use Rattle.std.specs.Prelude.{pos};
-ghost use Rattle.rational.specs.Rational.{Rational, of_whole, ◌≤ʳ◌, add_r, sub_r, mul_r, IsNearRoot};
+ghost use Rattle.rational.specs.Rational.{Rational, of_whole, ◌≤ʳ◌, ◌+ʳ◌, ◌-ʳ◌, ◌*ʳ◌, IsNearRoot};
 ghost use Rattle.orbit_model.specs.SeenPlaces.{Place, difference, square, IsSeenPlace, HasSeenPlace, IsSentPlace, IsReceiverPlace, HasLengthBetween, IsDisplacement};
 
 /// A receiver sees a satellite wherever it sent from: some travel time and some place solve the equations.
@@ -22,13 +22,13 @@ pub fn seen_places()
         HasLengthBetween 11800000 45200000 (difference seen point) }
     ensures at_least { (sent point seen : Place) (travel : Rational) → IsSeenPlace sent point travel seen → of_whole (pos 0) ≤ʳ travel }
     ensures at_most { (sent point seen : Place) (travel : Rational) → IsSentPlace sent → IsReceiverPlace point → IsSeenPlace sent point travel seen →
-        mul_r (of_whole (pos 6)) travel ≤ʳ of_whole (pos 1) }
+        of_whole (pos 6) *ʳ travel ≤ʳ of_whole (pos 1) }
 {}
 
 /// Over a displacement the length of a long vector changes by at most 33/2 m, whichever near-roots stand for it.
 pub fn range_change()
     ensures { (vector move : Place) (before after : Rational) → HasLengthBetween 10000000 47000000 vector → IsDisplacement move →
         IsNearRoot before (square vector) → IsNearRoot after (square (difference vector move)) →
-        (mul_r (of_whole (pos 2)) after ≤ʳ add_r (mul_r (of_whole (pos 2)) before) (of_whole (pos 33)))
-        × (sub_r (mul_r (of_whole (pos 2)) before) (of_whole (pos 33)) ≤ʳ mul_r (of_whole (pos 2)) after) }
+        (of_whole (pos 2) *ʳ after ≤ʳ of_whole (pos 2) *ʳ before +ʳ of_whole (pos 33))
+        × (of_whole (pos 2) *ʳ before -ʳ of_whole (pos 33) ≤ʳ of_whole (pos 2) *ʳ after) }
 {}

@@ -2,7 +2,7 @@
 use Rattle.std.proofs.Common.{ℕ, ◌+◌, ◌*◌, ◌^◌, ◌≤◌, ℤ, pos, ◌+ℤ◌, ◌*ℤ◌, neg_ℤ, ◌≤ℤ◌, arith, lit≤}
 use Rattle.std.proofs.lemmas.Int.{ints}
 use Rattle.whole_math.proofs.Order.{le_pos}
-use Rattle.rational.specs.Rational.{Rational, ◌≤ʳ◌, add_r, mul_r, of_scale, two_to_minus}
+use Rattle.rational.specs.Rational.{Rational, ◌≤ʳ◌, ◌+ʳ◌, ◌*ʳ◌, of_scale, two_to_minus}
 use Rattle.iv_core.specs.declared.Iv.{Iv}
 use Rattle.iv_core.specs.Intervals.{Holds, IsWithin}
 use Rattle.iv_core.proofs.BoxLaws.{low_held}
@@ -34,7 +34,7 @@ near_circle_7 b cos sin h =
     let canonical = canonical_exists 7 x (in_range_7 b.lo b.low (below b.lo b.hi b.ordered b.high)) in
     let is_pair = canonical_is_pair 7 x canonical.0 canonical.1 canonical.2 in
     let near_norm = norm_law_7 x canonical.0 canonical.1 is_pair in
-    record { pair = record { cos = canonical.0; sin = canonical.1 }; held = h x canonical.0 canonical.1 (low_held b) is_pair; near = near_looser (two_to_minus 14) (of_scale 16 (pos 4)) (add_r (mul_r canonical.0 canonical.0) (mul_r canonical.1 canonical.1)) fourth near_norm }
+    record { pair = record { cos = canonical.0; sin = canonical.1 }; held = h x canonical.0 canonical.1 (low_held b) is_pair; near = near_looser (two_to_minus 14) (of_scale 16 (pos 4)) (canonical.0 *ʳ canonical.0 +ʳ canonical.1 *ʳ canonical.1) fourth near_norm }
   where
     below : (a b : ℤ) → a ≤ℤ b → b ≤ℤ pos (2 ^ 62) → a ≤ℤ pos (2 ^ 62)
     below a b h k = omega (arith, ints)

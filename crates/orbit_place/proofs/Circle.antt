@@ -5,7 +5,7 @@ use Rattle.whole_math.proofs.Ring.{va, ko, ◌⊕◌, ◌⊖◌, ◌⊗◌, ng}
 use Rattle.whole_math.proofs.Order.{le_pos, mul_nn}
 use Rattle.whole_math.proofs.Inequalities.{same_by, pos_nn, nat}
 use Rattle.whole_math.proofs.Certificates.{Hy, cert, square_root, ◌≼◌, hy, nm, ◌⊞◌, ◌⊠◌}
-use Rattle.rational.specs.Rational.{Rational, ◌≈◌, ◌≤ʳ◌, of_whole, of_scale, add_r, neg_r, sub_r, mul_r, AreWithin, IsAtMostInSize}
+use Rattle.rational.specs.Rational.{Rational, ◌≈◌, ◌≤ʳ◌, of_whole, of_scale, ◌+ʳ◌, neg_r, ◌-ʳ◌, ◌*ʳ◌, AreWithin, IsAtMostInSize}
 use Rattle.rational.proofs.Laws.{≈_sym, ≤ʳ_trans}
 use Rattle.trig_box.specs.AnglePairs.{Pair, double}
 use Rattle.orbit_model.specs.Solution.{one, turned}
@@ -14,11 +14,11 @@ use Rattle.rational.proofs.Orders.{order_r, cancel_r, ◌≐◌}
 use Rattle.orbit_place.specs.Rotations.{norm_of, IsNearCircle}
 
 -- ---- norms multiply
-pub norm-turned : (p q : Pair) → norm_of (turned p q) ≈ mul_r (norm_of p) (norm_of q)
+pub norm-turned : (p q : Pair) → norm_of (turned p q) ≈ norm_of p *ʳ norm_of q
 norm-turned p q = same_r (p.cos ∷ p.sin ∷ q.cos ∷ q.sin ∷ [])
     (λ a b c d. ((a ⊗ c ⊖ b ⊗ d) ⊗ (a ⊗ c ⊖ b ⊗ d) ⊕ (b ⊗ c ⊕ a ⊗ d) ⊗ (b ⊗ c ⊕ a ⊗ d), (a ⊗ a ⊕ b ⊗ b) ⊗ (c ⊗ c ⊕ d ⊗ d))) refl
 
-pub norm-double : (p : Pair) → norm_of (double p) ≈ mul_r (norm_of p) (norm_of p)
+pub norm-double : (p : Pair) → norm_of (double p) ≈ norm_of p *ʳ norm_of p
 norm-double p = same_by (p.cos.num ∷ pos p.cos.den ∷ p.sin.num ∷ pos p.sin.den ∷ [])
     (λ c d s e. (
       ((c ⊗ c ⊗ (e ⊗ e) ⊖ s ⊗ s ⊗ (d ⊗ d)) ⊗ (c ⊗ c ⊗ (e ⊗ e) ⊖ s ⊗ s ⊗ (d ⊗ d)) ⊗ (e ⊗ d ⊗ (e ⊗ d))
@@ -27,14 +27,14 @@ norm-double p = same_by (p.cos.num ∷ pos p.cos.den ∷ p.sin.num ∷ pos p.sin
     )) refl
 
 -- ---- products of what is near 1: with x = N - 1 and y = M - 1, NM - 1 = xy + x + y, and 2 (uv - xy) = (u - x)(v + y) + (u + x)(v - y)
-pub near_product : (u v w n m : Rational) → add_r (add_r u v) (mul_r u v) ≤ʳ w → AreWithin u n one → AreWithin v m one → AreWithin w (mul_r n m) one
+pub near_product : (u v w n m : Rational) → u +ʳ v +ʳ u *ʳ v ≤ʳ w → AreWithin u n one → AreWithin v m one → AreWithin w (n *ʳ m) one
 near_product u v w n m l h k =
     let values : List Rational = u ∷ v ∷ w ∷ n ∷ m ∷ [] in
     let hypotheses : List Hy = (va 3 ⊖ ko (pos 1) ≼ va 0) ∷ (ko (pos 1) ⊖ va 3 ≼ va 0) ∷ (va 4 ⊖ ko (pos 1) ≼ va 1) ∷ (ko (pos 1) ⊖ va 4 ≼ va 1) ∷ (va 0 ⊕ va 1 ⊕ va 0 ⊗ va 1 ≼ va 2) ∷ [] in (
-      cancel_r (of_whole (pos 2)) (sub_r (mul_r n m) one) w (omega (arith, ints))
+      cancel_r (of_whole (pos 2)) (n *ʳ m -ʳ one) w (omega (arith, ints))
           (order_r values hypotheses [] (ko (pos 2) ⊗ (va 3 ⊗ va 4 ⊖ ko (pos 1))) (ko (pos 2) ⊗ va 2)
           (nm 2 ⊠ hy 4 ⊞ nm 2 ⊠ hy 0 ⊞ nm 2 ⊠ hy 2 ⊞ hy 0 ⊠ hy 3 ⊞ hy 1 ⊠ hy 2) [] refl (h.0, (h.1, (k.0, (k.1, (l, tt))))) tt),
-      cancel_r (of_whole (pos 2)) (sub_r one (mul_r n m)) w (omega (arith, ints))
+      cancel_r (of_whole (pos 2)) (one -ʳ n *ʳ m) w (omega (arith, ints))
           (order_r values hypotheses [] (ko (pos 2) ⊗ (ko (pos 1) ⊖ va 3 ⊗ va 4)) (ko (pos 2) ⊗ va 2)
           (nm 2 ⊠ hy 4 ⊞ nm 2 ⊠ hy 1 ⊞ nm 2 ⊠ hy 3 ⊞ hy 1 ⊠ hy 3 ⊞ hy 0 ⊠ hy 2) [] refl (h.0, (h.1, (k.0, (k.1, (l, tt))))) tt),
     )
@@ -46,10 +46,10 @@ near_along u n m e h = (
 )
 
 pub near_looser : (u v n : Rational) → u ≤ʳ v → AreWithin u n one → AreWithin v n one
-near_looser u v n l h = (≤ʳ_trans (sub_r n one) u v h.0 l, ≤ʳ_trans (sub_r one n) u v h.1 l)
+near_looser u v n l h = (≤ʳ_trans (n -ʳ one) u v h.0 l, ≤ʳ_trans (one -ʳ n) u v h.1 l)
 
 -- a / 2^16, b / 2^16 and their product are at most c / 2^16 together
-sixteenths : (a b c : ℕ) → a + b + 1 ≤ c → a ≤ 32 → b ≤ 32 → add_r (add_r (of_scale 16 (pos a)) (of_scale 16 (pos b))) (mul_r (of_scale 16 (pos a)) (of_scale 16 (pos b))) ≤ʳ of_scale 16 (pos c)
+sixteenths : (a b c : ℕ) → a + b + 1 ≤ c → a ≤ 32 → b ≤ 32 → of_scale 16 (pos a) +ʳ of_scale 16 (pos b) +ʳ of_scale 16 (pos a) *ʳ of_scale 16 (pos b) ≤ʳ of_scale 16 (pos c)
 sixteenths a b c h i j =
     cert (pos a ∷ pos b ∷ pos c ∷ []) ((va 0 ⊕ va 1 ⊕ ko (pos 1) ≼ va 2) ∷ (va 0 ≼ ko (pos 32)) ∷ (va 1 ≼ ko (pos 32)) ∷ (ko (pos 0) ≼ va 1) ∷ [])
     (((va 0 ⊗ ko (pos 65536) ⊕ va 1 ⊗ ko (pos 65536)) ⊗ ko (pos 4294967296) ⊕ va 0 ⊗ va 1 ⊗ ko (pos 4294967296)) ⊗ ko (pos 65536)) (va 2 ⊗ ko (pos 18446744073709551616))
@@ -58,17 +58,17 @@ sixteenths a b c h i j =
 
 pub turned_near : (a b c : ℕ) (p q : Pair) → a + b + 1 ≤ c → a ≤ 32 → b ≤ 32 → IsNearCircle a p → IsNearCircle b q → IsNearCircle c (turned p q)
 turned_near a b c p q h i j n m =
-    near_along (of_scale 16 (pos c)) (mul_r (norm_of p) (norm_of q)) (norm_of (turned p q)) (≈_sym (norm_of (turned p q)) (mul_r (norm_of p) (norm_of q)) (norm-turned p q))
+    near_along (of_scale 16 (pos c)) (norm_of p *ʳ norm_of q) (norm_of (turned p q)) (≈_sym (norm_of (turned p q)) (norm_of p *ʳ norm_of q) (norm-turned p q))
     (near_product (of_scale 16 (pos a)) (of_scale 16 (pos b)) (of_scale 16 (pos c)) (norm_of p) (norm_of q) (sixteenths a b c h i j) n m)
 
 pub double_near : (a c : ℕ) (p : Pair) → a + a + 1 ≤ c → a ≤ 32 → IsNearCircle a p → IsNearCircle c (double p)
 double_near a c p h i n =
-    near_along (of_scale 16 (pos c)) (mul_r (norm_of p) (norm_of p)) (norm_of (double p)) (≈_sym (norm_of (double p)) (mul_r (norm_of p) (norm_of p)) (norm-double p))
+    near_along (of_scale 16 (pos c)) (norm_of p *ʳ norm_of p) (norm_of (double p)) (≈_sym (norm_of (double p)) (norm_of p *ʳ norm_of p) (norm-double p))
     (near_product (of_scale 16 (pos a)) (of_scale 16 (pos a)) (of_scale 16 (pos c)) (norm_of p) (norm_of p) (sixteenths a a c h i i) n n)
 
 -- ---- the parts of a pair
 -- r² ≤ b² with b not negative
-root_order : (p b : Rational) → pos 0 ≤ℤ b.num → mul_r p p ≤ʳ mul_r b b → p ≤ʳ b
+root_order : (p b : Rational) → pos 0 ≤ℤ b.num → p *ʳ p ≤ʳ b *ʳ b → p ≤ʳ b
 root_order p b h k = square_root (p.num *ℤ pos b.den) (b.num *ℤ pos p.den) (mul_nn b.num (pos p.den) h (pos_nn p.den)) (step p.num (pos p.den) b.num (pos b.den) k)
   where
     step : (a d b e : ℤ) → (a *ℤ a *ℤ (e *ℤ e)) ≤ℤ (b *ℤ b *ℤ (d *ℤ d)) → (a *ℤ e *ℤ (a *ℤ e)) ≤ℤ (b *ℤ d *ℤ (b *ℤ d))
@@ -79,19 +79,19 @@ abbrev pub part_limit : Rational
 part_limit = of_scale 11 (pos 2049)
 
 -- what with another square is at most 1 + 2^-11
-pub part_size : (off : ℕ) (rest p : Rational) → off ≤ 32 → sub_r (add_r (mul_r p p) rest) one ≤ʳ of_scale 16 (pos off) → of_whole (pos 0) ≤ʳ rest → IsAtMostInSize part_limit p
+pub part_size : (off : ℕ) (rest p : Rational) → off ≤ 32 → p *ʳ p +ʳ rest -ʳ one ≤ʳ of_scale 16 (pos off) → of_whole (pos 0) ≤ʳ rest → IsAtMostInSize part_limit p
 part_size off rest p h n s = (root_order p part_limit (pos_nn 2049) square, root_order (neg_r p) part_limit (pos_nn 2049) negative)
   where
     most : of_scale 16 (pos off) ≤ʳ of_scale 16 (pos 32)
     most = cert (pos off ∷ []) ((va 0 ≼ ko (pos 32)) ∷ []) (va 0 ⊗ ko (pos 65536)) (ko (pos 32) ⊗ ko (pos 65536)) (nm 65536 ⊠ hy 0) refl (le_pos off 32 h, tt)
 
-    room : add_r one (of_scale 16 (pos 32)) ≤ʳ mul_r part_limit part_limit
+    room : one +ʳ of_scale 16 (pos 32) ≤ʳ part_limit *ʳ part_limit
     room = le_pos _ _ (lit≤ tt)
 
-    square : mul_r p p ≤ʳ mul_r part_limit part_limit
+    square : p *ʳ p ≤ʳ part_limit *ʳ part_limit
     square = order_r (p ∷ rest ∷ of_scale 16 (pos off) ∷ of_scale 16 (pos 32) ∷ part_limit ∷ [])
         ((va 0 ⊗ va 0 ⊕ va 1 ⊖ ko (pos 1) ≼ va 2) ∷ (va 2 ≼ va 3) ∷ (ko (pos 1) ⊕ va 3 ≼ va 4 ⊗ va 4) ∷ (ko (pos 0) ≼ va 1) ∷ []) []
         (va 0 ⊗ va 0) (va 4 ⊗ va 4) (hy 0 ⊞ hy 1 ⊞ hy 2 ⊞ hy 3) [] refl (n, (most, (room, (s, tt)))) tt
 
-    negative : mul_r (neg_r p) (neg_r p) ≤ʳ mul_r part_limit part_limit
+    negative : neg_r p *ʳ neg_r p ≤ʳ part_limit *ʳ part_limit
     negative = order_r (p ∷ part_limit ∷ []) ((va 0 ⊗ va 0 ≼ va 1 ⊗ va 1) ∷ []) [] (ng (va 0) ⊗ ng (va 0)) (va 1 ⊗ va 1) (hy 0) [] refl (square, tt) tt

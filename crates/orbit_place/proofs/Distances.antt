@@ -7,7 +7,7 @@ use Rattle.whole_math.proofs.Ring.{Ex, va, ◌⊕◌, ◌⊖◌, ◌⊗◌}
 use Rattle.whole_math.proofs.Order.{le_pos}
 use Rattle.whole_math.proofs.Inequalities.{nat}
 use Rattle.whole_math.proofs.Certificates.{Hy, Ce, ◌≼◌, hy, nm, sq, ◌⊞◌, ◌⊠◌}
-use Rattle.rational.specs.Rational.{Rational, ◌≤ʳ◌, of_whole, of_scale, sub_r, mul_r, AreWithin}
+use Rattle.rational.specs.Rational.{Rational, ◌≤ʳ◌, of_whole, of_scale, ◌-ʳ◌, ◌*ʳ◌, AreWithin}
 use Rattle.rational.proofs.Orders.{order_r, cancel_r, AreGiven}
 use Rattle.iv_core.specs.declared.Iv.{Iv}
 use Rattle.iv_core.specs.Intervals.{Holds, width_of, IsWithin}
@@ -17,12 +17,12 @@ use Rattle.orbit_model.specs.Places.{squared_distance, IsBetweenDistances}
 use Rattle.orbit_place.specs.Directions.{Point, IsNearSphere, HasPointNearSphere, HoldsPoint}
 
 -- ---- two numbers in one narrow box
-pub near_in_box : (b : Iv 36) (x y : Rational) → width_of b ≤ℤ pos (2 ^ 18) → Holds b x → Holds b y → sub_r x y ≤ʳ one
+pub near_in_box : (b : Iv 36) (x y : Rational) → width_of b ≤ℤ pos (2 ^ 18) → Holds b x → Holds b y → x -ʳ y ≤ʳ one
 near_in_box b x y w h k =
     order_r (x ∷ y ∷ of_scale 36 b.lo ∷ of_scale 36 b.hi ∷ []) ((va 0 ≼ va 3) ∷ (va 2 ≼ va 1) ∷ (va 3 ⊖ va 2 ≼ nat 1) ∷ []) [] (va 0 ⊖ va 1) (nat 1)
     (hy 0 ⊞ hy 1 ⊞ hy 2) [] refl (h.1, (k.0, (ends b.lo b.hi w, tt))) tt
   where
-    ends : (l h : ℤ) → (h -ℤ l) ≤ℤ pos (2 ^ 18) → sub_r (of_scale 36 h) (of_scale 36 l) ≤ʳ one
+    ends : (l h : ℤ) → (h -ℤ l) ≤ℤ pos (2 ^ 18) → of_scale 36 h -ʳ of_scale 36 l ≤ʳ one
     ends l h w = omega (arith, ints)
 
 -- ---- a place within 1 m in each coordinate of r times d, with r from 19590 km to 37150 km and d near the sphere
@@ -30,9 +30,9 @@ pub record IsNearPlace (r x y z : Rational) (d : Point) : Type 0 where
   pub near_sphere : IsNearSphere 12 d
   pub low : of_whole (pos 19590000) ≤ʳ r
   pub high : r ≤ʳ of_whole (pos 37150000)
-  pub x_near : AreWithin one x (mul_r r d.x)
-  pub y_near : AreWithin one y (mul_r r d.y)
-  pub z_near : AreWithin one z (mul_r r d.z)
+  pub x_near : AreWithin one x (r *ʳ d.x)
+  pub y_near : AreWithin one y (r *ʳ d.y)
+  pub z_near : AreWithin one z (r *ʳ d.z)
 
 -- with e the difference of a coordinate from that of r d, 64 (r d + e)² is at least 63 (r d)² - 4032 e² and at most 65 (r d)² + 4160 e²
 pub between : (r x y z : Rational) (d : Point) → IsNearPlace r x y z d →
@@ -91,7 +91,7 @@ both_ways b x y w h k = (near_in_box b x y w h k, near_in_box b y x w k h)
 
 pub away : (radius : Iv 36) (dx dy dz : Iv 60) (a b c : Iv 36) → pos (19590000 * 2 ^ 36) ≤ℤ radius.lo → IsWithin (37150000 * 2 ^ 36) radius → ∥ HasPointNearSphere 12 dx dy dz ∥₁ →
     width_of a ≤ℤ pos (2 ^ 18) → width_of b ≤ℤ pos (2 ^ 18) → width_of c ≤ℤ pos (2 ^ 18) →
-    ((r : Rational) (d : Point) → Holds radius r → HoldsPoint dx dy dz d → Holds a (mul_r r d.x) × Holds b (mul_r r d.y) × Holds c (mul_r r d.z)) → IsBetweenDistances 19000000 38000000 a b c
+    ((r : Rational) (d : Point) → Holds radius r → HoldsPoint dx dy dz d → Holds a (r *ʳ d.x) × Holds b (r *ʳ d.y) × Holds c (r *ʳ d.z)) → IsBetweenDistances 19000000 38000000 a b c
 away radius dx dy dz a b c least most has an bn cn holds = λ x y z hx hy hz. ∥∥₁_elim has (hlevel props) (λ p.
     let r : Rational = of_scale 36 radius.lo in
     let products_held = holds r p.point (low_held radius) p.held in
@@ -99,9 +99,9 @@ away radius dx dy dz a b c least most has an bn cn holds = λ x y z hx hy hz. �
       near_sphere = p.near;
       low = up radius.lo least;
       high = down radius.lo radius.hi radius.ordered most.1;
-      x_near = both_ways a x (mul_r r p.point.x) an hx products_held.0;
-      y_near = both_ways b y (mul_r r p.point.y) bn hy products_held.1;
-      z_near = both_ways c z (mul_r r p.point.z) cn hz products_held.2;
+      x_near = both_ways a x (r *ʳ p.point.x) an hx products_held.0;
+      y_near = both_ways b y (r *ʳ p.point.y) bn hy products_held.1;
+      z_near = both_ways c z (r *ʳ p.point.z) cn hz products_held.2;
     }))
   where
     up : (l : ℤ) → pos (19590000 * 2 ^ 36) ≤ℤ l → of_whole (pos 19590000) ≤ʳ of_scale 36 l

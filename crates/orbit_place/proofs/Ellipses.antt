@@ -6,7 +6,7 @@ use Rattle.whole_math.proofs.Ring.{Ex, va, ◌⊕◌, ◌⊖◌, ◌⊗◌, ng}
 use Rattle.whole_math.proofs.Order.{le_pos}
 use Rattle.whole_math.proofs.Inequalities.{nat}
 use Rattle.whole_math.proofs.Certificates.{Hy, Ce, mul_positive, ◌≼◌, hy, nm, sq, ◌⊞◌, ◌⊠◌}
-use Rattle.rational.specs.Rational.{Rational, ◌≈◌, ◌≤ʳ◌, of_whole, of_scale, two_to_minus, add_r, neg_r, sub_r, mul_r, AreWithin}
+use Rattle.rational.specs.Rational.{Rational, ◌≈◌, ◌≤ʳ◌, of_whole, of_scale, two_to_minus, ◌+ʳ◌, neg_r, ◌-ʳ◌, ◌*ʳ◌, AreWithin}
 use Rattle.rational.proofs.Laws.{≤ʳ_trans}
 use Rattle.rational.proofs.Orders.{order_r, cancel_r, AreGiven, Equation, ◌≐◌}
 use Rattle.rational.proofs.Sizes.{positive_above}
@@ -23,7 +23,7 @@ use Rattle.orbit_place.specs.Ellipses.{IsTrueAnomaly}
 
 -- ---- the norm: with q = 1 - e c, q² (N - 1) = (c² + s² - 1)(1 - e²) + (w² - 1 + e²) s²
 abbrev pub radius_at : Rational → Pair → Rational
-radius_at e p = sub_r one (mul_r e p.cos)
+radius_at e p = one -ʳ e *ʳ p.cos
 
 -- 15/16
 abbrev pub least_radius : Rational
@@ -32,7 +32,7 @@ least_radius = of_scale 4 (pos 15)
 -- what is known of e, of a pair p near the circle, of w near the root of 1 - e², and of the pair v of the true anomaly
 pub record IsOnEllipse (e w : Rational) (p v : Pair) : Type 0 where
   pub near_circle : IsNearCircle 1 p
-  pub near_root : AreWithin (two_to_minus 50) (mul_r w w) (sub_r one (mul_r e e))
+  pub near_root : AreWithin (two_to_minus 50) (w *ʳ w) (one -ʳ e *ʳ e)
   pub high : e ≤ʳ one
   pub low : neg_r e ≤ʳ one
   pub far : least_radius ≤ʳ radius_at e p
@@ -40,14 +40,14 @@ pub record IsOnEllipse (e w : Rational) (p v : Pair) : Type 0 where
 
 pub true_near : (e w : Rational) (p v : Pair) → IsOnEllipse e w p v → IsNearCircle 2 v
 true_near e w p v h = (
-  cancel_r factor (sub_r norm one) bound above (order_r numbers orders equations (f ⊗ (k ⊗ k ⊕ l ⊗ l ⊖ nat 1)) (f ⊗ va 8) (apart (hy 0) (hy 2))
+  cancel_r factor (norm -ʳ one) bound above (order_r numbers orders equations (f ⊗ (k ⊗ k ⊕ l ⊗ l ⊖ nat 1)) (f ⊗ va 8) (apart (hy 0) (hy 2))
       (ng first ∷ ng second ∷ []) refl known (h.anomaly.0, (h.anomaly.1, tt))),
-  cancel_r factor (sub_r one norm) bound above (order_r numbers orders equations (f ⊗ (nat 1 ⊖ (k ⊗ k ⊕ l ⊗ l))) (f ⊗ va 8) (apart (hy 1) (hy 3))
+  cancel_r factor (one -ʳ norm) bound above (order_r numbers orders equations (f ⊗ (nat 1 ⊖ (k ⊗ k ⊕ l ⊗ l))) (f ⊗ va 8) (apart (hy 1) (hy 3))
       (first ∷ second ∷ []) refl known (h.anomaly.0, (h.anomaly.1, tt))),
 )
   where
     norm : Rational
-    norm = add_r (mul_r v.cos v.cos) (mul_r v.sin v.sin)
+    norm = v.cos *ʳ v.cos +ʳ v.sin *ʳ v.sin
 
     bound : Rational
     bound = of_scale 16 (pos 2)
@@ -79,7 +79,7 @@ true_near e w p v h = (
     f = nat 256 ⊗ q ⊗ q
 
     factor : Rational
-    factor = mul_r (mul_r (of_whole (pos 256)) (radius_at e p)) (radius_at e p)
+    factor = of_whole (pos 256) *ʳ radius_at e p *ʳ radius_at e p
 
     above : pos 0 <ℤ factor.num
     above = let radius_positive = positive_above least_radius (radius_at e p) (omega (arith, ints)) h.far in
@@ -136,7 +136,7 @@ pub record IsEllipseBox (ecc c s root radius cos sin : Iv 60) : Type 0 where
   pub small : IsWithin (2 ^ 55) ecc
   pub radius_holds : (e : Rational) (p : Pair) → Holds ecc e → HoldsBoth c s p → Holds radius (radius_at e p)
   pub radius_least : pos (2 ^ 60 - 1025 * 2 ^ 45) ≤ℤ radius.lo
-  pub root_near : (e : Rational) → Holds ecc e → AreWithin (two_to_minus 50) (mul_r (of_scale 60 root.lo) (of_scale 60 root.lo)) (sub_r one (mul_r e e))
+  pub root_near : (e : Rational) → Holds ecc e → AreWithin (two_to_minus 50) (of_scale 60 root.lo *ʳ of_scale 60 root.lo) (one -ʳ e *ʳ e)
   pub quotients : (e w : Rational) (p v : Pair) → Holds ecc e → HoldsBoth c s p → Holds root w → IsTrueAnomaly e w p v → HoldsBoth cos sin v
 
 far_out : (lo : ℤ) → pos (2 ^ 60 - 1025 * 2 ^ 45) ≤ℤ lo → least_radius ≤ʳ of_scale 60 lo
@@ -152,8 +152,8 @@ has_true_pair ecc c s root radius cos sin b has = ∥∥₁_map has go
         let p : Pair = x.pair in
         let far : least_radius ≤ʳ radius_at e p = ≤ʳ_trans least_radius (of_scale 60 radius.lo) (radius_at e p) (far_out radius.lo b.radius_least) (b.radius_holds e p (low_held ecc) x.held).0 in
         let above : pos 0 <ℤ (radius_at e p).num = positive_above least_radius (radius_at e p) (omega (arith, ints)) far in
-        let cosine_quotient : HasQuotient (sub_r p.cos e) (radius_at e p) = quotient_exists (sub_r p.cos e) (radius_at e p) above in
-        let sine_quotient : HasQuotient (mul_r w p.sin) (radius_at e p) = quotient_exists (mul_r w p.sin) (radius_at e p) above in
+        let cosine_quotient : HasQuotient (p.cos -ʳ e) (radius_at e p) = quotient_exists (p.cos -ʳ e) (radius_at e p) above in
+        let sine_quotient : HasQuotient (w *ʳ p.sin) (radius_at e p) = quotient_exists (w *ʳ p.sin) (radius_at e p) above in
         let true_pair : Pair = record { cos = cosine_quotient.quotient; sin = sine_quotient.quotient } in
         let ecc_small = size_of_box 60 (2 ^ 55) ecc.lo ecc.hi e b.small.0 b.small.1 (low_held ecc) in
         record {
@@ -178,13 +178,13 @@ has_true_pair ecc c s root radius cos sin b has = ∥∥₁_map has go
 -- what the differences, products and quotients of the boxes give
 pub quotients_held : (ecc c s c' s' root radius shifted shortened cos sin : Iv 60) → c' ≡ c → s' ≡ s →
     ((e : Rational) (p : Pair) → Holds ecc e → HoldsBoth c s p → Holds radius (radius_at e p)) →
-    ((x y : Rational) → Holds c' x → Holds ecc y → Holds shifted (sub_r x y)) → ((x y : Rational) → Holds root x → Holds s' y → Holds shortened (mul_r x y)) →
-    ((x y z : Rational) → Holds shifted x → Holds radius y → mul_r z y ≈ x → Holds cos z) → ((x y z : Rational) → Holds shortened x → Holds radius y → mul_r z y ≈ x → Holds sin z) →
+    ((x y : Rational) → Holds c' x → Holds ecc y → Holds shifted (x -ʳ y)) → ((x y : Rational) → Holds root x → Holds s' y → Holds shortened (x *ʳ y)) →
+    ((x y z : Rational) → Holds shifted x → Holds radius y → z *ʳ y ≈ x → Holds cos z) → ((x y z : Rational) → Holds shortened x → Holds radius y → z *ʳ y ≈ x → Holds sin z) →
     (e w : Rational) (p v : Pair) → Holds ecc e → HoldsBoth c s p → Holds root w → IsTrueAnomaly e w p v → HoldsBoth cos sin v
 quotients_held ecc c s c' s' root radius shifted shortened cos sin ec es f g h i j e w p v ee pp ww a =
     let pair_held = both_along c' s' c s p ec es pp in
     let radius_held = f e p ee pp in
-    (i (sub_r p.cos e) (radius_at e p) v.cos (g p.cos e pair_held.0 ee) radius_held a.0, j (mul_r w p.sin) (radius_at e p) v.sin (h w p.sin ww pair_held.1) radius_held a.1)
+    (i (p.cos -ʳ e) (radius_at e p) v.cos (g p.cos e pair_held.0 ee) radius_held a.0, j (w *ʳ p.sin) (radius_at e p) v.sin (h w p.sin ww pair_held.1) radius_held a.1)
 
 -- ---- the number 1 as a box
 pub one_held : (b : Iv 60) → b.lo ≡ pos (2 ^ 60) → b.hi ≡ pos (2 ^ 60) → Holds b one

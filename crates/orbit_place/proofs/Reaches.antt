@@ -5,7 +5,7 @@ use Rattle.std.proofs.Math.Logic.{∥∥₁_elim}
 use Rattle.std.proofs.Props.{props}
 use Rattle.whole_math.proofs.Ring.{va, ko, ◌⊕◌, ◌⊖◌, ◌⊗◌, ng}
 use Rattle.whole_math.proofs.Order.{le_pos}
-use Rattle.rational.specs.Rational.{Rational, ◌≤ʳ◌, of_whole, of_scale, add_r, neg_r, sub_r, mul_r, IsAtMostInSize}
+use Rattle.rational.specs.Rational.{Rational, ◌≤ʳ◌, of_whole, of_scale, ◌+ʳ◌, neg_r, ◌-ʳ◌, ◌*ʳ◌, IsAtMostInSize}
 use Rattle.rational.proofs.Laws.{≤ʳ_trans, square_r-nonneg}
 use Rattle.rational.proofs.Orders.{order_r}
 use Rattle.rational.proofs.Ends.{low_end, high_end}
@@ -28,10 +28,10 @@ low_units q h =
     order_r (q ∷ part_limit ∷ part_units ∷ of_scale 60 (neg_ℤ (pos (2049 * 2 ^ 49))) ∷ []) ((va 3 ⊕ va 2 ≼ ko (pos 0)) ∷ (ko (pos 0) ⊖ va 0 ≼ va 1) ∷ (va 1 ≼ va 2) ∷ []) []
     (va 3) (va 0) (hy 0 ⊞ hy 1 ⊞ hy 2) [] refl (none, (turned q h, (high_units, tt))) tt
   where
-    none : add_r (of_scale 60 (neg_ℤ (pos (2049 * 2 ^ 49)))) part_units ≤ʳ of_whole (pos 0)
+    none : of_scale 60 (neg_ℤ (pos (2049 * 2 ^ 49))) +ʳ part_units ≤ʳ of_whole (pos 0)
     none = omega (arith, ints)
 
-    turned : (q : Rational) → neg_r q ≤ʳ part_limit → sub_r (of_whole (pos 0)) q ≤ʳ part_limit
+    turned : (q : Rational) → neg_r q ≤ʳ part_limit → of_whole (pos 0) -ʳ q ≤ʳ part_limit
     turned q h = order_r (q ∷ part_limit ∷ []) ((ng (va 0) ≼ va 1) ∷ []) [] (ko (pos 0) ⊖ va 0) (va 1) (hy 0) [] refl (h, tt) tt
 
 pub part_within : (w : ℕ) (b : Iv 60) (q : Rational) → IsAtMostInSize part_limit q → Holds b q → width_of b ≤ℤ pos w → w ≤ 2 ^ 40 → IsWithin (1025 * 2 ^ 50) b
@@ -54,8 +54,8 @@ both_within off w cos sin has close cn sn f = ∥∥₁_elim has (hlevel props) 
     go h =
         let c : Rational = h.pair.cos in
         let s : Rational = h.pair.sin in
-        let rest_at_most : sub_r (add_r (mul_r s s) (mul_r c c)) one ≤ʳ of_scale 16 (pos off) =
+        let rest_at_most : s *ʳ s +ʳ c *ʳ c -ʳ one ≤ʳ of_scale 16 (pos off) =
         order_r (c ∷ s ∷ of_scale 16 (pos off) ∷ []) ((va 0 ⊗ va 0 ⊕ va 1 ⊗ va 1 ⊖ ko (pos 1) ≼ va 2) ∷ []) [] (va 1 ⊗ va 1 ⊕ va 0 ⊗ va 0 ⊖ ko (pos 1)) (va 2) (hy 0) [] refl (h.near.0, tt) tt in (
-          part_within w cos c (part_size off (mul_r s s) c close h.near.0 (square_r-nonneg s)) h.held.0 cn f,
-          part_within w sin s (part_size off (mul_r c c) s close rest_at_most (square_r-nonneg c)) h.held.1 sn f,
+          part_within w cos c (part_size off (s *ʳ s) c close h.near.0 (square_r-nonneg s)) h.held.0 cn f,
+          part_within w sin s (part_size off (c *ʳ c) s close rest_at_most (square_r-nonneg c)) h.held.1 sn f,
         )

@@ -3,7 +3,7 @@ use Rattle.std.proofs.Common.{◌+◌, ◌-◌, ◌*◌, ◌^◌, ℤ, pos, ◌+
 use Rattle.std.proofs.lemmas.Int.{ints, by_lt_z}
 use Rattle.whole_math.proofs.Inequalities.{pos_nn}
 use Rattle.whole_math.proofs.Certificates.{weak, square_root}
-use Rattle.rational.specs.Rational.{Rational, of_scale, two_to_minus, mul_r, AreWithin, InBox}
+use Rattle.rational.specs.Rational.{Rational, of_scale, two_to_minus, ◌*ʳ◌, AreWithin, InBox}
 use Rattle.orbit_place.proofs.RootCertificates.{low_square, high_square, half_square, upper_square, too_wide, above_root, below_root, above_near, below_near}
 
 -- ---- the box from n to m of a number near 1, and that from l to h of its near-roots
@@ -55,7 +55,7 @@ root_narrow n m l h b = by_lt_z (l +ℤ pos 8) h
     far : (n m l : ℤ) → m ≤ℤ pos (2 ^ 60 + 2 ^ 50) → n ≤ℤ m → pos (2 ^ 59) ≤ℤ (l +ℤ pos 1) → (pos 14 *ℤ l +ℤ pos 63) ≤ℤ (pos 2 *ℤ n +ℤ pos 2305843009213693954) → ⊥
     far n m l a b c d = omega (arith, ints)
 
-pub root_near : (n m l h : ℤ) (x : Rational) → IsRootBox n m l h → InBox 60 n m x → AreWithin (two_to_minus 50) (mul_r (of_scale 60 l) (of_scale 60 l)) x
+pub root_near : (n m l h : ℤ) (x : Rational) → IsRootBox n m l h → InBox 60 n m x → AreWithin (two_to_minus 50) (of_scale 60 l *ʳ of_scale 60 l) x
 root_near n m l h x b i =
     let rest_close : m ≤ℤ (n +ℤ pos 2) = close n m b.narrow in
     let rest_at_most : n ≤ℤ pos (1025 * 2 ^ 50) = below n m b.rest_ordered b.most in

@@ -6,7 +6,7 @@ use Rattle.whole_math.proofs.Ring.{Ex, va, ◌⊕◌, ◌⊖◌, ◌⊗◌}
 use Rattle.whole_math.proofs.Order.{le_pos}
 use Rattle.whole_math.proofs.Inequalities.{nat}
 use Rattle.whole_math.proofs.Certificates.{Hy, Ce, ◌≼◌, hy, nm, sq, ◌⊞◌, ◌⊠◌}
-use Rattle.rational.specs.Rational.{Rational, ◌≤ʳ◌, of_whole, of_scale, add_r, sub_r, mul_r}
+use Rattle.rational.specs.Rational.{Rational, ◌≤ʳ◌, of_whole, of_scale, ◌+ʳ◌, ◌-ʳ◌, ◌*ʳ◌}
 use Rattle.rational.proofs.Orders.{order_r, AreGiven}
 use Rattle.iv_core.specs.declared.Iv.{Iv}
 use Rattle.iv_core.specs.Intervals.{width_of, IsWithin}
@@ -19,9 +19,9 @@ use Rattle.orbit_place.specs.Directions.{direction, HoldsPoint, IsNearSphere, Ha
 
 -- ---- how far the boxes reach
 -- x² with what is left of the sum of squares
-rests : (a b c bound : Rational) → sub_r (add_r (add_r (mul_r a a) (mul_r b b)) (mul_r c c)) one ≤ʳ bound →
-    (sub_r (add_r (mul_r a a) (add_r (mul_r b b) (mul_r c c))) one ≤ʳ bound) × (sub_r (add_r (mul_r b b) (add_r (mul_r a a) (mul_r c c))) one ≤ʳ bound)
-    × (sub_r (add_r (mul_r c c) (add_r (mul_r a a) (mul_r b b))) one ≤ʳ bound)
+rests : (a b c bound : Rational) → a *ʳ a +ʳ b *ʳ b +ʳ c *ʳ c -ʳ one ≤ʳ bound →
+    (a *ʳ a +ʳ (b *ʳ b +ʳ c *ʳ c) -ʳ one ≤ʳ bound) × (b *ʳ b +ʳ (a *ʳ a +ʳ c *ʳ c) -ʳ one ≤ʳ bound)
+    × (c *ʳ c +ʳ (a *ʳ a +ʳ b *ʳ b) -ʳ one ≤ʳ bound)
 rests a b c bound h =
     let values : List Rational = a ∷ b ∷ c ∷ bound ∷ [] in
     let x : Ex = va 0 ⊗ va 0 in
@@ -33,7 +33,7 @@ rests a b c bound h =
       order_r values hypotheses [] (z ⊕ (x ⊕ y) ⊖ nat 1) (va 3) (hy 0) [] refl (h, tt) tt,
     )
 
-nonneg : (a b : Rational) → of_whole (pos 0) ≤ʳ add_r (mul_r a a) (mul_r b b)
+nonneg : (a b : Rational) → of_whole (pos 0) ≤ʳ a *ʳ a +ʳ b *ʳ b
 nonneg a b = order_r (a ∷ b ∷ []) [] [] (nat 0) (va 0 ⊗ va 0 ⊕ va 1 ⊗ va 1) (sq (va 0) ⊞ sq (va 1)) [] refl tt tt
 
 pub all_within : (off w : ℕ) (a b c : Iv 60) → ∥ HasPointNearSphere off a b c ∥₁ → off ≤ 32 → width_of a ≤ℤ pos w → width_of b ≤ℤ pos w → width_of c ≤ℤ pos w → w ≤ 2 ^ 40 →
@@ -46,9 +46,9 @@ all_within off w a b c has close an bn cn f = ∥∥₁_elim has (hlevel props) 
         let y : Rational = h.point.y in
         let z : Rational = h.point.z in
         let both_rests = rests x y z (of_scale 16 (pos off)) h.near.0 in (
-          part_within w a x (part_size off (add_r (mul_r y y) (mul_r z z)) x close both_rests.0 (nonneg y z)) h.held.0 an f,
-          part_within w b y (part_size off (add_r (mul_r x x) (mul_r z z)) y close both_rests.1 (nonneg x z)) h.held.1 bn f,
-          part_within w c z (part_size off (add_r (mul_r x x) (mul_r y y)) z close both_rests.2 (nonneg x y)) h.held.2 cn f,
+          part_within w a x (part_size off (y *ʳ y +ʳ z *ʳ z) x close both_rests.0 (nonneg y z)) h.held.0 an f,
+          part_within w b y (part_size off (x *ʳ x +ʳ z *ʳ z) y close both_rests.1 (nonneg x z)) h.held.1 bn f,
+          part_within w c z (part_size off (x *ʳ x +ʳ y *ʳ y) z close both_rests.2 (nonneg x y)) h.held.2 cn f,
         )
 
 -- ---- with P = cos²u + sin²u cos²i the squared length is P (cos²Ω + sin²Ω) + sin²u sin²i

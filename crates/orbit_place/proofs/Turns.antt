@@ -3,7 +3,7 @@ use Rattle.std.proofs.Common.{◌≡◌, ℕ, ◌+◌, ◌≤◌, [], ◌∷◌,
 use Rattle.std.proofs.Math.Logic.{∥∥₁_elim, ∥∥₁_map, ∥∥₁_prop}
 use Rattle.whole_math.proofs.Ring.{◌⊕◌, ◌⊗◌}
 use Rattle.whole_math.proofs.Inequalities.{same_by, nat}
-use Rattle.rational.specs.Rational.{Rational, ◌≈◌, add_r, sub_r, mul_r, times}
+use Rattle.rational.specs.Rational.{Rational, ◌≈◌, ◌+ʳ◌, ◌-ʳ◌, ◌*ʳ◌, times}
 use Rattle.rational.proofs.Boxes.{InBox-along}
 use Rattle.iv_core.specs.declared.Iv.{Iv}
 use Rattle.iv_core.specs.Intervals.{Holds}
@@ -16,11 +16,11 @@ use Rattle.orbit_place.proofs.Circle.{turned_near, double_near}
 abbrev pub HoldsAll : (Rational → Rational → Rational) → Iv 60 → Iv 60 → Iv 60 → Type 0
 HoldsAll f a b c = (x y : Rational) → Holds a x → Holds b y → Holds c (f x y)
 
-pub turned_held : (c s d t both neither first second cos sin : Iv 60) → HoldsAll mul_r c d both → HoldsAll mul_r s t neither → HoldsAll mul_r s d first → HoldsAll mul_r c t second →
-    HoldsAll sub_r both neither cos → HoldsAll add_r first second sin → (p q : Pair) → HoldsBoth c s p → HoldsBoth d t q → HoldsBoth cos sin (turned p q)
+pub turned_held : (c s d t both neither first second cos sin : Iv 60) → HoldsAll ◌*ʳ◌ c d both → HoldsAll ◌*ʳ◌ s t neither → HoldsAll ◌*ʳ◌ s d first → HoldsAll ◌*ʳ◌ c t second →
+    HoldsAll ◌-ʳ◌ both neither cos → HoldsAll ◌+ʳ◌ first second sin → (p q : Pair) → HoldsBoth c s p → HoldsBoth d t q → HoldsBoth cos sin (turned p q)
 turned_held c s d t both neither first second cos sin f g h i j k p q m n = (
-  j (mul_r p.cos q.cos) (mul_r p.sin q.sin) (f p.cos q.cos m.0 n.0) (g p.sin q.sin m.1 n.1),
-  k (mul_r p.sin q.cos) (mul_r p.cos q.sin) (h p.sin q.cos m.1 n.0) (i p.cos q.sin m.0 n.1),
+  j (p.cos *ʳ q.cos) (p.sin *ʳ q.sin) (f p.cos q.cos m.0 n.0) (g p.sin q.sin m.1 n.1),
+  k (p.sin *ʳ q.cos) (p.cos *ʳ q.sin) (h p.sin q.cos m.1 n.0) (i p.cos q.sin m.0 n.1),
 )
 
 pub both_along : (a b c d : Iv 60) (p : Pair) → a ≡ c → b ≡ d → HoldsBoth c d p → HoldsBoth a b p
@@ -32,15 +32,15 @@ has_turned a b c k l m n cos sin h i j all has other = ∥∥₁_elim has ∥∥
     (λ y. record { pair = turned x.pair y.pair; held = all x.pair y.pair x.held y.held; near = turned_near a b c x.pair y.pair h i j x.near y.near }))
 
 -- ---- doubles
-pub double_held : (c s both neither half cos sin : Iv 60) → ((x : Rational) → Holds c x → Holds both (mul_r x x)) → ((x : Rational) → Holds s x → Holds neither (mul_r x x)) → HoldsAll mul_r s c half →
-    HoldsAll sub_r both neither cos → HoldsAll add_r half half sin → (p : Pair) → HoldsBoth c s p → HoldsBoth cos sin (double p)
+pub double_held : (c s both neither half cos sin : Iv 60) → ((x : Rational) → Holds c x → Holds both (x *ʳ x)) → ((x : Rational) → Holds s x → Holds neither (x *ʳ x)) → HoldsAll ◌*ʳ◌ s c half →
+    HoldsAll ◌-ʳ◌ both neither cos → HoldsAll ◌+ʳ◌ half half sin → (p : Pair) → HoldsBoth c s p → HoldsBoth cos sin (double p)
 double_held c s both neither half cos sin f g h i j p m = (
-  i (mul_r p.cos p.cos) (mul_r p.sin p.sin) (f p.cos m.0) (g p.sin m.1),
+  i (p.cos *ʳ p.cos) (p.sin *ʳ p.sin) (f p.cos m.0) (g p.sin m.1),
   let product_held = h p.sin p.cos m.1 m.0 in
-      InBox-along 60 sin.lo sin.hi (add_r (mul_r p.sin p.cos) (mul_r p.sin p.cos)) (times 2 (mul_r p.sin p.cos)) (twice (mul_r p.sin p.cos)) (j (mul_r p.sin p.cos) (mul_r p.sin p.cos) product_held product_held),
+      InBox-along 60 sin.lo sin.hi (p.sin *ʳ p.cos +ʳ p.sin *ʳ p.cos) (times 2 (p.sin *ʳ p.cos)) (twice (p.sin *ʳ p.cos)) (j (p.sin *ʳ p.cos) (p.sin *ʳ p.cos) product_held product_held),
 )
   where
-    twice : (q : Rational) → add_r q q ≈ times 2 q
+    twice : (q : Rational) → q +ʳ q ≈ times 2 q
     twice q = same_by (q.num ∷ pos q.den ∷ []) (λ n d. ((n ⊗ d ⊕ n ⊗ d) ⊗ d, nat 2 ⊗ n ⊗ (d ⊗ d))) refl
 
 pub has_double : (a c : ℕ) (k l cos sin : Iv 60) → a + a + 1 ≤ c → a ≤ 32 → ((p : Pair) → HoldsBoth k l p → HoldsBoth cos sin (double p)) →

@@ -1,6 +1,6 @@
 -- Directions from the Earth's centre, and boxes that hold one near the sphere of radius 1.
 use Rattle.std.specs.Prelude.{ℕ, pos}
-use Rattle.rational.specs.Rational.{Rational, of_scale, add_r, sub_r, mul_r, AreWithin}
+use Rattle.rational.specs.Rational.{Rational, of_scale, ◌+ʳ◌, ◌-ʳ◌, ◌*ʳ◌, AreWithin}
 use Rattle.iv_core.specs.declared.Iv.{Iv}
 use Rattle.iv_core.specs.Intervals.{Holds}
 use Rattle.trig_box.specs.AnglePairs.{Pair}
@@ -16,9 +16,9 @@ pub record Point : Type 0 where
 -- (cos u cos Ω - sin u cos i sin Ω, cos u sin Ω + sin u cos i cos Ω, sin u sin i)
 abbrev pub direction : Pair → Pair → Pair → Point
 direction u i n = record {
-  x = sub_r (mul_r u.cos n.cos) (mul_r (mul_r u.sin i.cos) n.sin);
-  y = add_r (mul_r u.cos n.sin) (mul_r (mul_r u.sin i.cos) n.cos);
-  z = mul_r u.sin i.sin;
+  x = u.cos *ʳ n.cos -ʳ u.sin *ʳ i.cos *ʳ n.sin;
+  y = u.cos *ʳ n.sin +ʳ u.sin *ʳ i.cos *ʳ n.cos;
+  z = u.sin *ʳ i.sin;
 }
 
 abbrev pub HoldsPoint : {k : ℕ} → Iv k → Iv k → Iv k → Point → Type 0

@@ -1,7 +1,7 @@
 -- What the boxes of an orbit and of a place hold.
 use Rattle.std.specs.Prelude.{List, [], ◌∷◌}
 use Rattle.std.proofs.Common.{lit<}
-use Rattle.rational.specs.Rational.{Rational, sub_r, mul_r, times, divided}
+use Rattle.rational.specs.Rational.{Rational, ◌-ʳ◌, ◌*ʳ◌, times, divided}
 use Rattle.iv_core.specs.declared.Iv.{Iv}
 use Rattle.iv_core.specs.Intervals.{Holds}
 use Rattle.orbit_model.specs.Elements.{Elements, Constants, earth_rate}
@@ -20,14 +20,14 @@ pub record HoldsOrbit (b : Orbit) (eph : Elements) (q : Quantities) : Type 0 whe
   pub inclination : Holds b.inclination.held eph.incl
   pub node : Holds b.node.held eph.node
   pub inclination_rate : Holds b.inclination_rate.held (times 10000 eph.incl_rate)
-  pub node_rate : Holds b.node_rate.held (sub_r (times 10000 eph.node_rate) (times 10000 earth_rate))
+  pub node_rate : Holds b.node_rate.held (times 10000 eph.node_rate -ʳ times 10000 earth_rate)
   pub cuc : Holds b.cuc.held eph.cuc
   pub cus : Holds b.cus.held eph.cus
   pub cic : Holds b.cic.held eph.cic
   pub cis : Holds b.cis.held eph.cis
   pub crc : Holds b.crc.held eph.crc
   pub crs : Holds b.crs.held eph.crs
-  pub earth_turn : Holds b.earth_turn.held (mul_r earth_rate eph.toe_second)
+  pub earth_turn : Holds b.earth_turn.held (earth_rate *ʳ eph.toe_second)
 
 -- P holds of the quantities of every solution whose numbers lie in the boxes
 abbrev pub ForSolutions : Orbit → (Quantities → Type 0) → Type 0

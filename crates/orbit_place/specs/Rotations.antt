@@ -1,6 +1,6 @@
 -- Pairs near the circle of radius 1, and boxes that hold one.
 use Rattle.std.specs.Prelude.{ℕ, pos}
-use Rattle.rational.specs.Rational.{Rational, of_scale, add_r, mul_r, AreWithin}
+use Rattle.rational.specs.Rational.{Rational, of_scale, ◌+ʳ◌, ◌*ʳ◌, AreWithin}
 use Rattle.iv_core.specs.declared.Iv.{Iv}
 use Rattle.iv_core.specs.Intervals.{Holds}
 use Rattle.trig_box.specs.AnglePairs.{Pair}
@@ -8,7 +8,7 @@ use Rattle.orbit_model.specs.Solution.{one}
 
 -- c² + s²
 abbrev pub norm_of : Pair → Rational
-norm_of p = add_r (mul_r p.cos p.cos) (mul_r p.sin p.sin)
+norm_of p = p.cos *ʳ p.cos +ʳ p.sin *ʳ p.sin
 
 -- |c² + s² - 1| ≤ off / 2^16
 abbrev pub IsNearCircle : ℕ → Pair → Type 0

@@ -1,6 +1,6 @@
 //! The inclination and the longitude of the ascending node at the time of sending.
 ghost use Rattle.std.specs.Prelude.{◌*◌, ◌<◌, pos};
-ghost use Rattle.rational.specs.Rational.{Rational, add_r, sub_r, mul_r, times, of_whole};
+ghost use Rattle.rational.specs.Rational.{Rational, ◌+ʳ◌, ◌-ʳ◌, ◌*ʳ◌, times, of_whole};
 ghost use Rattle.iv_core.specs.Intervals.{Holds};
 ghost use Rattle.orbit_model.specs.Elements.{earth_rate};
 ghost use Rattle.orbit_place.specs.Rotations.{HoldsBoth};
@@ -52,7 +52,7 @@ fn inclined(
     time: &SizedBox<60, EPOCH_TIME, 3>,
 ) -> SizedBox<56, INCLINATION, INCLINED_WIDTH>
     ensures holds { (i d r t : Rational) → Holds start.now.held i → Holds change.now.held d →
-        Holds rate.now.held r → Holds time.now.held t → Holds result.held (add_r (add_r i d) (mul_r r t)) }
+        Holds rate.now.held r → Holds time.now.held t → Holds result.held (i +ʳ d +ʳ r *ʳ t) }
 {
     let tilt: SizedBox<56, TILT, 2> = rate.mul(time);
     let changed: SizedBox<56, START, 9> = start.add(change);
@@ -68,7 +68,7 @@ fn earth_rate() -> SizedBox<60, EARTH_RATE, 1>
 
 /// The rate of the node less the Earth's, in 10^-4 rad/s.
 pub fn relative_rate(rate: &SizedBox<60, SMALL, 1>) -> SizedBox<60, RELATIVE_RATE, 2>
-    ensures { (r : Rational) → Holds rate.now.held r → Holds result.held (sub_r r (times 10000 earth_rate)) }
+    ensures { (r : Rational) → Holds rate.now.held r → Holds result.held (r -ʳ times 10000 earth_rate) }
 {
     rate.sub(&earth_rate())
 }
@@ -76,7 +76,7 @@ pub fn relative_rate(rate: &SizedBox<60, SMALL, 1>) -> SizedBox<60, RELATIVE_RAT
 /// The angle by which the Earth turns in `second` seconds of a week, in radians.
 pub fn earth_turn(second: u32) -> SizedBox<56, EARTH_TURN, 1>
     requires { second < 604800 }
-    ensures { Holds result.held (mul_r earth_rate (of_whole (pos second))) }
+    ensures { Holds result.held (earth_rate *ʳ of_whole (pos second)) }
 {
     let angle = EARTH_ROTATION as i128 * second as i128;
     SizedBox::new(Iv::ratio(angle, 1_000_000_000_000_000).unwrap())
@@ -90,7 +90,7 @@ fn longitude_of(
     earth_turn: &SizedBox<56, EARTH_TURN, 1>,
 ) -> SizedBox<56, LONGITUDE, LONGITUDE_WIDTH>
     ensures holds { (n r t w : Rational) → Holds start.now.held n → Holds rate.now.held r → Holds time.now.held t →
-        Holds earth_turn.now.held w → Holds result.held (sub_r (add_r n (mul_r r t)) w) }
+        Holds earth_turn.now.held w → Holds result.held (n +ʳ r *ʳ t -ʳ w) }
 {
     let drift: SizedBox<56, DRIFT, 2> = rate.mul(time);
     let drifted: SizedBox<56, DRIFTED, 3> = start.add(&drift);

@@ -1,6 +1,6 @@
 //! A place on an ellipse: its radius and true anomaly from the eccentricity and the pair of the eccentric anomaly.
 ghost use Rattle.std.specs.Prelude.{◌≡◌, ◌+◌, ◌*◌, ◌-◌, ◌^◌, ◌≤◌, pos, ◌≤ℤ◌};
-ghost use Rattle.rational.specs.Rational.{Rational, sub_r, mul_r, of_scale, two_to_minus, AreWithin, IsNearRoot};
+ghost use Rattle.rational.specs.Rational.{Rational, ◌-ʳ◌, ◌*ʳ◌, of_scale, two_to_minus, AreWithin, IsNearRoot};
 ghost use Rattle.iv_core.specs.Intervals.{Holds, width_of};
 ghost use Rattle.trig_box.specs.AnglePairs.{Pair};
 ghost use Rattle.orbit_model.specs.Solution.{one};
@@ -61,9 +61,9 @@ pub struct OnEllipse {
 pub struct Shape {
     pub eccentricity: SizedBox<60, ECCENTRICITY, 1>,
     pub root: SizedBox<60, SIZE, REST_WIDTH>,
-    pub ghost root_in: { (e w : Rational) → Holds eccentricity.held e → IsNearRoot w (sub_r one (mul_r e e)) → Holds root.held w },
+    pub ghost root_in: { (e w : Rational) → Holds eccentricity.held e → IsNearRoot w (one -ʳ e *ʳ e) → Holds root.held w },
     pub ghost root_near: { (e : Rational) → Holds eccentricity.held e →
-        AreWithin (two_to_minus 50) (mul_r (of_scale 60 root.held.lo) (of_scale 60 root.held.lo)) (sub_r one (mul_r e e)) },
+        AreWithin (two_to_minus 50) (of_scale 60 root.held.lo *ʳ of_scale 60 root.held.lo) (one -ʳ e *ʳ e) },
 }
 
 impl Shape {
@@ -91,7 +91,7 @@ fn radius_of(
     anomaly: &Rotation<1, ANOMALY_WIDTH>,
 ) -> SizedBox<60, RADIUS, RADIUS_WIDTH>
     ensures holds { (e : Rational) (p : Pair) → Holds eccentricity.now.held e →
-        HoldsBoth anomaly.now.cos anomaly.now.sin p → Holds result.held (sub_r one (mul_r e p.cos)) }
+        HoldsBoth anomaly.now.cos anomaly.now.sin p → Holds result.held (one -ʳ e *ʳ p.cos) }
     ensures least { pos (2 ^ 60 - 1025 * 2 ^ 45) ≤ℤ result.held.lo }
 {
     let pull: SizedBox<60, PULL, PULL_WIDTH> = eccentricity.mul(&anomaly.cosine());
@@ -100,7 +100,7 @@ fn radius_of(
 
 // 1 - e²
 fn rest_of(eccentricity: &SizedBox<60, ECCENTRICITY, 1>) -> Iv<60>
-    ensures holds { (e : Rational) → Holds eccentricity.now.held e → Holds result (sub_r one (mul_r e e)) }
+    ensures holds { (e : Rational) → Holds eccentricity.now.held e → Holds result (one -ʳ e *ʳ e) }
     ensures low { pos (2 ^ 60 - 2 ^ 50) ≤ℤ result.lo }
     ensures high { result.hi ≤ℤ pos (2 ^ 60 + 2 ^ 50) }
     ensures narrow { width_of result ≤ℤ pos 2 }
@@ -111,10 +111,10 @@ fn rest_of(eccentricity: &SizedBox<60, ECCENTRICITY, 1>) -> Iv<60>
 
 // Near-roots of 1 - e²; the lower end is one of them, but for 2^-50
 fn root_of_rest(eccentricity: &SizedBox<60, ECCENTRICITY, 1>) -> SizedBox<60, SIZE, REST_WIDTH>
-    ensures holds { (e w : Rational) → Holds eccentricity.now.held e → IsNearRoot w (sub_r one (mul_r e e)) →
+    ensures holds { (e w : Rational) → Holds eccentricity.now.held e → IsNearRoot w (one -ʳ e *ʳ e) →
         Holds result.held w }
     ensures near { (e : Rational) → Holds eccentricity.now.held e →
-        AreWithin (two_to_minus 50) (mul_r (of_scale 60 result.held.lo) (of_scale 60 result.held.lo)) (sub_r one (mul_r e e)) }
+        AreWithin (two_to_minus 50) (of_scale 60 result.held.lo *ʳ of_scale 60 result.held.lo) (one -ʳ e *ʳ e) }
 {
     SizedBox::new(rest_of(eccentricity).root_to::<60>())
 }
@@ -122,9 +122,9 @@ fn root_of_rest(eccentricity: &SizedBox<60, ECCENTRICITY, 1>) -> SizedBox<60, SI
 /// The radius and the true anomaly, from the eccentricity and the pair of the eccentric anomaly.
 pub fn on_ellipse(shape: &Shape, anomaly: &Rotation<1, ANOMALY_WIDTH>) -> OnEllipse
     ensures radius { (e : Rational) (p : Pair) → Holds shape.now.eccentricity.held e →
-        HoldsBoth anomaly.now.cos anomaly.now.sin p → Holds result.radius.held (sub_r one (mul_r e p.cos)) }
+        HoldsBoth anomaly.now.cos anomaly.now.sin p → Holds result.radius.held (one -ʳ e *ʳ p.cos) }
     ensures true_anomaly { (e w : Rational) (p v : Pair) → Holds shape.now.eccentricity.held e →
-        HoldsBoth anomaly.now.cos anomaly.now.sin p → IsNearRoot w (sub_r one (mul_r e e)) →
+        HoldsBoth anomaly.now.cos anomaly.now.sin p → IsNearRoot w (one -ʳ e *ʳ e) →
         IsTrueAnomaly e w p v → HoldsBoth result.true_anomaly.cos result.true_anomaly.sin v }
 {
     let radius = radius_of(&shape.eccentricity, anomaly);

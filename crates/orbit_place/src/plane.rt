@@ -1,6 +1,6 @@
 //! The place in the plane of the orbit: the argument of latitude and the radius, both corrected.
 ghost use Rattle.std.specs.Prelude.{◌-◌, ◌*◌, ◌^◌, ◌≤◌, pos, ◌≤ℤ◌};
-ghost use Rattle.rational.specs.Rational.{Rational, add_r, mul_r};
+ghost use Rattle.rational.specs.Rational.{Rational, ◌+ʳ◌, ◌*ʳ◌};
 ghost use Rattle.iv_core.specs.Intervals.{Holds};
 ghost use Rattle.trig_box.specs.AnglePairs.{Pair};
 ghost use Rattle.orbit_model.specs.Solution.{harmonic, turned, IsPairOf5};
@@ -122,7 +122,7 @@ fn radius_of(
     requires axis_least { pos (20249999 * 2 ^ 36) ≤ℤ axis.now.held.lo }
     requires share_least { pos (2 ^ 60 - 1025 * 2 ^ 45) ≤ℤ share.now.held.lo }
     ensures holds { (x y z : Rational) → Holds axis.now.held x → Holds share.now.held y →
-        Holds change.now.held z → Holds result.held (add_r (mul_r x y) z) }
+        Holds change.now.held z → Holds result.held (x *ʳ y +ʳ z) }
     ensures least { pos (19590000 * 2 ^ 36) ≤ℤ result.held.lo }
 {
     let bare: SizedBox<36, BARE_RADIUS, BARE_WIDTH> = axis.mul(share);

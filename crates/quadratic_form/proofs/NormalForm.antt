@@ -13,7 +13,7 @@ use Rattle.whole_math.specs.Vectors.{len, sum, squared_norm, dot, scaled, added,
 use Rattle.quadratic_form.specs.Spread.{spread}
 
 -- ---- the columns: the integers and the constant
-dot_tail : (e y : ℤ) (q z : List ℤ) → len q ≡ len z → dot (q ++ (y ∷ [])) (scaled e z ++ (e ∷ [])) ≡ e *ℤ dot q z +ℤ y *ℤ e
+pub dot_tail : (e y : ℤ) (q z : List ℤ) → len q ≡ len z → dot (q ++ (y ∷ [])) (scaled e z ++ (e ∷ [])) ≡ e *ℤ dot q z +ℤ y *ℤ e
 dot_tail e y [] [] f = same_by (y ∷ e ∷ []) (λ y e. (y ⊗ e ⊕ nat 0, e ⊗ nat 0 ⊕ y ⊗ e)) refl
 dot_tail e y [] (x ∷ z) f = absurd (len_apart (len z) (len_nonneg z) f)
 dot_tail e y (k ∷ q) [] f = absurd (len_apart (len q) (len_nonneg q) (sym f))
@@ -41,13 +41,13 @@ split d e z b r t f = step d e t.y r.y t.u1 r.u1 b.b1 t.u2 r.u2 b.b2 t.u3 r.u3 b
         )) refl
 
 -- the squares of the radii at the columns
-abbrev slack : ℤ → WholeBaseline → SignalRow → ℤ
+abbrev pub slack : ℤ → WholeBaseline → SignalRow → ℤ
 slack e b r = r.ry *ℤ r.ry *ℤ (e *ℤ e) +ℤ (r.ru1 *ℤ r.ru1 *ℤ (b.b1 *ℤ b.b1) +ℤ (r.ru2 *ℤ r.ru2 *ℤ (b.b2 *ℤ b.b2) +ℤ r.ru3 *ℤ r.ru3 *ℤ (b.b3 *ℤ b.b3)))
 
 pub square_within : (m t : ℤ) → Within m t → (t *ℤ t) ≤ℤ (m *ℤ m)
 square_within m t h = le_by (t ∷ m ∷ []) (λ t m. (t ⊗ t, m ⊗ m, (t ⊖ ng m) ⊗ (m ⊖ t))) refl (prod_nn (less_nn h.0) (less_nn h.1))
 
-reach : (d e : ℤ) (b : WholeBaseline) (r : SignalRow) (t : WholeData) → WholeInBoxes d r t → (error d e b r t *ℤ error d e b r t) ≤ℤ (pos 4 *ℤ (d *ℤ d *ℤ slack e b r))
+pub reach : (d e : ℤ) (b : WholeBaseline) (r : SignalRow) (t : WholeData) → WholeInBoxes d r t → (error d e b r t *ℤ error d e b r t) ≤ℤ (pos 4 *ℤ (d *ℤ d *ℤ slack e b r))
 reach d e b r t h = step d e (t.y -ℤ (d *ℤ r.y)) (t.u1 -ℤ (d *ℤ r.u1)) (t.u2 -ℤ (d *ℤ r.u2)) (t.u3 -ℤ (d *ℤ r.u3)) b.b1 b.b2 b.b3 r.ry r.ru1 r.ru2 r.ru3
     (square_within (d *ℤ r.ry) (t.y -ℤ (d *ℤ r.y)) h.y) (square_within (d *ℤ r.ru1) (t.u1 -ℤ (d *ℤ r.u1)) h.u1)
     (square_within (d *ℤ r.ru2) (t.u2 -ℤ (d *ℤ r.u2)) h.u2) (square_within (d *ℤ r.ru3) (t.u3 -ℤ (d *ℤ r.u3)) h.u3)
@@ -72,33 +72,33 @@ abbrev pub values : List ℤ → List SignalRow → List ℤ
 values x [] = []
 values x (r ∷ rs) = dot (coefficients r) x ∷ values x rs
 
-abbrev errors : ℤ → ℤ → WholeBaseline → List SignalRow → List WholeData → List ℤ
+abbrev pub errors : ℤ → ℤ → WholeBaseline → List SignalRow → List WholeData → List ℤ
 errors d e b [] ts = []
 errors d e b (r ∷ rs) [] = []
 errors d e b (r ∷ rs) (t ∷ ts) = error d e b r t ∷ errors d e b rs ts
 
-abbrev slacks : ℤ → WholeBaseline → List SignalRow → ℤ
+abbrev pub slacks : ℤ → WholeBaseline → List SignalRow → ℤ
 slacks e b [] = pos 0
 slacks e b (r ∷ rs) = slack e b r +ℤ slacks e b rs
 
-split_all : (d e : ℤ) (z : List ℤ) (b : WholeBaseline) (rs : List SignalRow) (ts : List WholeData) → WholeFits d rs ts → RowsOf (len z) rs →
+pub split_all : (d e : ℤ) (z : List ℤ) (b : WholeBaseline) (rs : List SignalRow) (ts : List WholeData) → WholeFits d rs ts → RowsOf (len z) rs →
     whole_residuals d e z b rs ts ≡ added (scaled d (values (columns_at e z b) rs)) (errors d e b rs ts)
 split_all d e z b [] [] h k = refl
 split_all d e z b [] (t ∷ ts) h k = absurd h
 split_all d e z b (r ∷ rs) [] h k = absurd h
 split_all d e z b (r ∷ rs) (t ∷ ts) h k = ap₂ (λ x s. x ∷ s) (split d e z b r t k.0) (split_all d e z b rs ts h.1 k.1)
 
-errors_len : (d e : ℤ) (b : WholeBaseline) (x : List ℤ) (rs : List SignalRow) (ts : List WholeData) → WholeFits d rs ts → len (scaled d (values x rs)) ≡ len (errors d e b rs ts)
+pub errors_len : (d e : ℤ) (b : WholeBaseline) (x : List ℤ) (rs : List SignalRow) (ts : List WholeData) → WholeFits d rs ts → len (scaled d (values x rs)) ≡ len (errors d e b rs ts)
 errors_len d e b x [] [] h = refl
 errors_len d e b x [] (t ∷ ts) h = absurd h
 errors_len d e b x (r ∷ rs) [] h = absurd h
 errors_len d e b x (r ∷ rs) (t ∷ ts) h = ap (λ n. pos 1 +ℤ n) (errors_len d e b x rs ts h.1)
 
-values_len : (x : List ℤ) (rs : List SignalRow) → len (values x rs) ≡ len rs
+pub values_len : (x : List ℤ) (rs : List SignalRow) → len (values x rs) ≡ len rs
 values_len x [] = refl
 values_len x (r ∷ rs) = ap (λ n. pos 1 +ℤ n) (values_len x rs)
 
-errors_sumsq : (d e : ℤ) (b : WholeBaseline) (rs : List SignalRow) (ts : List WholeData) → WholeFits d rs ts → squared_norm (errors d e b rs ts) ≤ℤ (pos 4 *ℤ (d *ℤ d *ℤ slacks e b rs))
+pub errors_sumsq : (d e : ℤ) (b : WholeBaseline) (rs : List SignalRow) (ts : List WholeData) → WholeFits d rs ts → squared_norm (errors d e b rs ts) ≤ℤ (pos 4 *ℤ (d *ℤ d *ℤ slacks e b rs))
 errors_sumsq d e b [] [] h = le_by (d ∷ []) (λ d. (nat 0, nat 4 ⊗ (d ⊗ d ⊗ nat 0), nat 0 ⊗ nat 0)) refl (square_nn (pos 0))
 errors_sumsq d e b [] (t ∷ ts) h = absurd h
 errors_sumsq d e b (r ∷ rs) [] h = absurd h
@@ -211,23 +211,23 @@ group_below d e z b g ts h k w o f = rw (split_all d e z b g.rows ts f o)
         (prod_nn (prod_nn (pos_nn 4032) h₀) (less_nn h₃))) (prod_nn (prod_nn (prod_nn (pos_nn 4032) h₀) h₁) (less_nn h₄))))
 
 -- ---- all groups
-abbrev radii_at : ℤ → WholeBaseline → Radii → ℤ
+abbrev pub radii_at : ℤ → WholeBaseline → Radii → ℤ
 radii_at e b r = r.r1 *ℤ (b.b1 *ℤ b.b1) +ℤ (r.r2 *ℤ (b.b2 *ℤ b.b2) +ℤ (r.r3 *ℤ (b.b3 *ℤ b.b3) +ℤ r.ry *ℤ (e *ℤ e)))
 
-add_radii_at : (e : ℤ) (b : WholeBaseline) (p q : Radii) → radii_at e b (add_radii p q) ≡ radii_at e b p +ℤ radii_at e b q
+pub add_radii_at : (e : ℤ) (b : WholeBaseline) (p q : Radii) → radii_at e b (add_radii p q) ≡ radii_at e b p +ℤ radii_at e b q
 add_radii_at e b p q = step p.r1 p.r2 p.r3 p.ry q.r1 q.r2 q.r3 q.ry (b.b1 *ℤ b.b1) (b.b2 *ℤ b.b2) (b.b3 *ℤ b.b3) (e *ℤ e)
   where
     step : (p q r s i j k l a f g h : ℤ) → (p +ℤ i) *ℤ a +ℤ ((q +ℤ j) *ℤ f +ℤ ((r +ℤ k) *ℤ g +ℤ (s +ℤ l) *ℤ h)) ≡ p *ℤ a +ℤ (q *ℤ f +ℤ (r *ℤ g +ℤ s *ℤ h)) +ℤ (i *ℤ a +ℤ (j *ℤ f +ℤ (k *ℤ g +ℤ l *ℤ h)))
     step p q r s i j k l a f g h = same_by (p ∷ i ∷ a ∷ q ∷ j ∷ f ∷ r ∷ k ∷ g ∷ s ∷ l ∷ h ∷ []) (λ p i a q j f r k g s l h.
         ((p ⊕ i) ⊗ a ⊕ ((q ⊕ j) ⊗ f ⊕ ((r ⊕ k) ⊗ g ⊕ (s ⊕ l) ⊗ h)), p ⊗ a ⊕ (q ⊗ f ⊕ (r ⊗ g ⊕ s ⊗ h)) ⊕ (i ⊗ a ⊕ (j ⊗ f ⊕ (k ⊗ g ⊕ l ⊗ h))))) refl
 
-none_at : (e : ℤ) (b : WholeBaseline) → radii_at e b no_radii ≡ pos 0
+pub none_at : (e : ℤ) (b : WholeBaseline) → radii_at e b no_radii ≡ pos 0
 none_at e b = step (b.b1 *ℤ b.b1) (b.b2 *ℤ b.b2) (b.b3 *ℤ b.b3) (e *ℤ e)
   where
     step : (a f g h : ℤ) → pos 0 *ℤ a +ℤ (pos 0 *ℤ f +ℤ (pos 0 *ℤ g +ℤ pos 0 *ℤ h)) ≡ pos 0
     step a f g h = same_by (a ∷ f ∷ g ∷ h ∷ []) (λ a f g h. (nat 0 ⊗ a ⊕ (nat 0 ⊗ f ⊕ (nat 0 ⊗ g ⊕ nat 0 ⊗ h)), nat 0)) refl
 
-row_radii_at : (e : ℤ) (b : WholeBaseline) (w : ℤ) (rs : List SignalRow) → radii_at e b (row_radii w rs) ≡ pos 360360 *ℤ w *ℤ slacks e b rs
+pub row_radii_at : (e : ℤ) (b : WholeBaseline) (w : ℤ) (rs : List SignalRow) → radii_at e b (row_radii w rs) ≡ pos 360360 *ℤ w *ℤ slacks e b rs
 row_radii_at e b w [] = none_at e b ∙ (same_by (w ∷ []) (λ w. (nat 0, nat 360360 ⊗ w ⊗ nat 0)) refl)
 row_radii_at e b w (r ∷ rs) = add_radii_at e b (record {
   r1 = pos 360360 *ℤ w *ℤ (r.ru1 *ℤ r.ru1);

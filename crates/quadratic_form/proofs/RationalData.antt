@@ -13,7 +13,7 @@ use Rattle.quadratic_form.specs.Elimination.{Factor, steps}
 use Rattle.quadratic_form.specs.Rows.{SignalRow, WholeData, WholeBaseline, SignalGroup, WholeFits, WholeFitsAll, whole_residual, whole_residuals, share, whole_sum_of_squares, matrix, radii, bounding_form, columns_at, GroupsOf, first_rounding, value}
 use Rattle.quadratic_form.specs.UpperSum.{upper_sum, top}
 use Rattle.quadratic_form.specs.TwoLeast.{TwoLeast}
-use Rattle.rational.specs.Rational.{Rational, ◌≤ʳ◌, ◌<ʳ◌, of_whole, add_r, sub_r, mul_r}
+use Rattle.rational.specs.Rational.{Rational, ◌≤ʳ◌, ◌<ʳ◌, of_whole, ◌+ʳ◌, ◌-ʳ◌, ◌*ʳ◌}
 use Rattle.quadratic_form.specs.RationalData.{RowData, Baseline, Fits, FitsAll, residual, residuals, sum_of_rationals, squared_norm_of_rationals, spread_of_rationals, sum_of_squares, moved, IsBest}
 use Rattle.whole_math.specs.Vectors.{len, sum, squared_norm, dot}
 use Rattle.rational.specs.Over.{AreOver}
@@ -47,13 +47,13 @@ OverAll d (t ∷ ts) (q ∷ qs) = OverRows d t q × OverAll d ts qs
 residual_over : (d e : ℤ) (z : List ℤ) (c : WholeBaseline) (b : Baseline) (r : SignalRow) (t : WholeData) (q : RowData) → OverDatum d t q → OverBase e c b →
     Over (d *ℤ e) (whole_residual d e z c r t) (residual z b r q)
 residual_over d e z c b r t q h k =
-    over_add (d *ℤ e) _ _ (sub_r q.y s) (of_whole (dot r.cycles z)) (over_sub (d *ℤ e) _ _ q.y s (over_wide d e t.y q.y h.y)
-    (over_add (d *ℤ e) _ _ (mul_r q.u1 b.b1) (add_r (mul_r q.u2 b.b2) (mul_r q.u3 b.b3)) (over_mul d e _ _ q.u1 b.b1 h.u1 k.b1)
-    (over_add (d *ℤ e) _ _ (mul_r q.u2 b.b2) (mul_r q.u3 b.b3) (over_mul d e _ _ q.u2 b.b2 h.u2 k.b2) (over_mul d e _ _ q.u3 b.b3 h.u3 k.b3))))
+    over_add (d *ℤ e) _ _ (q.y -ʳ s) (of_whole (dot r.cycles z)) (over_sub (d *ℤ e) _ _ q.y s (over_wide d e t.y q.y h.y)
+    (over_add (d *ℤ e) _ _ (q.u1 *ʳ b.b1) (q.u2 *ʳ b.b2 +ʳ q.u3 *ʳ b.b3) (over_mul d e _ _ q.u1 b.b1 h.u1 k.b1)
+    (over_add (d *ℤ e) _ _ (q.u2 *ʳ b.b2) (q.u3 *ʳ b.b3) (over_mul d e _ _ q.u2 b.b2 h.u2 k.b2) (over_mul d e _ _ q.u3 b.b3 h.u3 k.b3))))
     (over_whole (d *ℤ e) (dot r.cycles z))
   where
     s : Rational
-    s = add_r (mul_r q.u1 b.b1) (add_r (mul_r q.u2 b.b2) (mul_r q.u3 b.b3))
+    s = q.u1 *ʳ b.b1 +ʳ (q.u2 *ʳ b.b2 +ʳ q.u3 *ʳ b.b3)
 
 residuals_over : (d e : ℤ) (z : List ℤ) (c : WholeBaseline) (b : Baseline) (rs : List SignalRow) (ts : List WholeData) (qs : List RowData) → OverRows d ts qs → OverBase e c b →
     AreOver (d *ℤ e) (whole_residuals d e z c rs ts) (residuals z b rs qs)
@@ -79,11 +79,11 @@ sumsq_over : (k : ℤ) (t : List ℤ) (s : List Rational) → AreOver k t s → 
 sumsq_over k [] [] h = over_zero (k *ℤ k)
 sumsq_over k [] (q ∷ s) h = absurd h
 sumsq_over k (n ∷ t) [] h = absurd h
-sumsq_over k (n ∷ t) (q ∷ s) h = over_add (k *ℤ k) (n *ℤ n) (squared_norm t) (mul_r q q) (squared_norm_of_rationals s) (over_mul k k n n q q h.0 h.0) (sumsq_over k t s h.1)
+sumsq_over k (n ∷ t) (q ∷ s) h = over_add (k *ℤ k) (n *ℤ n) (squared_norm t) (q *ʳ q) (squared_norm_of_rationals s) (over_mul k k n n q q h.0 h.0) (sumsq_over k t s h.1)
 
 pub spread_over : (k : ℤ) (t : List ℤ) (s : List Rational) → AreOver k t s → Over (k *ℤ k) (spread t) (spread_of_rationals s)
-spread_over k t s h = over_sub (k *ℤ k) (len t *ℤ squared_norm t) (sum t *ℤ sum t) (mul_r (of_whole (len s)) (squared_norm_of_rationals s)) (mul_r (sum_of_rationals s) (sum_of_rationals s))
-    (subst (λ (n : ℤ). Over (k *ℤ k) (len t *ℤ squared_norm t) (mul_r (of_whole n) (squared_norm_of_rationals s))) (list_len k t s h)
+spread_over k t s h = over_sub (k *ℤ k) (len t *ℤ squared_norm t) (sum t *ℤ sum t) (of_whole (len s) *ʳ squared_norm_of_rationals s) (sum_of_rationals s *ʳ sum_of_rationals s)
+    (subst (λ (n : ℤ). Over (k *ℤ k) (len t *ℤ squared_norm t) (of_whole n *ʳ squared_norm_of_rationals s)) (list_len k t s h)
     (over_times (k *ℤ k) (len t) (squared_norm t) (squared_norm_of_rationals s) (sumsq_over k t s h)))
     (over_mul k k (sum t) (sum t) (sum_of_rationals s) (sum_of_rationals s) (sum_over k t s h) (sum_over k t s h))
 
@@ -93,66 +93,66 @@ F_over d e z c b [] ts qs h k = over_zero ((d *ℤ e) *ℤ (d *ℤ e))
 F_over d e z c b (g ∷ gs) [] [] h k = over_zero ((d *ℤ e) *ℤ (d *ℤ e))
 F_over d e z c b (g ∷ gs) [] (q ∷ qs) h k = absurd h
 F_over d e z c b (g ∷ gs) (t ∷ ts) [] h k = absurd h
-F_over d e z c b (g ∷ gs) (t ∷ ts) (q ∷ qs) h k = over_add ((d *ℤ e) *ℤ (d *ℤ e)) _ _ (mul_r (of_whole (share g)) (spread_of_rationals (residuals z b g.rows q))) (sum_of_squares z b gs qs)
+F_over d e z c b (g ∷ gs) (t ∷ ts) (q ∷ qs) h k = over_add ((d *ℤ e) *ℤ (d *ℤ e)) _ _ (of_whole (share g) *ʳ spread_of_rationals (residuals z b g.rows q)) (sum_of_squares z b gs qs)
     (over_times ((d *ℤ e) *ℤ (d *ℤ e)) (share g) (spread (whole_residuals d e z c g.rows t)) (spread_of_rationals (residuals z b g.rows q))
     (spread_over (d *ℤ e) (whole_residuals d e z c g.rows t) (residuals z b g.rows q) (residuals_over d e z c b g.rows t q h.0 k)))
     (F_over d e z c b gs ts qs h.1 k)
 
 -- ---- a common denominator
-record CommonDatum (q : RowData) : Type 0 where
-  d : ℕ
-  positive : 0 < d
-  over : WholeData
-  is : OverDatum (pos d) over q
+pub record CommonDatum (q : RowData) : Type 0 where
+  pub d : ℕ
+  pub positive : 0 < d
+  pub over : WholeData
+  pub is : OverDatum (pos d) over q
 
-record CommonRows (qs : List RowData) : Type 0 where
-  d : ℕ
-  positive : 0 < d
-  over : List WholeData
-  is : OverRows (pos d) over qs
+pub record CommonRows (qs : List RowData) : Type 0 where
+  pub d : ℕ
+  pub positive : 0 < d
+  pub over : List WholeData
+  pub is : OverRows (pos d) over qs
 
-record CommonAll (qs : List (List RowData)) : Type 0 where
-  d : ℕ
-  positive : 0 < d
-  over : List (List WholeData)
-  is : OverAll (pos d) over qs
+pub record CommonAll (qs : List (List RowData)) : Type 0 where
+  pub d : ℕ
+  pub positive : 0 < d
+  pub over : List (List WholeData)
+  pub is : OverAll (pos d) over qs
 
-record CommonBase (b : Baseline) : Type 0 where
-  d : ℕ
-  positive : 0 < d
-  over : WholeBaseline
-  is : OverBase (pos d) over b
+pub record CommonBase (b : Baseline) : Type 0 where
+  pub d : ℕ
+  pub positive : 0 < d
+  pub over : WholeBaseline
+  pub is : OverBase (pos d) over b
 
-abbrev wide : ℤ → WholeData → WholeData
+abbrev pub wide : ℤ → WholeData → WholeData
 wide k t = record { u1 = t.u1 *ℤ k; u2 = t.u2 *ℤ k; u3 = t.u3 *ℤ k; y = t.y *ℤ k }
 
-abbrev wide_rows : ℤ → List WholeData → List WholeData
+abbrev pub wide_rows : ℤ → List WholeData → List WholeData
 wide_rows k [] = []
 wide_rows k (t ∷ ts) = wide k t ∷ wide_rows k ts
 
-abbrev wide_all : ℤ → List (List WholeData) → List (List WholeData)
+abbrev pub wide_all : ℤ → List (List WholeData) → List (List WholeData)
 wide_all k [] = []
 wide_all k (t ∷ ts) = wide_rows k t ∷ wide_all k ts
 
-wide_is : (j k : ℤ) (t : WholeData) (q : RowData) → OverDatum j t q → OverDatum (j *ℤ k) (wide k t) q
+pub wide_is : (j k : ℤ) (t : WholeData) (q : RowData) → OverDatum j t q → OverDatum (j *ℤ k) (wide k t) q
 wide_is j k t q h = record { u1 = over_wide j k t.u1 q.u1 h.u1; u2 = over_wide j k t.u2 q.u2 h.u2; u3 = over_wide j k t.u3 q.u3 h.u3; y = over_wide j k t.y q.y h.y }
 
-wide_rows_is : (j k : ℤ) (ts : List WholeData) (qs : List RowData) → OverRows j ts qs → OverRows (j *ℤ k) (wide_rows k ts) qs
+pub wide_rows_is : (j k : ℤ) (ts : List WholeData) (qs : List RowData) → OverRows j ts qs → OverRows (j *ℤ k) (wide_rows k ts) qs
 wide_rows_is j k [] [] h = tt
 wide_rows_is j k [] (q ∷ qs) h = absurd h
 wide_rows_is j k (t ∷ ts) [] h = absurd h
 wide_rows_is j k (t ∷ ts) (q ∷ qs) h = (wide_is j k t q h.0, wide_rows_is j k ts qs h.1)
 
-wide_all_is : (j k : ℤ) (ts : List (List WholeData)) (qs : List (List RowData)) → OverAll j ts qs → OverAll (j *ℤ k) (wide_all k ts) qs
+pub wide_all_is : (j k : ℤ) (ts : List (List WholeData)) (qs : List (List RowData)) → OverAll j ts qs → OverAll (j *ℤ k) (wide_all k ts) qs
 wide_all_is j k [] [] h = tt
 wide_all_is j k [] (q ∷ qs) h = absurd h
 wide_all_is j k (t ∷ ts) [] h = absurd h
 wide_all_is j k (t ∷ ts) (q ∷ qs) h = (wide_rows_is j k t q h.0, wide_all_is j k ts qs h.1)
 
-swap : (j k : ℕ) → pos j *ℤ pos k ≡ pos k *ℤ pos j
+pub swap : (j k : ℕ) → pos j *ℤ pos k ≡ pos k *ℤ pos j
 swap j k = same_by (pos j ∷ pos k ∷ []) (λ j k. (j ⊗ k, k ⊗ j)) refl
 
-common_datum : (q : RowData) → CommonDatum q
+pub common_datum : (q : RowData) → CommonDatum q
 common_datum q = record {
   d = (q.u1.den * q.u2.den) * (q.u3.den * q.y.den);
   positive = mul-pos (mul-pos q.u1.positive q.u2.positive) (mul-pos q.u3.positive q.y.positive);
@@ -182,7 +182,7 @@ common_datum q = record {
     last : (n a b c e : ℤ) → n *ℤ (a *ℤ b *ℤ (c *ℤ e)) ≡ n *ℤ (a *ℤ (b *ℤ c)) *ℤ e
     last n a b c e = same_by (n ∷ a ∷ b ∷ c ∷ e ∷ []) (λ n a b c e. (n ⊗ (a ⊗ b ⊗ (c ⊗ e)), n ⊗ (a ⊗ (b ⊗ c)) ⊗ e)) refl
 
-common_rows : (qs : List RowData) → CommonRows qs
+pub common_rows : (qs : List RowData) → CommonRows qs
 common_rows [] = record { d = 1; positive = omega arith; over = []; is = tt }
 common_rows (q ∷ qs) =
     let datum_common : CommonDatum q = common_datum q in
@@ -194,7 +194,7 @@ common_rows (q ∷ qs) =
       is = (wide_is (pos datum_common.d) (pos rows_common.d) datum_common.over q datum_common.is, subst (λ (n : ℤ). OverRows n (wide_rows (pos datum_common.d) rows_common.over) qs) (swap rows_common.d datum_common.d) (wide_rows_is (pos rows_common.d) (pos datum_common.d) rows_common.over qs rows_common.is));
     }
 
-common : (qs : List (List RowData)) → CommonAll qs
+pub common : (qs : List (List RowData)) → CommonAll qs
 common [] = record { d = 1; positive = omega arith; over = []; is = tt }
 common (q ∷ qs) =
     let rows_common : CommonRows q = common_rows q in
@@ -206,7 +206,7 @@ common (q ∷ qs) =
       is = (wide_rows_is (pos rows_common.d) (pos all_common.d) rows_common.over q rows_common.is, subst (λ (n : ℤ). OverAll n (wide_all (pos rows_common.d) all_common.over) qs) (swap all_common.d rows_common.d) (wide_all_is (pos all_common.d) (pos rows_common.d) all_common.over qs all_common.is));
     }
 
-common_base : (b : Baseline) → CommonBase b
+pub common_base : (b : Baseline) → CommonBase b
 common_base b = record {
   d = b.b1.den * (b.b2.den * b.b3.den);
   positive = mul-pos b.b1.positive (mul-pos b.b2.positive b.b3.positive);
@@ -227,7 +227,7 @@ common_base b = record {
     three : (n a b c : ℤ) → n *ℤ (a *ℤ (b *ℤ c)) ≡ n *ℤ (a *ℤ b) *ℤ c
     three n a b c = same_by (n ∷ a ∷ b ∷ c ∷ []) (λ n a b c. (n ⊗ (a ⊗ (b ⊗ c)), n ⊗ (a ⊗ b) ⊗ c)) refl
 
-fits_over : (d : ℤ) (rs : List SignalRow) (ts : List WholeData) (qs : List RowData) → pos 0 ≤ℤ d → OverRows d ts qs → Fits rs qs → WholeFits d rs ts
+pub fits_over : (d : ℤ) (rs : List SignalRow) (ts : List WholeData) (qs : List RowData) → pos 0 ≤ℤ d → OverRows d ts qs → Fits rs qs → WholeFits d rs ts
 fits_over d [] [] qs i h f = tt
 fits_over d [] (t ∷ ts) [] i h f = absurd h
 fits_over d [] (t ∷ ts) (q ∷ qs) i h f = absurd f
@@ -244,7 +244,7 @@ fits_over d (r ∷ rs) (t ∷ ts) (q ∷ qs) i h f = (
   fits_over d rs ts qs i h.1 f.1,
 )
 
-fits_all_over : (d : ℤ) (gs : List SignalGroup) (ts : List (List WholeData)) (qs : List (List RowData)) → pos 0 ≤ℤ d → OverAll d ts qs → FitsAll gs qs → WholeFitsAll d gs ts
+pub fits_all_over : (d : ℤ) (gs : List SignalGroup) (ts : List (List WholeData)) (qs : List (List RowData)) → pos 0 ≤ℤ d → OverAll d ts qs → FitsAll gs qs → WholeFitsAll d gs ts
 fits_all_over d [] [] qs i h f = tt
 fits_all_over d [] (t ∷ ts) [] i h f = absurd h
 fits_all_over d [] (t ∷ ts) (q ∷ qs) i h f = absurd f
@@ -257,9 +257,9 @@ fits_all_over d (g ∷ gs) (t ∷ ts) (q ∷ qs) i h f = (fits_over d g.rows t q
 -- 64 F is at least 2^h P(z), for all rational data in the boxes, all integers and all rational baselines
 pub bound_over_rationals : (h : ℕ) (z : List ℤ) (b : Baseline) (gs : List SignalGroup) (qs : List (List RowData)) (p : List Factor × List Column) →
     GroupsOf (len z) gs → FitsAll gs qs → steps 0 3 (first_rounding h (length z) gs) ≡ Ok p →
-    of_whole (pos (2 ^ h) *ℤ value p.1 z) ≤ʳ mul_r (of_whole (pos 64)) (sum_of_squares z b gs qs)
+    of_whole (pos (2 ^ h) *ℤ value p.1 z) ≤ʳ of_whole (pos 64) *ʳ sum_of_squares z b gs qs
 bound_over_rationals h z b gs qs p g f s =
-    over_le 1 q (pos (2 ^ h) *ℤ value p.1 z) (pos 64 *ℤ n) (of_whole (pos (2 ^ h) *ℤ value p.1 z)) (mul_r (of_whole (pos 64)) (sum_of_squares z b gs qs))
+    over_le 1 q (pos (2 ^ h) *ℤ value p.1 z) (pos 64 *ℤ n) (of_whole (pos (2 ^ h) *ℤ value p.1 z)) (of_whole (pos 64) *ʳ sum_of_squares z b gs qs)
     (omega arith) (mul-pos (mul-pos t.positive c.positive) (mul-pos t.positive c.positive)) refl
     (over_times (pos q) (pos 64) n (sum_of_squares z b gs qs) (F_over (pos t.d) (pos c.d) z c.over b gs t.over qs t.is c.is))
     (step (pos t.d) (pos c.d) (pos (2 ^ h) *ℤ value p.1 z) n (bound (pos t.d) (pos c.d) h z c.over gs t.over p g (fits_all_over (pos t.d) gs t.over qs (pos_nn t.d) t.is f) s))
@@ -282,9 +282,9 @@ bound_over_rationals h z b gs qs p g f s =
 -- 64 F is at least the bounding form at the columns, over the square of the denominator e of the baseline
 pub bounding_over_rationals : (e : ℕ) (z : List ℤ) (c : WholeBaseline) (b : Baseline) (gs : List SignalGroup) (qs : List (List RowData)) (r : Rational) → 0 < e → OverBase (pos e) c b →
     GroupsOf (len z) gs → FitsAll gs qs → Over (pos (e * e)) (quad (bounding_form (length z) (matrix (length z) gs) (radii gs)) (columns_at (pos e) z c)) r →
-    r ≤ʳ mul_r (of_whole (pos 64)) (sum_of_squares z b gs qs)
+    r ≤ʳ of_whole (pos 64) *ʳ sum_of_squares z b gs qs
 bounding_over_rationals e z c b gs qs r h o g f w =
-    over_le (e * e) q v (pos 64 *ℤ n) r (mul_r (of_whole (pos 64)) (sum_of_squares z b gs qs)) (mul-pos h h) (mul-pos (mul-pos t.positive h) (mul-pos t.positive h)) w
+    over_le (e * e) q v (pos 64 *ℤ n) r (of_whole (pos 64) *ʳ sum_of_squares z b gs qs) (mul-pos h h) (mul-pos (mul-pos t.positive h) (mul-pos t.positive h)) w
     (over_times (pos q) (pos 64) n (sum_of_squares z b gs qs) (F_over (pos t.d) (pos e) z c b gs t.over qs t.is o))
     (step (pos t.d) (pos e) v n (bounding_form_below (pos t.d) (pos e) z c gs t.over g (fits_all_over (pos t.d) gs t.over qs (pos_nn t.d) t.is f)))
   where

@@ -1,7 +1,7 @@
 -- The sum of squares over rational data, rational baselines and whole integers: what the proofs are about.
 use Rattle.std.specs.Prelude.{◌≡◌, ◌^◌, List, [], ◌∷◌, ℤ, pos}
 use Rattle.std.proofs.Common.{pow_pos}
-use Rattle.rational.specs.Rational.{Near, Rational, ◌<ʳ◌, of_whole, add_r, sub_r, mul_r}
+use Rattle.rational.specs.Rational.{Near, Rational, ◌<ʳ◌, of_whole, ◌+ʳ◌, ◌-ʳ◌, ◌*ʳ◌}
 use Rattle.quadratic_form.specs.Rows.{SignalRow, WholeBaseline, SignalGroup, share}
 use Rattle.whole_math.specs.Vectors.{len, dot}
 
@@ -35,7 +35,7 @@ FitsAll (g ∷ gs) (q ∷ qs) = Fits g.rows q × FitsAll gs qs
 
 -- y - u·b + cycles·z
 abbrev pub residual : List ℤ → Baseline → SignalRow → RowData → Rational
-residual z b r q = add_r (sub_r q.y (add_r (mul_r q.u1 b.b1) (add_r (mul_r q.u2 b.b2) (mul_r q.u3 b.b3)))) (of_whole (dot r.cycles z))
+residual z b r q = q.y -ʳ (q.u1 *ʳ b.b1 +ʳ (q.u2 *ʳ b.b2 +ʳ q.u3 *ʳ b.b3)) +ʳ of_whole (dot r.cycles z)
 
 abbrev pub residuals : List ℤ → Baseline → List SignalRow → List RowData → List Rational
 residuals z b [] qs = []
@@ -44,20 +44,20 @@ residuals z b (r ∷ rs) (q ∷ qs) = residual z b r q ∷ residuals z b rs qs
 
 abbrev pub sum_of_rationals : List Rational → Rational
 sum_of_rationals [] = of_whole (pos 0)
-sum_of_rationals (x ∷ s) = add_r x (sum_of_rationals s)
+sum_of_rationals (x ∷ s) = x +ʳ sum_of_rationals s
 
 abbrev pub squared_norm_of_rationals : List Rational → Rational
 squared_norm_of_rationals [] = of_whole (pos 0)
-squared_norm_of_rationals (x ∷ s) = add_r (mul_r x x) (squared_norm_of_rationals s)
+squared_norm_of_rationals (x ∷ s) = x *ʳ x +ʳ squared_norm_of_rationals s
 
 abbrev pub spread_of_rationals : List Rational → Rational
-spread_of_rationals s = sub_r (mul_r (of_whole (len s)) (squared_norm_of_rationals s)) (mul_r (sum_of_rationals s) (sum_of_rationals s))
+spread_of_rationals s = of_whole (len s) *ʳ squared_norm_of_rationals s -ʳ sum_of_rationals s *ʳ sum_of_rationals s
 
 -- F: over the pairs and signals, (360360 / n) w (n Σ s² - (Σ s)²)
 abbrev pub sum_of_squares : List ℤ → Baseline → List SignalGroup → List (List RowData) → Rational
 sum_of_squares z b [] qs = of_whole (pos 0)
 sum_of_squares z b (g ∷ gs) [] = of_whole (pos 0)
-sum_of_squares z b (g ∷ gs) (q ∷ qs) = add_r (mul_r (of_whole (share g)) (spread_of_rationals (residuals z b g.rows q))) (sum_of_squares z b gs qs)
+sum_of_squares z b (g ∷ gs) (q ∷ qs) = of_whole (share g) *ʳ spread_of_rationals (residuals z b g.rows q) +ʳ sum_of_squares z b gs qs
 
 -- m / 2^16
 abbrev pub moved : WholeBaseline → Baseline

@@ -12,7 +12,7 @@
 #![tactic(auto)]
 
 ghost use Rattle.std.specs.Prelude.{◌≡◌, ℕ, ◌^◌, ◌<◌, List, length, ℤ, pos, ◌+ℤ◌, ◌*ℤ◌, ◌≤ℤ◌, ◌<ℤ◌, Ok};
-ghost use Rattle.rational.specs.Rational.{of_whole, mul_r, ◌≤ʳ◌};
+ghost use Rattle.rational.specs.Rational.{of_whole, ◌*ʳ◌, ◌≤ʳ◌};
 ghost use Rattle.whole_math.specs.Vectors.{len, dot};
 ghost use Rattle.quadratic_form.specs.Forms.{Column, Shaped, quad};
 ghost use Rattle.quadratic_form.specs.Elimination.{Factor, factors, kept, next, steps};
@@ -48,7 +48,7 @@ pub fn bound_law()
 pub fn rational_bound_law()
     ensures { (h : ℕ) (z : List ℤ) (b : Baseline) (gs : List SignalGroup) (qs : List (List RowData)) (p : List Factor × List Column) →
         GroupsOf (len z) gs → FitsAll gs qs → steps 0 3 (first_rounding h (length z) gs) ≡ Ok p →
-        of_whole (pos (2 ^ h) *ℤ value p.1 z) ≤ʳ mul_r (of_whole (pos 64)) (sum_of_squares z b gs qs) }
+        of_whole (pos (2 ^ h) *ℤ value p.1 z) ≤ʳ of_whole (pos 64) *ʳ sum_of_squares z b gs qs }
 {}
 
 /// The sum of squares at the integers z and the move m is at most the upper sum, for all rational data in the boxes.

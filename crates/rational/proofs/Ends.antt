@@ -5,7 +5,7 @@ use Rattle.whole_math.proofs.Ring.{va, ◌⊕◌, ◌⊖◌, ◌⊗◌}
 use Rattle.whole_math.proofs.Order.{lins, mul_le_cancel}
 use Rattle.whole_math.proofs.Inequalities.{same_by, le_trans_ℤ}
 use Rattle.whole_math.proofs.Certificates.{◌≼◌, hy, ◌⊞◌}
-use Rattle.rational.specs.Rational.{Rational, ◌≤ʳ◌, of_scale, add_r, sub_r, IsAtMostInSize, InBox, IsNearBox}
+use Rattle.rational.specs.Rational.{Rational, ◌≤ʳ◌, of_scale, ◌+ʳ◌, ◌-ʳ◌, IsAtMostInSize, InBox, IsNearBox}
 use Rattle.rational.proofs.Boxes.{wider}
 use Rattle.rational.proofs.Laws.{≤ʳ_trans, ≤ʳ_from_same}
 use Rattle.rational.proofs.Orders.{order_r}
@@ -34,13 +34,13 @@ pub box_of_near : (k : ℕ) (lo hi p : ℤ) (d q : Rational) → d ≤ʳ of_scal
 box_of_near k lo hi p d q l n =
     let inside : Rational = n.inside in
     let values : List Rational = q ∷ inside ∷ d ∷ of_scale k p ∷ of_scale k lo ∷ of_scale k hi ∷ [] in
-    let low : sub_r (of_scale k lo) (of_scale k p) ≤ʳ q =
+    let low : of_scale k lo -ʳ of_scale k p ≤ʳ q =
     order_r values ((va 4 ≼ va 1) ∷ (va 1 ⊖ va 0 ≼ va 2) ∷ (va 2 ≼ va 3) ∷ []) [] (va 4 ⊖ va 3) (va 0) (hy 0 ⊞ hy 1 ⊞ hy 2) [] refl (n.held.0, (n.near.1, (l, tt))) tt in
-    let high : q ≤ʳ add_r (of_scale k hi) (of_scale k p) =
+    let high : q ≤ʳ of_scale k hi +ʳ of_scale k p =
     order_r values ((va 1 ≼ va 5) ∷ (va 0 ⊖ va 1 ≼ va 2) ∷ (va 2 ≼ va 3) ∷ []) [] (va 0) (va 5 ⊕ va 3) (hy 0 ⊞ hy 1 ⊞ hy 2) [] refl (n.held.1, (n.near.0, (l, tt))) tt in (
-      ≤ʳ_trans (of_scale k (lo -ℤ p)) (sub_r (of_scale k lo) (of_scale k p)) q (≤ʳ_from_same (of_scale k (lo -ℤ p)) (sub_r (of_scale k lo) (of_scale k p))
+      ≤ʳ_trans (of_scale k (lo -ℤ p)) (of_scale k lo -ʳ of_scale k p) q (≤ʳ_from_same (of_scale k (lo -ℤ p)) (of_scale k lo -ʳ of_scale k p)
           (same_by (lo ∷ p ∷ pos (2 ^ k) ∷ []) (λ l p s. ((l ⊖ p) ⊗ (s ⊗ s), (l ⊗ s ⊖ p ⊗ s) ⊗ s)) refl)) low,
-      ≤ʳ_trans q (add_r (of_scale k hi) (of_scale k p)) (of_scale k (hi +ℤ p)) high (≤ʳ_from_same (add_r (of_scale k hi) (of_scale k p))
+      ≤ʳ_trans q (of_scale k hi +ʳ of_scale k p) (of_scale k (hi +ℤ p)) high (≤ʳ_from_same (of_scale k hi +ʳ of_scale k p)
           (of_scale k (hi +ℤ p)) (same_by (hi ∷ p ∷ pos (2 ^ k) ∷ []) (λ h p s. ((h ⊗ s ⊕ p ⊗ s) ⊗ s, (h ⊕ p) ⊗ (s ⊗ s))) refl)),
     )
 

@@ -7,7 +7,7 @@ use Rattle.whole_math.proofs.Ring.{Ex, va, ko, ◌⊕◌, ◌⊖◌, ◌⊗◌, 
 use Rattle.whole_math.proofs.Order.{mul_eq_cancel}
 use Rattle.whole_math.proofs.Inequalities.{same_by}
 use Rattle.whole_math.proofs.IntLaws.{neg_mul_ℤ}
-use Rattle.rational.specs.Rational.{Rational, ◌≈◌, of_whole, add_r, neg_r, sub_r, mul_r}
+use Rattle.rational.specs.Rational.{Rational, ◌≈◌, of_whole, ◌+ʳ◌, neg_r, ◌-ʳ◌, ◌*ʳ◌}
 use Rattle.rational.specs.Over.{Over, AreOver, HasCommonDenominator}
 use Rattle.rational.proofs.Over.{over_add, over_sub, over_mul, over_wide, common}
 
@@ -21,9 +21,9 @@ look_r (q ∷ qs) (suc i) = look_r qs i
 abbrev pub ev_r : List Rational → Ex → Rational
 ev_r r (va i) = look_r r i
 ev_r r (ko c) = of_whole c
-ev_r r (a ⊕ b) = add_r (ev_r r a) (ev_r r b)
-ev_r r (a ⊖ b) = sub_r (ev_r r a) (ev_r r b)
-ev_r r (a ⊗ b) = mul_r (ev_r r a) (ev_r r b)
+ev_r r (a ⊕ b) = ev_r r a +ʳ ev_r r b
+ev_r r (a ⊖ b) = ev_r r a -ʳ ev_r r b
+ev_r r (a ⊗ b) = ev_r r a *ʳ ev_r r b
 ev_r r (ng a) = neg_r (ev_r r a)
 
 -- ---- over one denominator, which is the first variable
@@ -121,7 +121,7 @@ numerator_is k ns qs h (a ⊖ b) =
 numerator_is k ns qs h (a ⊗ b) =
     let x : ℤ = ev (pos k ∷ ns) (numerator (variables 1 qs) a) in
     let y : ℤ = ev (pos k ∷ ns) (numerator (variables 1 qs) b) in
-    subst (λ (d : ℕ). Over (pos d) (x *ℤ y) (mul_r (ev_r qs a) (ev_r qs b))) (sym (pow-add k (degree a) (degree b)))
+    subst (λ (d : ℕ). Over (pos d) (x *ℤ y) (ev_r qs a *ʳ ev_r qs b)) (sym (pow-add k (degree a) (degree b)))
     (over_mul (pos (k ^ degree a)) (pos (k ^ degree b)) x y (ev_r qs a) (ev_r qs b) (numerator_is k ns qs h a) (numerator_is k ns qs h b))
 numerator_is k ns qs h (ng a) = over_neg (pos (k ^ degree a)) (ev (pos k ∷ ns) (numerator (variables 1 qs) a)) (ev_r qs a) (numerator_is k ns qs h a)
 

@@ -4,7 +4,7 @@ use Rattle.whole_math.proofs.Ring.{Ex, va, ko, ◌⊕◌, ◌⊖◌, ◌⊗◌, 
 use Rattle.whole_math.proofs.Order.{lins, mul_nn, square_nn, add_nn, diff_nn, le_from_diff, mul_le_cancel, mul_eq_cancel}
 use Rattle.whole_math.proofs.Inequalities.{same_by, pos_nn}
 use Rattle.whole_math.proofs.Certificates.{Hy, Ce, ◌≼◌, hy, nm, sq, ◌⊞◌, ◌⊠◌, gap_of, as_ex, cancel}
-use Rattle.rational.specs.Rational.{Rational, ◌≈◌, ◌≤ʳ◌, add_r, sub_r, mul_r}
+use Rattle.rational.specs.Rational.{Rational, ◌≈◌, ◌≤ʳ◌, ◌+ʳ◌, ◌-ʳ◌, ◌*ʳ◌}
 use Rattle.rational.proofs.Identities.{ev_r, balanced, ring_r}
 
 -- ---- a combination of equations
@@ -22,27 +22,27 @@ combined [] cs = ko (pos 0)
 combined ((a ≐ b) ∷ es) [] = ko (pos 0)
 combined ((a ≐ b) ∷ es) (c ∷ cs) = (c ⊗ (a ⊖ b)) ⊕ combined es cs
 
-zero_sum : (p q : Rational) → p.num ≡ pos 0 → q.num ≡ pos 0 → (add_r p q).num ≡ pos 0
+zero_sum : (p q : Rational) → p.num ≡ pos 0 → q.num ≡ pos 0 → (p +ʳ q).num ≡ pos 0
 zero_sum p q e f = ap (λ a. a *ℤ pos q.den +ℤ q.num *ℤ pos p.den) e ∙ ap (λ b. pos 0 *ℤ pos q.den +ℤ b *ℤ pos p.den) f ∙ none (pos q.den) (pos p.den)
   where
     none : (d e : ℤ) → pos 0 *ℤ d +ℤ pos 0 *ℤ e ≡ pos 0
     none d e = same_by (d ∷ e ∷ []) (λ d e. (ko (pos 0) ⊗ d ⊕ ko (pos 0) ⊗ e, ko (pos 0))) refl
 
-zero_product : (p q : Rational) → q.num ≡ pos 0 → (mul_r p q).num ≡ pos 0
+zero_product : (p q : Rational) → q.num ≡ pos 0 → (p *ʳ q).num ≡ pos 0
 zero_product p q f = ap (λ b. p.num *ℤ b) f ∙ same_by (p.num ∷ []) (λ a. (a ⊗ ko (pos 0), ko (pos 0))) refl
 
-zero_difference : (p q : Rational) → p ≈ q → (sub_r p q).num ≡ pos 0
+zero_difference : (p q : Rational) → p ≈ q → (p -ʳ q).num ≡ pos 0
 zero_difference p q e = omega (arith, lins, e)
 
-no_difference : (p q : Rational) → (sub_r p q).num ≡ pos 0 → p ≈ q
+no_difference : (p q : Rational) → (p -ʳ q).num ≡ pos 0 → p ≈ q
 no_difference p q e = omega (arith, lins, e)
 
 combined_zero : (r : List Rational) (es : List Equation) (cs : List Ex) → AreEqual r es → (ev_r r (combined es cs)).num ≡ pos 0
 combined_zero r [] cs h = refl
 combined_zero r ((a ≐ b) ∷ es) [] h = refl
 combined_zero r ((a ≐ b) ∷ es) (c ∷ cs) h =
-    zero_sum (mul_r (ev_r r c) (sub_r (ev_r r a) (ev_r r b))) (ev_r r (combined es cs))
-    (zero_product (ev_r r c) (sub_r (ev_r r a) (ev_r r b)) (zero_difference (ev_r r a) (ev_r r b) h.0)) (combined_zero r es cs h.1)
+    zero_sum (ev_r r c *ʳ (ev_r r a -ʳ ev_r r b)) (ev_r r (combined es cs))
+    (zero_product (ev_r r c) (ev_r r a -ʳ ev_r r b) (zero_difference (ev_r r a) (ev_r r b) h.0)) (combined_zero r es cs h.1)
 
 -- what is equal to 0 is 0
 zero_along : (p q : Rational) → p ≈ q → q.num ≡ pos 0 → p.num ≡ pos 0
@@ -51,17 +51,17 @@ zero_along p q e f = mul_eq_cancel p.num (pos 0) q.den q.positive (e ∙ ap (λ 
 -- l = u, where l - u is a combination of the equations
 pub equal_r : (r : List Rational) (es : List Equation) (cs : List Ex) (l u : Ex) → norm (balanced r (l ⊖ u) (combined es cs)) ≡ norm (balanced r (combined es cs) (l ⊖ u)) →
     AreEqual r es → ev_r r l ≈ ev_r r u
-equal_r r es cs l u e h = no_difference (ev_r r l) (ev_r r u) (zero_along (sub_r (ev_r r l) (ev_r r u)) (ev_r r (combined es cs)) (ring_r r (l ⊖ u) (combined es cs) e) (combined_zero r es cs h))
+equal_r r es cs l u e h = no_difference (ev_r r l) (ev_r r u) (zero_along (ev_r r l -ʳ ev_r r u) (ev_r r (combined es cs)) (ring_r r (l ⊖ u) (combined es cs) e) (combined_zero r es cs h))
 
 -- ---- certificates
 abbrev pub AreGiven : List Rational → List Hy → Type 0
 AreGiven r [] = Unit {0}
 AreGiven r ((a ≼ b) ∷ hs) = (ev_r r a ≤ʳ ev_r r b) × AreGiven r hs
 
-nn_sum : (p q : Rational) → pos 0 ≤ℤ p.num → pos 0 ≤ℤ q.num → pos 0 ≤ℤ (add_r p q).num
+nn_sum : (p q : Rational) → pos 0 ≤ℤ p.num → pos 0 ≤ℤ q.num → pos 0 ≤ℤ (p +ʳ q).num
 nn_sum p q h k = add_nn (p.num *ℤ pos q.den) (q.num *ℤ pos p.den) (mul_nn p.num (pos q.den) h (pos_nn q.den)) (mul_nn q.num (pos p.den) k (pos_nn p.den))
 
-nn_difference : (p q : Rational) → p ≤ʳ q → pos 0 ≤ℤ (sub_r q p).num
+nn_difference : (p q : Rational) → p ≤ʳ q → pos 0 ≤ℤ (q -ʳ p).num
 nn_difference p q h = diff_nn (p.num *ℤ pos q.den) (q.num *ℤ pos p.den) h
 
 nn_along : (p q : Rational) → p ≈ q → pos 0 ≤ℤ q.num → pos 0 ≤ℤ p.num
@@ -83,7 +83,7 @@ certified_nn r hs (sq e) g = square_nn (ev_r r e).num
 certified_nn r hs (a ⊞ b) g = nn_sum (ev_r r (as_ex hs a)) (ev_r r (as_ex hs b)) (certified_nn r hs a g) (certified_nn r hs b g)
 certified_nn r hs (a ⊠ b) g = mul_nn (ev_r r (as_ex hs a)).num (ev_r r (as_ex hs b)).num (certified_nn r hs a g) (certified_nn r hs b g)
 
-of_difference : (p q : Rational) → pos 0 ≤ℤ (sub_r q p).num → p ≤ʳ q
+of_difference : (p q : Rational) → pos 0 ≤ℤ (q -ʳ p).num → p ≤ʳ q
 of_difference p q h = le_from_diff (p.num *ℤ pos q.den) (q.num *ℤ pos p.den) h
 
 -- l ≤ u, where u - l is the certificate's value and a combination of equations
@@ -92,20 +92,20 @@ pub order_r : (r : List Rational) (hs : List Hy) (es : List Equation) (l u : Ex)
     AreGiven r hs → AreEqual r es → ev_r r l ≤ʳ ev_r r u
 order_r r hs es l u d cs e g h =
     of_difference (ev_r r l) (ev_r r u)
-    (nn_along (sub_r (ev_r r u) (ev_r r l)) (add_r (ev_r r (as_ex hs d)) (ev_r r (combined es cs))) (ring_r r (u ⊖ l) (as_ex hs d ⊕ combined es cs) e)
+    (nn_along (ev_r r u -ʳ ev_r r l) (ev_r r (as_ex hs d) +ʳ ev_r r (combined es cs)) (ring_r r (u ⊖ l) (as_ex hs d ⊕ combined es cs) e)
     (nn_sum (ev_r r (as_ex hs d)) (ev_r r (combined es cs)) (certified_nn r hs d g) (zero_nn (ev_r r (combined es cs)).num (combined_zero r es cs h))))
   where
     zero_nn : (a : ℤ) → a ≡ pos 0 → pos 0 ≤ℤ a
     zero_nn a e = omega (arith, lins)
 
 -- a factor above 0 cancels
-pub cancel_r : (c p q : Rational) → pos 0 <ℤ c.num → mul_r c p ≤ʳ mul_r c q → p ≤ʳ q
-cancel_r c p q h k = of_difference p q (cancel c.num (pos 0) (sub_r q p).num h
-    (step (c.num *ℤ pos 0) (c.num *ℤ (sub_r q p).num) (same_by (c.num ∷ []) (λ c. (c ⊗ ko (pos 0), ko (pos 0))) refl) product))
+pub cancel_r : (c p q : Rational) → pos 0 <ℤ c.num → c *ʳ p ≤ʳ c *ʳ q → p ≤ʳ q
+cancel_r c p q h k = of_difference p q (cancel c.num (pos 0) (q -ʳ p).num h
+    (step (c.num *ℤ pos 0) (c.num *ℤ (q -ʳ p).num) (same_by (c.num ∷ []) (λ c. (c ⊗ ko (pos 0), ko (pos 0))) refl) product))
   where
-    product : pos 0 ≤ℤ (c.num *ℤ (sub_r q p).num)
-    product = nn_along (mul_r c (sub_r q p)) (sub_r (mul_r c q) (mul_r c p))
-        (ring_r (c ∷ p ∷ q ∷ []) (va 0 ⊗ (va 2 ⊖ va 1)) ((va 0 ⊗ va 2) ⊖ (va 0 ⊗ va 1)) refl) (nn_difference (mul_r c p) (mul_r c q) k)
+    product : pos 0 ≤ℤ (c.num *ℤ (q -ʳ p).num)
+    product = nn_along (c *ʳ (q -ʳ p)) (c *ʳ q -ʳ c *ʳ p)
+        (ring_r (c ∷ p ∷ q ∷ []) (va 0 ⊗ (va 2 ⊖ va 1)) ((va 0 ⊗ va 2) ⊖ (va 0 ⊗ va 1)) refl) (nn_difference (c *ʳ p) (c *ʳ q) k)
 
     step : (a b : ℤ) → a ≡ pos 0 → pos 0 ≤ℤ b → a ≤ℤ b
     step a b e h = omega (arith, lins)

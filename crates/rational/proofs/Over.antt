@@ -3,7 +3,7 @@ use Rattle.std.proofs.Common.{◌≡◌, List, subst, lit<, ℕ, ◌*◌, ◌<�
 use Rattle.whole_math.proofs.Ring.{◌⊕◌, ◌⊖◌, ◌⊗◌, ng}
 use Rattle.whole_math.proofs.Order.{mul_le_cancel, mul_lt_cancel}
 use Rattle.whole_math.proofs.Inequalities.{le_by, both_nn, prod_nn, less_nn, pos_nn, le_eq, pos_one, one_nn, later, strict, same_by, nat}
-use Rattle.rational.specs.Rational.{Rational, ◌≤ʳ◌, ◌<ʳ◌, of_whole, Near, add_r, sub_r, mul_r}
+use Rattle.rational.specs.Rational.{Rational, ◌≤ʳ◌, ◌<ʳ◌, of_whole, Near, ◌+ʳ◌, ◌-ʳ◌, ◌*ʳ◌}
 use Rattle.whole_math.specs.Bounds.{Within}
 use Rattle.whole_math.specs.Vectors.{scaled}
 use Rattle.whole_math.proofs.IntLaws.{mul_comm_ℤ}
@@ -16,7 +16,7 @@ over_whole k n = same_by (n ∷ k ∷ []) (λ n k. (n ⊗ k, k ⊗ n ⊗ nat 1))
 pub over_zero : (k : ℤ) → Over k (pos 0) (of_whole (pos 0))
 over_zero k = same_by (k ∷ []) (λ k. (nat 0 ⊗ k, nat 0 ⊗ nat 1)) refl
 
-pub over_add : (k m n : ℤ) (p q : Rational) → Over k m p → Over k n q → Over k (m +ℤ n) (add_r p q)
+pub over_add : (k m n : ℤ) (p q : Rational) → Over k m p → Over k n q → Over k (m +ℤ n) (p +ʳ q)
 over_add k m n p q e f = open_it k p.num (pos p.den) q.num (pos q.den) ∙ ap₂ (λ s t. (pos q.den *ℤ s) +ℤ (pos p.den *ℤ t)) e f ∙ close_it m n (pos p.den) (pos q.den)
   where
     open_it : (k a b c d : ℤ) → (a *ℤ d +ℤ c *ℤ b) *ℤ k ≡ d *ℤ (a *ℤ k) +ℤ b *ℤ (c *ℤ k)
@@ -25,7 +25,7 @@ over_add k m n p q e f = open_it k p.num (pos p.den) q.num (pos q.den) ∙ ap₂
     close_it : (m n b d : ℤ) → d *ℤ (m *ℤ b) +ℤ b *ℤ (n *ℤ d) ≡ (m +ℤ n) *ℤ (b *ℤ d)
     close_it m n b d = same_by (d ∷ m ∷ b ∷ n ∷ []) (λ d m b n. (d ⊗ (m ⊗ b) ⊕ b ⊗ (n ⊗ d), (m ⊕ n) ⊗ (b ⊗ d))) refl
 
-pub over_sub : (k m n : ℤ) (p q : Rational) → Over k m p → Over k n q → Over k (m -ℤ n) (sub_r p q)
+pub over_sub : (k m n : ℤ) (p q : Rational) → Over k m p → Over k n q → Over k (m -ℤ n) (p -ʳ q)
 over_sub k m n p q e f = open_it k p.num (pos p.den) q.num (pos q.den) ∙ ap₂ (λ s t. (pos q.den *ℤ s) -ℤ (pos p.den *ℤ t)) e f ∙ close_it m n (pos p.den) (pos q.den)
   where
     open_it : (k a b c d : ℤ) → (a *ℤ d -ℤ c *ℤ b) *ℤ k ≡ d *ℤ (a *ℤ k) -ℤ b *ℤ (c *ℤ k)
@@ -34,7 +34,7 @@ over_sub k m n p q e f = open_it k p.num (pos p.den) q.num (pos q.den) ∙ ap₂
     close_it : (m n b d : ℤ) → d *ℤ (m *ℤ b) -ℤ b *ℤ (n *ℤ d) ≡ (m -ℤ n) *ℤ (b *ℤ d)
     close_it m n b d = same_by (d ∷ m ∷ b ∷ n ∷ []) (λ d m b n. (d ⊗ (m ⊗ b) ⊖ b ⊗ (n ⊗ d), (m ⊖ n) ⊗ (b ⊗ d))) refl
 
-pub over_mul : (j k m n : ℤ) (p q : Rational) → Over j m p → Over k n q → Over (j *ℤ k) (m *ℤ n) (mul_r p q)
+pub over_mul : (j k m n : ℤ) (p q : Rational) → Over j m p → Over k n q → Over (j *ℤ k) (m *ℤ n) (p *ʳ q)
 over_mul j k m n p q e f = open_it j k p.num q.num ∙ ap₂ (λ s t. s *ℤ t) e f ∙ close_it m n (pos p.den) (pos q.den)
   where
     open_it : (j k a c : ℤ) → a *ℤ c *ℤ (j *ℤ k) ≡ a *ℤ j *ℤ (c *ℤ k)
@@ -43,7 +43,7 @@ over_mul j k m n p q e f = open_it j k p.num q.num ∙ ap₂ (λ s t. s *ℤ t) 
     close_it : (m n b d : ℤ) → m *ℤ b *ℤ (n *ℤ d) ≡ m *ℤ n *ℤ (b *ℤ d)
     close_it m n b d = same_by (m ∷ b ∷ n ∷ d ∷ []) (λ m b n d. (m ⊗ b ⊗ (n ⊗ d), m ⊗ n ⊗ (b ⊗ d))) refl
 
-pub over_times : (k c n : ℤ) (q : Rational) → Over k n q → Over k (c *ℤ n) (mul_r (of_whole c) q)
+pub over_times : (k c n : ℤ) (q : Rational) → Over k n q → Over k (c *ℤ n) (of_whole c *ʳ q)
 over_times k c n q e = open_it k c q.num ∙ ap (λ s. c *ℤ s) e ∙ close_it c n (pos q.den)
   where
     open_it : (k c a : ℤ) → c *ℤ a *ℤ k ≡ c *ℤ (a *ℤ k)

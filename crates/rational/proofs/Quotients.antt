@@ -3,12 +3,12 @@ use Rattle.std.proofs.Common.{◌≡◌, ◌*◌, [], ◌∷◌, ℤ, pos, ◌*�
 use Rattle.whole_math.proofs.Ring.{◌⊗◌}
 use Rattle.whole_math.proofs.Absolute.{pos_abs, abs_pos}
 use Rattle.whole_math.proofs.Inequalities.{same_by, weak}
-use Rattle.rational.specs.Rational.{Rational, mul_r, ◌≈◌}
+use Rattle.rational.specs.Rational.{Rational, ◌*ʳ◌, ◌≈◌}
 
 -- p / q, for q above 0
 pub record HasQuotient (p q : Rational) : Type 0 where
   pub quotient : Rational
-  pub is_quotient : mul_r quotient q ≈ p
+  pub is_quotient : quotient *ʳ q ≈ p
 
 pub quotient_exists : (p q : Rational) → pos 0 <ℤ q.num → HasQuotient p q
 quotient_exists p q h = record {

@@ -5,7 +5,7 @@ use Rattle.whole_math.proofs.Ring.{va, ko, ◌⊕◌, ◌⊖◌, ◌⊗◌, ng}
 use Rattle.whole_math.proofs.Order.{lins, lt_pos, mul_le_right}
 use Rattle.whole_math.proofs.Inequalities.{same_by, pos_nn}
 use Rattle.whole_math.proofs.Certificates.{Hy, ◌≼◌, hy, ◌⊞◌, ◌⊠◌, mul_positive}
-use Rattle.rational.specs.Rational.{Rational, ◌≈◌, ◌≤ʳ◌, of_whole, add_r, neg_r, sub_r, mul_r, IsAtMostInSize}
+use Rattle.rational.specs.Rational.{Rational, ◌≈◌, ◌≤ʳ◌, of_whole, ◌+ʳ◌, neg_r, ◌-ʳ◌, ◌*ʳ◌, IsAtMostInSize}
 use Rattle.rational.proofs.Laws.{≤ʳ_trans}
 use Rattle.rational.proofs.Orders.{order_r, cancel_r, ◌≐◌}
 
@@ -26,26 +26,26 @@ positive_above c q h l = by_lt_z (pos 0) q.num (λ k. k)
     step a b h k e l = omega (arith, lins)
 
 -- ---- bounds
-pub size_add : (a b p q : Rational) → IsAtMostInSize a p → IsAtMostInSize b q → IsAtMostInSize (add_r a b) (add_r p q)
+pub size_add : (a b p q : Rational) → IsAtMostInSize a p → IsAtMostInSize b q → IsAtMostInSize (a +ʳ b) (p +ʳ q)
 size_add a b p q h k = (
   order_r (a ∷ b ∷ p ∷ q ∷ []) ((va 2 ≼ va 0) ∷ (va 3 ≼ va 1) ∷ []) [] (va 2 ⊕ va 3) (va 0 ⊕ va 1) (hy 0 ⊞ hy 1) [] refl (h.0, (k.0, tt)) tt,
   order_r (a ∷ b ∷ p ∷ q ∷ []) ((ng (va 2) ≼ va 0) ∷ (ng (va 3) ≼ va 1) ∷ []) [] (ng (va 2 ⊕ va 3)) (va 0 ⊕ va 1) (hy 0 ⊞ hy 1) [] refl (h.1, (k.1, tt)) tt,
 )
 
-pub size_sub : (a b p q : Rational) → IsAtMostInSize a p → IsAtMostInSize b q → IsAtMostInSize (add_r a b) (sub_r p q)
+pub size_sub : (a b p q : Rational) → IsAtMostInSize a p → IsAtMostInSize b q → IsAtMostInSize (a +ʳ b) (p -ʳ q)
 size_sub a b p q h k = (
   order_r (a ∷ b ∷ p ∷ q ∷ []) ((va 2 ≼ va 0) ∷ (ng (va 3) ≼ va 1) ∷ []) [] (va 2 ⊖ va 3) (va 0 ⊕ va 1) (hy 0 ⊞ hy 1) [] refl (h.0, (k.1, tt)) tt,
   order_r (a ∷ b ∷ p ∷ q ∷ []) ((ng (va 2) ≼ va 0) ∷ (va 3 ≼ va 1) ∷ []) [] (ng (va 2 ⊖ va 3)) (va 0 ⊕ va 1) (hy 0 ⊞ hy 1) [] refl (h.1, (k.0, tt)) tt,
 )
 
 -- 2 (a b - p q) = (a - p)(b + q) + (a + p)(b - q)
-pub size_mul : (a b p q : Rational) → IsAtMostInSize a p → IsAtMostInSize b q → IsAtMostInSize (mul_r a b) (mul_r p q)
+pub size_mul : (a b p q : Rational) → IsAtMostInSize a p → IsAtMostInSize b q → IsAtMostInSize (a *ʳ b) (p *ʳ q)
 size_mul a b p q h k =
     let values : List Rational = a ∷ b ∷ p ∷ q ∷ [] in
     let hypotheses : List Hy = (va 2 ≼ va 0) ∷ (ng (va 2) ≼ va 0) ∷ (va 3 ≼ va 1) ∷ (ng (va 3) ≼ va 1) ∷ [] in (
-      cancel_r (of_whole (pos 2)) (mul_r p q) (mul_r a b) (omega (arith, ints))
+      cancel_r (of_whole (pos 2)) (p *ʳ q) (a *ʳ b) (omega (arith, ints))
           (order_r values hypotheses [] (ko (pos 2) ⊗ (va 2 ⊗ va 3)) (ko (pos 2) ⊗ (va 0 ⊗ va 1)) (hy 0 ⊠ hy 3 ⊞ hy 1 ⊠ hy 2) [] refl (h.0, (h.1, (k.0, (k.1, tt)))) tt),
-      cancel_r (of_whole (pos 2)) (neg_r (mul_r p q)) (mul_r a b) (omega (arith, ints))
+      cancel_r (of_whole (pos 2)) (neg_r (p *ʳ q)) (a *ʳ b) (omega (arith, ints))
           (order_r values hypotheses [] (ko (pos 2) ⊗ ng (va 2 ⊗ va 3)) (ko (pos 2) ⊗ (va 0 ⊗ va 1)) (hy 0 ⊠ hy 2 ⊞ hy 1 ⊠ hy 3) [] refl (h.0, (h.1, (k.0, (k.1, tt)))) tt),
     )
 
@@ -59,7 +59,7 @@ pub size_looser : (a b p : Rational) → a ≤ʳ b → IsAtMostInSize a p → Is
 size_looser a b p l h = (≤ʳ_trans p a b h.0 l, ≤ʳ_trans (neg_r p) a b h.1 l)
 
 -- |p q| ≤ a and q ≥ c > 0 give |p| ≤ x, where a ≤ x c
-pub size_over : (a c x p q : Rational) → pos 0 <ℤ c.num → pos 0 ≤ℤ x.num → c ≤ʳ q → a ≤ʳ mul_r x c → IsAtMostInSize a (mul_r p q) → IsAtMostInSize x p
+pub size_over : (a c x p q : Rational) → pos 0 <ℤ c.num → pos 0 ≤ℤ x.num → c ≤ʳ q → a ≤ʳ x *ʳ c → IsAtMostInSize a (p *ʳ q) → IsAtMostInSize x p
 size_over a c x p q c0 x0 l m h =
     let values : List Rational = a ∷ c ∷ x ∷ p ∷ q ∷ [] in
     let hypotheses : List Hy = (va 1 ≼ va 4) ∷ (va 0 ≼ va 2 ⊗ va 1) ∷ (ko (pos 0) ≼ va 2) ∷ (va 3 ⊗ va 4 ≼ va 0) ∷ (ng (va 3 ⊗ va 4) ≼ va 0) ∷ [] in

@@ -12,7 +12,7 @@
 #![tactic(auto)]
 
 ghost use Rattle.std.specs.Prelude.{◌↔◌, ◌⊎◌, ℕ, List, ℤ, pos, ◌+ℤ◌, ◌*ℤ◌, ◌≤ℤ◌};
-ghost use Rattle.rational.specs.Rational.{Rational, ◌≈◌, ◌≤ʳ◌, ◌<ʳ◌, of_whole, of_scale, add_r, neg_r, sub_r, mul_r, InBox, Near};
+ghost use Rattle.rational.specs.Rational.{Rational, ◌≈◌, ◌≤ʳ◌, ◌<ʳ◌, of_whole, of_scale, ◌+ʳ◌, neg_r, ◌-ʳ◌, ◌*ʳ◌, InBox, Near};
 ghost use Rattle.rational.specs.Over.{Over, HasCommonDenominator};
 
 /// The order is total, and two rationals that are at most each other are equal.
@@ -27,8 +27,8 @@ pub fn order_laws()
 pub fn equality_laws()
     ensures symmetric { (p q : Rational) → p ≈ q → q ≈ p }
     ensures transitive { (p q r : Rational) → p ≈ q → q ≈ r → p ≈ r }
-    ensures sum { (p q r : Rational) → p ≈ q → add_r p r ≈ add_r q r }
-    ensures product { (p q r : Rational) → p ≈ q → mul_r p r ≈ mul_r q r }
+    ensures sum { (p q r : Rational) → p ≈ q → p +ʳ r ≈ q +ʳ r }
+    ensures product { (p q r : Rational) → p ≈ q → p *ʳ r ≈ q *ʳ r }
     ensures order { (p p' q q' : Rational) → p ≈ p' → q ≈ q' → p ≤ʳ q → p' ≤ʳ q' }
     ensures boxes { (scale : ℕ) (lo hi : ℤ) (p q : Rational) → p ≈ q → InBox scale lo hi p → InBox scale lo hi q }
     ensures near { (centre radius : ℤ) (p q : Rational) → p ≈ q → Near centre radius p → Near centre radius q }
@@ -36,25 +36,25 @@ pub fn equality_laws()
 
 /// The laws of sums and products.
 pub fn ring_laws()
-    ensures sum_commutes { (p q : Rational) → add_r p q ≈ add_r q p }
-    ensures sum_associates { (p q r : Rational) → add_r (add_r p q) r ≈ add_r p (add_r q r) }
-    ensures zero { (p : Rational) → add_r p (of_whole (pos 0)) ≈ p }
-    ensures negative { (p : Rational) → add_r p (neg_r p) ≈ of_whole (pos 0) }
-    ensures difference { (p q : Rational) → sub_r p q ≈ add_r p (neg_r q) }
-    ensures product_commutes { (p q : Rational) → mul_r p q ≈ mul_r q p }
-    ensures product_associates { (p q r : Rational) → mul_r (mul_r p q) r ≈ mul_r p (mul_r q r) }
-    ensures one { (p : Rational) → mul_r p (of_whole (pos 1)) ≈ p }
-    ensures distributive { (p q r : Rational) → mul_r p (add_r q r) ≈ add_r (mul_r p q) (mul_r p r) }
+    ensures sum_commutes { (p q : Rational) → p +ʳ q ≈ q +ʳ p }
+    ensures sum_associates { (p q r : Rational) → p +ʳ q +ʳ r ≈ p +ʳ (q +ʳ r) }
+    ensures zero { (p : Rational) → p +ʳ of_whole (pos 0) ≈ p }
+    ensures negative { (p : Rational) → p +ʳ neg_r p ≈ of_whole (pos 0) }
+    ensures difference { (p q : Rational) → p -ʳ q ≈ p +ʳ neg_r q }
+    ensures product_commutes { (p q : Rational) → p *ʳ q ≈ q *ʳ p }
+    ensures product_associates { (p q r : Rational) → p *ʳ q *ʳ r ≈ p *ʳ (q *ʳ r) }
+    ensures one { (p : Rational) → p *ʳ of_whole (pos 1) ≈ p }
+    ensures distributive { (p q r : Rational) → p *ʳ (q +ʳ r) ≈ p *ʳ q +ʳ p *ʳ r }
 {}
 
 /// Sums keep the order, products by what is not negative too, and whole numbers are ordered and added as before.
 pub fn ordered_ring_laws()
-    ensures sum { (p q r : Rational) → p ≤ʳ q → add_r p r ≤ʳ add_r q r }
-    ensures product { (p q r : Rational) → pos 0 ≤ℤ r.num → p ≤ʳ q → mul_r p r ≤ʳ mul_r q r }
-    ensures square { (p : Rational) → of_whole (pos 0) ≤ʳ mul_r p p }
+    ensures sum { (p q r : Rational) → p ≤ʳ q → p +ʳ r ≤ʳ q +ʳ r }
+    ensures product { (p q r : Rational) → pos 0 ≤ℤ r.num → p ≤ʳ q → p *ʳ r ≤ʳ q *ʳ r }
+    ensures square { (p : Rational) → of_whole (pos 0) ≤ʳ p *ʳ p }
     ensures whole_order { (a b : ℤ) → a ≤ℤ b → of_whole a ≤ʳ of_whole b }
-    ensures whole_sum { (a b : ℤ) → of_whole (a +ℤ b) ≈ add_r (of_whole a) (of_whole b) }
-    ensures whole_product { (a b : ℤ) → of_whole (a *ℤ b) ≈ mul_r (of_whole a) (of_whole b) }
+    ensures whole_sum { (a b : ℤ) → of_whole (a +ℤ b) ≈ of_whole a +ʳ of_whole b }
+    ensures whole_product { (a b : ℤ) → of_whole (a *ℤ b) ≈ of_whole a *ʳ of_whole b }
 {}
 
 /// A box holds what lies from its one end to the other, so it lies in each wider one.
@@ -67,6 +67,6 @@ pub fn box_laws()
 /// Finitely many rationals have a common denominator, over which sums are those of the numerators.
 pub fn common_denominator_laws()
     ensures exists { (qs : List Rational) → HasCommonDenominator qs }
-    ensures sum { (k m n : ℤ) (p q : Rational) → Over k m p → Over k n q → Over k (m +ℤ n) (add_r p q) }
-    ensures product { (j k m n : ℤ) (p q : Rational) → Over j m p → Over k n q → Over (j *ℤ k) (m *ℤ n) (mul_r p q) }
+    ensures sum { (k m n : ℤ) (p q : Rational) → Over k m p → Over k n q → Over k (m +ℤ n) (p +ʳ q) }
+    ensures product { (j k m n : ℤ) (p q : Rational) → Over j m p → Over k n q → Over (j *ℤ k) (m *ℤ n) (p *ʳ q) }
 {}

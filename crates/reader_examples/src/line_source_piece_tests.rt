@@ -2,8 +2,8 @@
 ghost use Rattle.std.specs.Prelude.{◌≡◌, length, None, ⊤};
 
 use line_source::{
-    Failed, FileId, Files, LoadFault, MAX_FILE, MAX_PIECE, MemFiles, Named, Opening, OpeningLog,
-    Taker, load, load_into,
+    Failed, FileId, Files, GivenLog, LoadFault, MAX_FILE, MAX_PIECE, MemFiles, Named, Opening,
+    OpeningLog, Reading, Taker, load, load_into,
 };
 use std::alloc::{AllocError, Global};
 use std::test::Fail;
@@ -52,6 +52,7 @@ impl Taker for Counted {
 struct LongFile {
     left: usize,
     openings: OpeningLog,
+    given: GivenLog,
 }
 
 impl LongFile {
@@ -59,6 +60,7 @@ impl LongFile {
         LongFile {
             left,
             openings: OpeningLog::new(),
+            given: GivenLog::new(),
         }
     }
 }
@@ -72,19 +74,24 @@ impl Files for LongFile {
 
     ghost openings = { λ s. s.openings.all };
 
+    ghost given = { λ s. s.given.all };
+
     ghost is_sure_name = { λ _ _. ⊤ };
 
     ghost is_sure_id = { λ _ _. ⊤ };
 
     fn open_file(&mut self, name: &str) -> Result<FileId, Failed> {
         let id = FileId(0);
-        self.openings = self.openings.and(&Opening { name, id });
+        let opening = Opening { name, id };
+        self.openings = self.openings.and(&opening);
+        self.given = self.given.opened(&opening);
         Ok(id)
     }
 
-    fn read(&mut self, _id: FileId, into: &mut [u8]) -> Result<usize, Failed> {
+    fn read(&mut self, id: FileId, into: &mut [u8]) -> Result<usize, Failed> {
         let count = into.len().min(self.left);
         self.left -= count;
+        self.given = self.given.gave(&Reading { into, id, count });
         Ok(count)
     }
 }

@@ -151,7 +151,7 @@ fn writes_to_sinks(rt: HostRuntime) -> Result<(), Fail> {
     assert_eq!(rt; put_all(&mut sink, b"abcd"), Ok(()));
     assert_eq!(rt; put_all(&mut sink, b"ef"), Err(WriteFault));
     assert_eq!(rt; sink.bytes(), b"abcde".as_slice());
-    assert_eq!(rt; put_all(&mut SureSink, b"abcd"), Ok(()));
+    assert_eq!(rt; put_all(&mut SureSink::new(), b"abcd"), Ok(()));
     let mut out = HostSink::new(rt.stdout());
     assert_eq!(rt; put_all(&mut out, b"text\n"), Ok(()));
     Ok(())

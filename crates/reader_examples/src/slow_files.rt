@@ -1,7 +1,7 @@
 //! Files that are read in small pieces.
 ghost use Rattle.std.specs.Prelude.{None};
 
-use line_source::{Failed, FileId, Files, Opening, OpeningLog};
+use line_source::{Failed, FileId, Files, GivenLog, Opening, OpeningLog, Reading};
 
 /// A file that gives at most `most` bytes a call, and whose calls fail once `reads` of them have given bytes.
 #[derive(Drop)]
@@ -12,6 +12,7 @@ pub struct Slow {
     reads: u64,
     faults: u64,
     openings: OpeningLog,
+    given: GivenLog,
 }
 
 impl Slow {
@@ -24,6 +25,7 @@ impl Slow {
             reads,
             faults: 0,
             openings: OpeningLog::new(),
+            given: GivenLog::new(),
         }
     }
 }
@@ -37,6 +39,8 @@ impl Files for Slow {
 
     ghost openings = { λ s. s.openings.all };
 
+    ghost given = { λ s. s.given.all };
+
     ghost is_sure_name = { λ _ _. ⊥ };
 
     ghost is_sure_id = { λ _ _. ⊥ };
@@ -44,11 +48,13 @@ impl Files for Slow {
     fn open_file(&mut self, name: &str) -> Result<FileId, Failed> {
         self.at = 0;
         let id = FileId(0);
-        self.openings = self.openings.and(&Opening { name, id });
+        let opening = Opening { name, id };
+        self.openings = self.openings.and(&opening);
+        self.given = self.given.opened(&opening);
         Ok(id)
     }
 
-    fn read(&mut self, _id: FileId, into: &mut [u8]) -> Result<usize, Failed> {
+    fn read(&mut self, id: FileId, into: &mut [u8]) -> Result<usize, Failed> {
         if self.reads == 0 || self.at > self.text.len() {
             self.faults = self.faults.saturating_add(1);
             return Err(Failed);
@@ -57,6 +63,7 @@ impl Files for Slow {
         let count = into.len().min(self.most).min(self.text.len() - self.at);
         into[..count].copy_from_slice(&self.text[self.at..self.at + count]);
         self.at += count;
+        self.given = self.given.gave(&Reading { into, id, count });
         Ok(count)
     }
 }

@@ -6,20 +6,11 @@ ghost use Rattle.report_text.specs.Orbit.{ends_of, ends_line, no_record_line, Ap
 use iv_core::Iv;
 use std::alloc::{AllocError, Global};
 use sv_orbit::SvBox;
-use whole_math::{ceil_shift, floor_shift};
+use whole_math::{ceil_shift, floor_shift, product};
 
 const MICROMETRES: i64 = 1_000_000;
 
 const FEMTOSECONDS: i64 = 1_000_000_000_000_000;
-
-fn product(end: i64, unit: i64) -> i128
-    requires end_size { unsigned_abs end ≤ 2 ^ 62 }
-    requires unit_size { unsigned_abs unit ≤ 2 ^ 62 }
-    ensures value { result ≡ end *ℤ unit }
-    ensures size { unsigned_abs result ≤ 2 ^ 124 }
-{
-    end as i128 * unit as i128
-}
 
 // The end of a box at 2^-scale in units of 1/unit, rounded down.
 fn low_end(end: i64, unit: i64, scale: u32) -> i128
@@ -28,7 +19,7 @@ fn low_end(end: i64, unit: i64, scale: u32) -> i128
     requires scale { scale ≤ 60 }
     ensures { result ≡ floor_div (end *ℤ unit) (2 ^ scale) }
 {
-    floor_shift(product(end, unit), scale)
+    floor_shift(product::<62, 62>(end, unit), scale)
 }
 
 // The end of a box at 2^-scale in units of 1/unit, rounded up.
@@ -38,7 +29,7 @@ fn high_end(end: i64, unit: i64, scale: u32) -> i128
     requires scale { scale ≤ 60 }
     ensures { result ≡ ceil_div (end *ℤ unit) (2 ^ scale) }
 {
-    ceil_shift(product(end, unit), scale)
+    ceil_shift(product::<62, 62>(end, unit), scale)
 }
 
 fn write_axis(alloc: Global, out: &mut Vec<u8>, name: &str, held: &Iv<36>) -> Result<(), AllocError>

@@ -1,4 +1,4 @@
--- A round ends in one way, but where a search gave up.
+-- A round ends in one way.
 use Rattle.std.proofs.Common.{◌≡◌, ◌-◌, ◌<◌, ◌≤◌, inl, inr, ℕ, ℤ, Bool, true, false, nat_eq, List, [], ◌∷◌, Ok, unsigned_abs, arith, refl, sym, ap, ◌∙◌, subst}
 use Rattle.std.proofs.lemmas.Bool.{true≢false}
 use Rattle.quadratic_form.specs.Forms.{Column}
@@ -19,7 +19,7 @@ use Rattle.cert_data.specs.declared.tails.Tail.{Tail}
 use Rattle.cert_data.specs.declared.tails.Tail.TheVariants.{Fixed, Unseparated, Weak, Overwidth, Unsettled, Spent}
 use Rattle.cert_data.specs.declared.outcomes.RoundCounts.{RoundCounts}
 use Rattle.cert_check.specs.Settled.{IsRefused, tail_of}
-use Rattle.cert_check.specs.RowDecisions.{IsRowDecision, IsSameDecision}
+use Rattle.cert_check.specs.RowDecisions.{IsRowDecision, IsSameTail}
 use Rattle.cert_check.proofs.Apart.{same_refusal, no_form}
 use Rattle.cert_check.proofs.OneDecision.{equal, one_decision}
 use Rattle.round_steps.specs.declared.steps.Step.TheVariants.{Moved}
@@ -106,7 +106,7 @@ round_ends last s ratio budget t (inr is) = decided is
 pub rows_decided : (s : Session) (ratio budget : ℕ) (t : Tail) → IsRoundDecided s ratio budget t → IsRowDecision s ratio budget t
 rows_decided s ratio budget t is = inr (record { form = is.form; of_rows = is.settled.of_rows; decision = is.decision })
 
-pair_up : (last : Bool) (s : Session) (ratio budget : ℕ) (t u : Tail) → Ends last s ratio budget t → Ends last s ratio budget u → IsSameDecision t u
+pair_up : (last : Bool) (s : Session) (ratio budget : ℕ) (t u : Tail) → Ends last s ratio budget t → Ends last s ratio budget u → IsSameTail t u
 pair_up last s r n t u (refused why a is) (refused too b is_too) = equal t u (tail_of too) (is ∙ ap tail_of (same_refusal s why too a b)) is_too
 pair_up last s r n t u (refused why a is) (too_wide b is_too) = absurd (no_form s why b.form a b.of_rows)
 pair_up last s r n t u (refused why a is) (out_of_reach goes_on b is_too) = absurd (no_form s why b.unsettled.float.form a b.unsettled.float.of_rows)

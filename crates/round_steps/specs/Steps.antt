@@ -9,7 +9,7 @@ use Rattle.fix_decide.specs.Decisions.{IsFormOf}
 use Rattle.cert_data.specs.declared.tails.Tail.{Tail}
 use Rattle.cert_data.specs.declared.tails.Tail.TheVariants.{Fixed, Unseparated, Weak, Overwidth, Unsettled, Spent}
 use Rattle.cert_check.specs.Settled.{IsRefused, IsDecision}
-use Rattle.cert_check.specs.RowDecisions.{IsSameDecision}
+use Rattle.cert_check.specs.RowDecisions.{IsSameTail}
 use Rattle.round_steps.specs.declared.steps.Step.{Step}
 use Rattle.round_steps.specs.declared.steps.Step.TheVariants.{Settled, Moved}
 use Rattle.obs_rows.specs.ReceiverPoints.{IsReceiverPoint}
@@ -86,9 +86,9 @@ pub record IsRoundDecided (s : Session) (ratio budget : ℕ) (tail : Tail) : Typ
 abbrev pub IsRoundEnd : Bool → Session → ℕ → ℕ → Tail → Type 0
 IsRoundEnd last s ratio budget tail = IsRoundDeclined last s tail ⊎ IsRoundDecided s ratio budget tail
 
--- A fine round ends the run with this tail and with no other, but where a search gave up, and doesn't move the point. `last` says
+-- A fine round ends the run with this tail and with no other, and doesn't move the point. `last` says
 -- that no further round at its scale is allowed.
 pub record IsOnlyEnd (last : Bool) (s : Session) (ratio budget : ℕ) (tail : Tail) : Type 0 where
   pub ends : IsRoundEnd last s ratio budget tail
-  pub only : (t : Tail) → IsRoundEnd last s ratio budget t → IsSameDecision t tail
+  pub only : (t : Tail) → IsRoundEnd last s ratio budget t → IsSameTail t tail
   pub stays : (point numbers : List ℤ) → IsStep last s (Moved point numbers) → ⊥

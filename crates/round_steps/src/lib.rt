@@ -3,7 +3,7 @@
 //! `run` takes what gives the sessions of a run (a `Rounds`) and answers how the run of rounds ends and how many
 //! rounds it had (`RunEnd`): the first round is coarse and at the base, each round leads to the next by the rules, in
 //! every run at most ten are coarse and at most six fine, and the last one ends the run as it has to (clause `end`), on a
-//! fine session in one way alone, but where a search gave up (`IsOnlyEnd`).
+//! fine session in one way alone (`IsOnlyEnd`).
 //! For each round one session is made, and no other (`made`; `Rounds` counts them).
 //! On a fine session its tail is one that a certificate may have (`fits`), and where it says fixed, the integers with
 //! their move are strictly best for all data (`strictly_best`). `coarse_rounds` makes the coarse rounds alone.

@@ -8,7 +8,7 @@ use Rattle.whole_math.proofs.IntLaws.{mul_one_ℤ}
 use Rattle.whole_math.proofs.Ring.{◌⊗◌}
 use Rattle.whole_math.proofs.Order.{lins, mul_le_right}
 use Rattle.whole_math.proofs.Inequalities.{same_by, pos_nn, le_refl_ℤ, le_eq}
-use Rattle.rational.specs.Rational.{Rational, of_whole, sub_r, mul_r, divided, InBox, Near}
+use Rattle.rational.specs.Rational.{Rational, of_whole, ◌-ʳ◌, ◌*ʳ◌, divided, InBox, Near}
 use Rattle.rational.proofs.Boxes.{wider}
 use Rattle.iv_core.proofs.SumLaws.{sub_holds}
 use Rattle.obs_rows.specs.Ranges.{IsScale}
@@ -37,7 +37,7 @@ times_high a x n k d n0 h = step ((x *ℤ k) *ℤ n) ((a *ℤ d) *ℤ n) ((n *�
     step : (p q r s : ℤ) → p ≤ℤ q → r ≡ p → s ≡ q → r ≤ℤ s
     step p q r s h e f = omega (arith, lins)
 
-of_light : (lo hi : ℤ) (t : Rational) → InBox 60 lo hi t → InBox 60 (lo *ℤ LIGHT_SPEED) (hi *ℤ LIGHT_SPEED) (mul_r light_speed t)
+of_light : (lo hi : ℤ) (t : Rational) → InBox 60 lo hi t → InBox 60 (lo *ℤ LIGHT_SPEED) (hi *ℤ LIGHT_SPEED) (light_speed *ʳ t)
 of_light lo hi t h = (
   times_low lo t.num LIGHT_SPEED (pos (2 ^ 60)) (pos (1 * t.den)) (pos_nn (unsigned_abs LIGHT_SPEED)) (rw (one t.den) h.0),
   times_high hi t.num LIGHT_SPEED (pos (2 ^ 60))
@@ -74,8 +74,8 @@ pub pseudorange_holds : (rl rh tl th f g : ℤ) (r t : Rational) →
     IsCeil (((rh *ℤ pos (2 ^ 24)) -ℤ (tl *ℤ LIGHT_SPEED)) *ℤ pos METRE_UNITS) (HALF_LIGHT_SPEED * 2 ^ 39) g →
     InBox 36 rl rh r → InBox 60 tl th t → InBox iota_exponent f g (pseudorange r t)
 pseudorange_holds rl rh tl th f g r t k l h i =
-    scaled_box 60 15 ((rl *ℤ pos (2 ^ 24)) -ℤ (th *ℤ LIGHT_SPEED)) ((rh *ℤ pos (2 ^ 24)) -ℤ (tl *ℤ LIGHT_SPEED)) (pos METRE_UNITS) f g (HALF_LIGHT_SPEED * 2 ^ 39) metre (sub_r r (mul_r light_speed t))
-    (lit< tt) (pos_nn METRE_UNITS) refl k l (sub_holds 60 (rl *ℤ pos (2 ^ 24)) (rh *ℤ pos (2 ^ 24)) (tl *ℤ LIGHT_SPEED) (th *ℤ LIGHT_SPEED) r (mul_r light_speed t) (finer rl rh r h) (of_light tl th t i))
+    scaled_box 60 15 ((rl *ℤ pos (2 ^ 24)) -ℤ (th *ℤ LIGHT_SPEED)) ((rh *ℤ pos (2 ^ 24)) -ℤ (tl *ℤ LIGHT_SPEED)) (pos METRE_UNITS) f g (HALF_LIGHT_SPEED * 2 ^ 39) metre (r -ʳ light_speed *ʳ t)
+    (lit< tt) (pos_nn METRE_UNITS) refl k l (sub_holds 60 (rl *ℤ pos (2 ^ 24)) (rh *ℤ pos (2 ^ 24)) (tl *ℤ LIGHT_SPEED) (th *ℤ LIGHT_SPEED) r (light_speed *ʳ t) (finer rl rh r h) (of_light tl th t i))
 
 -- ---- observed
 whole_in : (a : ℤ) → InBox 0 a a (of_whole a)
@@ -84,14 +84,14 @@ whole_in a = (le_refl_ℤ (a *ℤ pos 1), le_refl_ℤ (a *ℤ pos 1))
 pub observed_code : (s : ℕ) (a f g : ℤ) → IsTrue (not (is_phase s)) → IsFloor (a *ℤ MILLIMETRE_UNITS) HALF_LIGHT_SPEED f → IsCeil (a *ℤ MILLIMETRE_UNITS) HALF_LIGHT_SPEED g → InBox iota_exponent f g (observed s a)
 observed_code s a f g c k l = by_kind (is_phase s) c
   where
-    by_kind : (b : Bool) → IsTrue (not b) → InBox iota_exponent f g (mul_r (cond b (divided (of_whole (wavelength s)) 1000 (lit< tt)) (divided metre 1000 (lit< tt))) (of_whole a))
+    by_kind : (b : Bool) → IsTrue (not b) → InBox iota_exponent f g (cond b (divided (of_whole (wavelength s)) 1000 (lit< tt)) (divided metre 1000 (lit< tt)) *ʳ of_whole a)
     by_kind true h = absurd (false≢true h)
     by_kind false h = scaled_box 0 15 a a MILLIMETRE_UNITS f g HALF_LIGHT_SPEED (divided metre 1000 (lit< tt)) (of_whole a) (lit< tt) (pos_nn 35620120166400) refl k l (whole_in a)
 
 -- ---- observed less computed
 pub prefit_holds : (hl hh bl bh rl rh : ℤ) (o b r : Rational) → InBox iota_exponent hl hh o → InBox iota_exponent bl bh b
-    → InBox iota_exponent rl rh r → InBox iota_exponent (hl -ℤ (rh -ℤ bl)) (hh -ℤ (rl -ℤ bh)) (sub_r o (sub_r r b))
-prefit_holds hl hh bl bh rl rh o b r h i j = sub_holds 15 hl hh (rl -ℤ bh) (rh -ℤ bl) o (sub_r r b) h (sub_holds 15 rl rh bl bh r b j i)
+    → InBox iota_exponent rl rh r → InBox iota_exponent (hl -ℤ (rh -ℤ bl)) (hh -ℤ (rl -ℤ bh)) (o -ʳ (r -ʳ b))
+prefit_holds hl hh bl bh rl rh o b r h i j = sub_holds 15 hl hh (rl -ℤ bh) (rh -ℤ bl) o (r -ʳ b) h (sub_holds 15 rl rh bl bh r b j i)
 
 -- ---- in the unit of a row
 unit_is : (s : ℕ) → IsScale s → (pos 1 *ℤ pos (2 ^ s)) *ℤ pos (2 ^ 15) ≡ (pos (2 ^ ROW_EXPONENT) *ℤ pos (2 ^ 0)) *ℤ pos (2 ^ (s + 2))
@@ -116,12 +116,12 @@ pub record AreYEnds (s : ℕ) (lo hi w c r : ℤ) : Type 0 where
   pub bottom : (c -ℤ r) ≤ℤ floor_div (lo -ℤ (w *ℤ pos 32768)) (2 ^ (s + 2))
   pub half : (pos 2 *ℤ r) ≤ℤ ((ceil_div (hi -ℤ (w *ℤ pos 32768)) (2 ^ (s + 2)) -ℤ floor_div (lo -ℤ (w *ℤ pos 32768)) (2 ^ (s + 2))) +ℤ pos 1)
 
-pub y_holds : (s : ℕ) (lo hi w c r : ℤ) (q : Rational) → AreYEnds s lo hi w c r → InBox iota_exponent lo hi q → Near c r (in_row_unit s (sub_r q (of_whole w)))
+pub y_holds : (s : ℕ) (lo hi w c r : ℤ) (q : Rational) → AreYEnds s lo hi w c r → InBox iota_exponent lo hi q → Near c r (in_row_unit s (q -ʳ of_whole w))
 y_holds s lo hi w c r q a h =
     let e : ℕ = 2 ^ (s + 2) in
     let l : ℤ = lo -ℤ (w *ℤ pos 32768) in
     let u : ℤ = hi -ℤ (w *ℤ pos 32768) in
-    let x : Rational = sub_r q (of_whole w) in
+    let x : Rational = q -ʳ of_whole w in
     wider 0 (floor_div l e) (ceil_div u e) (c -ℤ r) (c +ℤ r) (in_row_unit s x) a.bottom (le_eq (sym a.top))
     (scaled_box 15 0 l u (pos 1) (floor_div l e) (ceil_div u e) e (row_unit s) x (pow_pos (s + 2)) (pos_nn 1) (unit_is s a.scale)
     (rw (mul_one_ℤ l) (floor_is l e (pow_pos (s + 2)))) (rw (mul_one_ℤ u) (ceil_is u e (pow_pos (s + 2))))

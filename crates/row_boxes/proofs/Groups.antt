@@ -5,7 +5,7 @@ use Rattle.whole_math.proofs.Ring.{va, ko, ng, ◌⊕◌, ◌⊖◌, ◌⊗◌}
 use Rattle.whole_math.proofs.Order.{mul_le_right, mul_le_cancel}
 use Rattle.whole_math.proofs.Inequalities.{same_by, pos_nn}
 use Rattle.whole_math.proofs.IntLaws.{neg_mul_ℤ, mul_comm_ℤ}
-use Rattle.rational.specs.Rational.{Rational, ◌≈◌, of_whole, sub_r, Near}
+use Rattle.rational.specs.Rational.{Rational, ◌≈◌, of_whole, ◌-ʳ◌, Near}
 use Rattle.rational.proofs.Laws.{≤ʳ_along}
 use Rattle.rational.proofs.Boxes.{Near-along}
 use Rattle.rational.proofs.Orders.{equal_r, ◌≐◌}
@@ -56,9 +56,9 @@ meets_one scale c r q h n = (
 
 -- ---- another group of a row is at most 2 away
 moved_in_rows : (scale s : ℕ) (amount group other shift : ℤ) (base rover : Sighting) → y_in_rows scale s amount other shift base rover ≈ in_row_unit scale
-    (sub_r (y_of s amount group shift base rover) (of_whole (other -ℤ group)))
+    (y_of s amount group shift base rover -ʳ of_whole (other -ℤ group))
 moved_in_rows scale s amount group other shift base rover =
-    equal_r (row_unit scale ∷ sub_r (observed s amount) (computed base rover) ∷ of_whole group ∷ of_whole other ∷ of_whole (wavelength s *ℤ shift) ∷ of_whole (other -ℤ group) ∷ [])
+    equal_r (row_unit scale ∷ (observed s amount -ʳ computed base rover) ∷ of_whole group ∷ of_whole other ∷ of_whole (wavelength s *ℤ shift) ∷ of_whole (other -ℤ group) ∷ [])
     ((va 3 ≐ va 2 ⊕ va 5) ∷ []) (ng (va 0) ∷ []) (va 0 ⊗ ((va 1 ⊖ va 3) ⊖ va 4)) (va 0 ⊗ (((va 1 ⊖ va 2) ⊖ va 4) ⊖ va 5)) refl
     (whole_sum other group (other -ℤ group) (sum other group), tt)
   where
@@ -110,8 +110,8 @@ row_close p amount group other a has near =
     let are_sightings : AreSightings p base_sighting rover_sighting = record { base_is = has.base.is; rover_is = has.rover.is } in
     let q : Rational = y_of 2 amount group (pos 0) base_sighting rover_sighting in
     let within_half : IsWithinHalf (pos 1) q = near base_sighting rover_sighting are_sightings in
-    let is_near : Near a.centre a.radius (in_row_unit 0 (sub_r q (of_whole (other -ℤ group)))) = Near-along a.centre a.radius (y_in_rows 0 2 amount other (pos 0) base_sighting rover_sighting)
-    (in_row_unit 0 (sub_r q (of_whole (other -ℤ group)))) (moved_in_rows 0 2 amount group other (pos 0) base_sighting rover_sighting) (a.holds base_sighting rover_sighting are_sightings) in
+    let is_near : Near a.centre a.radius (in_row_unit 0 (q -ʳ of_whole (other -ℤ group))) = Near-along a.centre a.radius (y_in_rows 0 2 amount other (pos 0) base_sighting rover_sighting)
+    (in_row_unit 0 (q -ʳ of_whole (other -ℤ group))) (moved_in_rows 0 2 amount group other (pos 0) base_sighting rover_sighting) (a.holds base_sighting rover_sighting are_sightings) in
     close a.centre a.radius q.num (other -ℤ group) q.den q.positive a.narrow a.meets.0 a.meets.1 is_near.0 is_near.1 within_half.0 within_half.1
 
 -- ---- a first shift under another group of a row
@@ -147,6 +147,6 @@ shift_within s amount group other shift b r l c h =
     let k : ℤ = other -ℤ group in
     let shift_is_within = within (wavelength s) q.num k q.den l c.0 c.1 h.0 h.1 in
     let same_row_amount = group_moved s amount group other shift b r in (
-      ≤ʳ_along (of_whole (neg_ℤ (wavelength s))) (of_whole (neg_ℤ (wavelength s))) (sub_r q (of_whole k)) (y_of s amount other shift b r) refl same_row_amount shift_is_within.0,
-      ≤ʳ_along (sub_r q (of_whole k)) (y_of s amount other shift b r) (of_whole (wavelength s)) (of_whole (wavelength s)) same_row_amount refl shift_is_within.1,
+      ≤ʳ_along (of_whole (neg_ℤ (wavelength s))) (of_whole (neg_ℤ (wavelength s))) (q -ʳ of_whole k) (y_of s amount other shift b r) refl same_row_amount shift_is_within.0,
+      ≤ʳ_along (q -ʳ of_whole k) (y_of s amount other shift b r) (of_whole (wavelength s)) (of_whole (wavelength s)) same_row_amount refl shift_is_within.1,
     )

@@ -7,7 +7,7 @@ use Rattle.whole_math.specs.Rounding.{IsNearest}
 use Rattle.whole_math.proofs.Ring.{va, ko, ng, ◌⊕◌, ◌⊖◌, ◌⊗◌}
 use Rattle.whole_math.proofs.Order.{lins, mul_le_right}
 use Rattle.whole_math.proofs.Inequalities.{same_by, pos_nn, pos_one}
-use Rattle.rational.specs.Rational.{Rational, ◌≈◌, ◌<ʳ◌, of_whole, add_r, sub_r, InBox, Near}
+use Rattle.rational.specs.Rational.{Rational, ◌≈◌, ◌<ʳ◌, of_whole, ◌+ʳ◌, ◌-ʳ◌, InBox, Near}
 use Rattle.rational.proofs.Boxes.{wider}
 use Rattle.rational.proofs.Orders.{equal_r, ◌≐◌}
 use Rattle.iv_core.proofs.SumLaws.{sub_holds}
@@ -24,32 +24,32 @@ use Rattle.obs_rows.specs.declared.units.TheConstants.{SIGNALS}
 
 -- observed less the difference of two pseudoranges
 abbrev pub less_pseudoranges : ℕ → ℤ → Sighting → Sighting → Rational
-less_pseudoranges s amount base rover = sub_r (observed s amount) (sub_r (pseudorange (range_of rover.travel) rover.clock) (pseudorange (range_of base.travel) base.clock))
+less_pseudoranges s amount base rover = observed s amount -ʳ (pseudorange (range_of rover.travel) rover.clock -ʳ pseudorange (range_of base.travel) base.clock)
 
-pub whole_sum : (w g k : ℤ) → w ≡ g +ℤ k → of_whole w ≈ add_r (of_whole g) (of_whole k)
+pub whole_sum : (w g k : ℤ) → w ≡ g +ℤ k → of_whole w ≈ of_whole g +ʳ of_whole k
 whole_sum w g k e = omega (arith, ints)
 
 -- ---- one whole number in place of the group and the shift
 pub y_is : (s : ℕ) (amount group shift w : ℤ) (base rover : Sighting) → w ≡ group +ℤ (wavelength s *ℤ shift) →
-    sub_r (less_pseudoranges s amount base rover) (of_whole w) ≈ y_of s amount group shift base rover
+    less_pseudoranges s amount base rover -ʳ of_whole w ≈ y_of s amount group shift base rover
 y_is s amount group shift w base rover e =
-    equal_r (observed s amount ∷ sub_r (pseudorange (range_of rover.travel) rover.clock) (pseudorange (range_of base.travel) base.clock) ∷ computed base rover ∷ of_whole group ∷ of_whole
+    equal_r (observed s amount ∷ (pseudorange (range_of rover.travel) rover.clock -ʳ pseudorange (range_of base.travel) base.clock) ∷ computed base rover ∷ of_whole group ∷ of_whole
     (wavelength s *ℤ shift) ∷ of_whole w ∷ [])
     ((va 1 ≐ va 2) ∷ (va 5 ≐ va 3 ⊕ va 4) ∷ []) (ng (ko (pos 1)) ∷ ng (ko (pos 1)) ∷ []) ((va 0 ⊖ va 1) ⊖ va 5) (((va 0 ⊖ va 2) ⊖ va 3) ⊖ va 4) refl
     (computed_is (range_of rover.travel) (range_of base.travel) rover.clock base.clock, (whole_sum w group (wavelength s *ℤ shift) e, tt))
 
 pub y_in_rows_is : (scale s : ℕ) (amount group shift w : ℤ) (base rover : Sighting) → w ≡ group +ℤ (wavelength s *ℤ shift) →
-    in_row_unit scale (sub_r (less_pseudoranges s amount base rover) (of_whole w)) ≈ y_in_rows scale s amount group shift base rover
+    in_row_unit scale (less_pseudoranges s amount base rover -ʳ of_whole w) ≈ y_in_rows scale s amount group shift base rover
 y_in_rows_is scale s amount group shift w base rover e =
-    equal_r (row_unit scale ∷ observed s amount ∷ sub_r (pseudorange (range_of rover.travel) rover.clock)
-    (pseudorange (range_of base.travel) base.clock) ∷ computed base rover ∷ of_whole group ∷ of_whole (wavelength s *ℤ shift) ∷ of_whole w ∷ [])
+    equal_r (row_unit scale ∷ observed s amount ∷ (pseudorange (range_of rover.travel) rover.clock -ʳ
+    pseudorange (range_of base.travel) base.clock) ∷ computed base rover ∷ of_whole group ∷ of_whole (wavelength s *ℤ shift) ∷ of_whole w ∷ [])
     ((va 2 ≐ va 3) ∷ (va 6 ≐ va 4 ⊕ va 5) ∷ []) (ng (va 0) ∷ ng (va 0) ∷ []) (va 0 ⊗ ((va 1 ⊖ va 2) ⊖ va 6)) (va 0 ⊗ (((va 1 ⊖ va 3) ⊖ va 4) ⊖ va 5)) refl
     (computed_is (range_of rover.travel) (range_of base.travel) rover.clock base.clock, (whole_sum w group (wavelength s *ℤ shift) e, tt))
 
 -- another group
-pub group_moved : (s : ℕ) (amount group other shift : ℤ) (base rover : Sighting) → sub_r (y_of s amount group shift base rover) (of_whole (other -ℤ group)) ≈ y_of s amount other shift base rover
+pub group_moved : (s : ℕ) (amount group other shift : ℤ) (base rover : Sighting) → y_of s amount group shift base rover -ʳ of_whole (other -ℤ group) ≈ y_of s amount other shift base rover
 group_moved s amount group other shift base rover =
-    equal_r (sub_r (observed s amount) (computed base rover) ∷ of_whole group ∷ of_whole other ∷ of_whole (wavelength s *ℤ shift) ∷ of_whole (other -ℤ group) ∷ [])
+    equal_r ((observed s amount -ʳ computed base rover) ∷ of_whole group ∷ of_whole other ∷ of_whole (wavelength s *ℤ shift) ∷ of_whole (other -ℤ group) ∷ [])
     ((va 2 ≐ va 1 ⊕ va 4) ∷ []) (ko (pos 1) ∷ []) (((va 0 ⊖ va 1) ⊖ va 3) ⊖ va 4) ((va 0 ⊖ va 2) ⊖ va 3) refl
     (whole_sum other group (other -ℤ group) (sum other group), tt)
   where
@@ -82,8 +82,8 @@ half_cycle lo hi g k n m e h i =
     high x y t e f h k = omega (arith, ints)
 
 pub within_half : (n lo hi w : ℤ) (q : Rational) →
-    (neg_ℤ (n *ℤ pos (2 ^ 14)) ≤ℤ (lo -ℤ (w *ℤ pos 32768))) × ((hi -ℤ (w *ℤ pos 32768)) ≤ℤ ((n *ℤ pos (2 ^ 14)) +ℤ prefit_width)) → InBox iota_exponent lo hi q → IsWithinHalf n (sub_r q (of_whole w))
-within_half n lo hi w q h i = wider 15 (lo -ℤ (w *ℤ pos 32768)) (hi -ℤ (w *ℤ pos 32768)) (neg_ℤ (n *ℤ pos (2 ^ 14))) ((n *ℤ pos (2 ^ 14)) +ℤ prefit_width) (sub_r q (of_whole w)) h.0 h.1
+    (neg_ℤ (n *ℤ pos (2 ^ 14)) ≤ℤ (lo -ℤ (w *ℤ pos 32768))) × ((hi -ℤ (w *ℤ pos 32768)) ≤ℤ ((n *ℤ pos (2 ^ 14)) +ℤ prefit_width)) → InBox iota_exponent lo hi q → IsWithinHalf n (q -ʳ of_whole w)
+within_half n lo hi w q h i = wider 15 (lo -ℤ (w *ℤ pos 32768)) (hi -ℤ (w *ℤ pos 32768)) (neg_ℤ (n *ℤ pos (2 ^ 14))) ((n *ℤ pos (2 ^ 14)) +ℤ prefit_width) (q -ʳ of_whole w) h.0 h.1
     (sub_holds 15 lo hi (w *ℤ pos 32768) (w *ℤ pos 32768) q (of_whole w) i (whole_at w))
 
 -- ---- what lies in a box whose centre is far out

@@ -1,7 +1,7 @@
 //! Observed less computed.
 ghost use Rattle.std.specs.Prelude.{IsTrue, not, ◌≡◌, ◌+◌, ◌*◌, ◌^◌, ◌<◌, ◌≤◌, pos, ◌+ℤ◌, ◌-ℤ◌, ◌*ℤ◌, ◌≤ℤ◌, unsigned_abs};
 ghost use Rattle.whole_math.specs.Rounding.{IsFloor, IsCeil};
-ghost use Rattle.rational.specs.Rational.{Rational, InBox, sub_r};
+ghost use Rattle.rational.specs.Rational.{Rational, InBox, ◌-ʳ◌};
 ghost use Rattle.obs_rows.specs.declared.units.TheConstants.{SIGNALS};
 ghost use Rattle.obs_rows.specs.Signals.{wavelength, is_phase};
 ghost use Rattle.row_boxes.specs.declared.pseudoranges.TheConstants.{HALF_LIGHT_SPEED};
@@ -205,7 +205,7 @@ pub fn prefit_of(signal: usize, amount: i64, base: &Pseudorange, rover: &Pseudor
     requires signal { signal < SIGNALS }
     requires size { unsigned_abs amount < 2 ^ 48 }
     ensures holds { (b r : Rational) → InBox iota_exponent base.now.lo base.now.hi b → InBox iota_exponent rover.now.lo rover.now.hi r →
-        InBox iota_exponent result.lo result.hi (sub_r (observed signal amount) (sub_r r b)) }
+        InBox iota_exponent result.lo result.hi (observed signal amount -ʳ (r -ʳ b)) }
     ensures phase { IsTrue (is_phase signal) → 1000 * unsigned_abs result.lo ≤ unsigned_abs (wavelength signal) * 2 ^ 63 + 1000 * 2 ^ 57 }
     ensures code { IsTrue (not (is_phase signal)) → unsigned_abs amount < 2 ^ 37 → unsigned_abs result.lo ≤ 2 ^ 57 }
 {

@@ -1,6 +1,6 @@
 //! The y boxes of rows, and the group of a pair.
 ghost use Rattle.std.specs.Prelude.{◌≡◌, ◌+◌, ◌^◌, ◌<◌, ◌≤◌, pos, ◌+ℤ◌, ◌-ℤ◌, ◌*ℤ◌, ◌≤ℤ◌, unsigned_abs, IfSome, None};
-ghost use Rattle.rational.specs.Rational.{Rational, InBox, Near, of_whole, sub_r};
+ghost use Rattle.rational.specs.Rational.{Rational, InBox, Near, of_whole, ◌-ʳ◌};
 ghost use Rattle.obs_rows.specs.Ranges.{IsScale};
 ghost use Rattle.row_boxes.specs.Terms.{y_width, in_row_unit, iota_exponent};
 ghost use Rattle.row_boxes.specs.YBoxes.{most_radius};
@@ -75,7 +75,7 @@ pub fn y_box(prefit: &Prefit, whole: i64, scale: u32) -> YBox
     requires whole { unsigned_abs whole ≤ 2 ^ 51 }
     requires scale { IsScale scale }
     ensures holds { (q : Rational) → InBox iota_exponent prefit.now.lo prefit.now.hi q →
-        Near result.centre result.radius (in_row_unit scale (sub_r q (of_whole whole))) }
+        Near result.centre result.radius (in_row_unit scale (q -ʳ of_whole whole)) }
     ensures radius { result.radius ≤ℤ most_radius scale }
 {
     let bits = coarser_by(scale);

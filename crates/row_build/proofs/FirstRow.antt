@@ -3,7 +3,7 @@ use Rattle.std.proofs.Common.{◌≡◌, ℕ, Bool, true, false, cond, Some, All
 use Rattle.std.specs.Prelude.{slice_get, ◌==◌}
 use Rattle.std.proofs.lemmas.Option.{same_Some}
 use Rattle.whole_math.proofs.IntLaws.{zero_mul_ℤ}
-use Rattle.rational.specs.Rational.{of_whole, sub_r}
+use Rattle.rational.specs.Rational.{of_whole, ◌-ʳ◌}
 use Rattle.obs_rows.specs.declared.arcs.Arc.{Arc}
 use Rattle.obs_rows.specs.declared.rows.Row.{Row}
 use Rattle.obs_rows.specs.declared.bands.Signals.{Signals}
@@ -42,7 +42,7 @@ code_counts P signals scale = by_scale (scale == 0)
 
 -- a code has no shift
 no_shift : (amount group shift : ℤ) (b r : Sighting) → IsWithinHalf (pos 1) (y_of 2 amount group (pos 0) b r) → IsWithinHalf (pos 1) (y_of 2 amount group shift b r)
-no_shift amount group shift b r h = subst (λ (z : ℤ). IsWithinHalf (pos 1) (sub_r (sub_r (sub_r (observed 2 amount) (computed b r)) (of_whole group)) (of_whole z)))
+no_shift amount group shift b r h = subst (λ (z : ℤ). IsWithinHalf (pos 1) (observed 2 amount -ʳ computed b r -ʳ of_whole group -ʳ of_whole z))
     (zero_mul_ℤ (pos 0) ∙ sym (zero_mul_ℤ shift)) h
 
 pub first_meets : (used : List UsedPair) (t : RowSetting) (pair : ℕ) (group : ℤ) (r : Row) (f : SvPair) → places_of t.boxes ≡ entries_of used → All IsInRange used →

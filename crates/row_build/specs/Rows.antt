@@ -1,6 +1,6 @@
 -- What a row of an arc in a pair says.
 use Rattle.std.specs.Prelude.{◌≡◌, ℕ, ◌^◌, Some, List, All, slice_get, ℤ, pos, ◌≤ℤ◌}
-use Rattle.rational.specs.Rational.{Rational, of_whole, mul_r, Near}
+use Rattle.rational.specs.Rational.{Rational, of_whole, ◌*ʳ◌, Near}
 use Rattle.sv_orbit.specs.declared.place.SvBox.{SvBox}
 use Rattle.orbit_model.specs.SeenPlaces.{Place, IsDisplacement, IsMeanDirection}
 use Rattle.obs_rows.specs.declared.arcs.Arc.{Arc}
@@ -45,7 +45,7 @@ pairing_of t v = seen_by v t.base t.point
 
 -- a coordinate of a direction, in 2^-24, is in the box in its place
 abbrev pub IsInU : ℕ → List ℤ → List ℤ → Rational → Type 0
-IsInU i u ru q = Near (number_at u i) (number_at ru i) (mul_r (of_whole (pos (2 ^ DIRECTION_EXPONENT))) q)
+IsInU i u ru q = Near (number_at u i) (number_at ru i) (of_whole (pos (2 ^ DIRECTION_EXPONENT)) *ʳ q)
 
 -- the boxes hold the mean direction from the point, for every place where the satellite may be seen and every displacement
 abbrev pub HoldsU : SvBox → List ℤ → List ℤ → List ℤ → Type 0

@@ -3,6 +3,7 @@ use Rattle.std.proofs.Common.{◌≡◌, ◌≢◌, inl, inr, ℕ, List, [], ◌
 use Rattle.std.specs.Io.KnownBytes.{Appends}
 use Rattle.line_source.specs.Causes.{Rose}
 use Rattle.line_source.specs.Openings.{OpensFirst}
+use Rattle.line_source.specs.Givens.{GivesFirst}
 use Rattle.obs_store.specs.declared.file.ObsFile.{ObsFile}
 use Rattle.eph_store.specs.File.{Records}
 use Rattle.rinex_head.specs.declared.system.System.{System}
@@ -14,13 +15,14 @@ use Rattle.job_answers.specs.declared.stop.JobStop.TheVariants as stop
 use Rattle.job_answers.specs.declared.status.Status.TheVariants.{ReadFault}
 use Rattle.job_answers.specs.Statuses.{IsVerdictStatus, IsJobStatus}
 use Rattle.job_answers.specs.Answers.{ending_of, IfEnds, IfEnded}
-use Rattle.job_answers.specs.Endings.{Ending, EndsByFile, IsRefusedWhole}
+use Rattle.job_answers.specs.Endings.{Ending, EndsByFile}
 use Rattle.job_answers.specs.Delivered.{SinkChange}
-use Rattle.job_answers.specs.Works.{FileWork, AreAllRead, IsFaultOf, EndsOver, IsDoneOver}
+use Rattle.job_answers.specs.Works.{FileWork, AreAllRead, IsRefusalAmong, IsFaultOf, EndsOver, IsDoneOver}
 use Rattle.job_answers.proofs.EndingLaws.{ended_weaker, job_status_at}
 use Rattle.job_answers.proofs.WorkLaws.{verdict_over}
 use Rattle.job_answers.proofs.TextLaws.{job_of_verdict}
 use Rattle.session_files.specs.SessionFiles.{AreFilesOf, StopsAtObs, StopsAtFiles}
+use Rattle.session_files.specs.Refusals.{pair_line}
 use Rattle.session_files.specs.Admitted.{AreAdmitted}
 use Rattle.session_files.specs.SessionJobs.{SessionAnswers, EndsOnFiles, SessionEnds, IsPairLine, SaysOfSession}
 use Rattle.session_files.proofs.FileLaws.{files_status, no_stop}
@@ -38,16 +40,17 @@ files_over work base rover nav answers o b r n end read are (inr refused) =
     record {
       ends_so = inl (record { base_file = b; rover_file = r; records = n; are = are; ends_so = inr refused });
       answered = λ is. read;
-      refused = λ is. inr ((refused.what, ap (λ (e : Ending). e.err) refused.end_is), read);
+      refused = λ is. inr (record { line = pair_line refused.what; is = (refused.what, refl); end_is = refused.end_is; read = read });
       fault = λ fault. absurd (cc (status_is, fault));
       named = λ fault. absurd (cc (status_is, fault));
     }
 
 pub files_done : (work : FileWork) (base rover nav : List ℕ) (answers : SessionAnswers) (o : Options) (b r : ObsFile) (n : Records) (result : Result JobOutput JobStop)
-    → OpensFirst (base ∷ rover ∷ nav ∷ []) work.openings work.left.openings → AreAllRead work (base ∷ rover ∷ nav ∷ []) → AreFilesOf (system_of o.system) work.text_of base rover nav b r n
+    → OpensFirst (base ∷ rover ∷ nav ∷ []) work.openings work.left.openings → GivesFirst (base ∷ rover ∷ nav ∷ []) work.given work.left.given → AreAllRead work (base ∷ rover ∷ nav ∷ []) → AreFilesOf (system_of o.system) work.text_of base rover nav b r n
     → IfEnded result (EndsOnFiles answers o b r n) → IsDoneOver work (base ∷ rover ∷ nav ∷ []) IsPairLine (SessionEnds answers work.text_of base rover nav o) result
-files_done work base rover nav answers o b r n result opens read are ends = record {
+files_done work base rover nav answers o b r n result opens gives read are ends = record {
   opened = opens;
+  given = gives;
   ended = ended_weaker result (EndsOnFiles answers o b r n) (EndsOver work (base ∷ rover ∷ nav ∷ []) IsPairLine (SessionEnds answers work.text_of base rover nav o))
       (λ end so. files_over work base rover nav answers o b r n end read are so) ends;
 }
@@ -68,11 +71,13 @@ stops_no_verdict o text_of base rover nav end (inr (inl stops)) = stop_no_verdic
 stops_no_verdict o text_of base rover nav end (inr (inr stops)) = no_verdict end (λ text refusal. subst IsVerdictStatus (ap (λ (e : Ending). e.status) refusal.end_is)) stops.stops
 
 pub files_stop : (work : FileWork) (base rover nav : List ℕ) (answers : SessionAnswers) (o : Options) (why : JobStop) → OpensFirst (base ∷ rover ∷ nav ∷ []) work.openings work.left.openings
-    → IfEnds why (StopsAtFiles (system_of o.system) work.text_of base rover nav) → IfEnds why (IsRefusedWhole work.text_of work.left (base ∷ rover ∷ nav ∷ []))
+    → GivesFirst (base ∷ rover ∷ nav ∷ []) work.given work.left.given
+    → IfEnds why (StopsAtFiles (system_of o.system) work.text_of base rover nav) → IfEnds why (IsRefusalAmong work (base ∷ rover ∷ nav ∷ []))
     → IfEnds why (λ end. end.status ≡ ReadFault → Rose work.faults work.faults_now) → IfEnds why (IsFaultOf work (base ∷ rover ∷ nav ∷ []))
     → IsDoneOver work (base ∷ rover ∷ nav ∷ []) IsPairLine (SessionEnds answers work.text_of base rover nav o) (Err why)
-files_stop work base rover nav answers o (stop.Ended a) opens stops refused rose named = record {
+files_stop work base rover nav answers o (stop.Ended a) opens gives stops refused rose named = record {
   opened = opens;
+  given = gives;
   ended = record {
     ends_so = inr stops;
     answered = λ verdict. absurd (stops_no_verdict o work.text_of base rover nav (ending_of a) stops verdict);
@@ -81,7 +86,7 @@ files_stop work base rover nav answers o (stop.Ended a) opens stops refused rose
     named = named;
   };
 }
-files_stop work base rover nav answers o stop.NoMemory opens stops refused rose named = record { opened = opens; ended = tt }
+files_stop work base rover nav answers o stop.NoMemory opens gives stops refused rose named = record { opened = opens; given = gives; ended = tt }
 
 -- ---- statuses
 pub session_status : (answers : SessionAnswers) (text_of : List ℕ → Option (List ℕ)) (base rover nav : List ℕ) (o : Options) (end : Ending)

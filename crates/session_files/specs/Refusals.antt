@@ -1,17 +1,14 @@
 -- What is said of two observation files that are refused.
-use Rattle.std.specs.Prelude.{◌≡◌, ◌⊎◌, ℕ, true, false, List, [], ◌++◌, codes, Any}
-use Rattle.std.specs.declared.option.Option.{Option}
+use Rattle.std.specs.Prelude.{◌≡◌, ℕ, true, false, List, [], ◌++◌, codes}
 use Rattle.std.specs.Fmt.{decimal}
-use Rattle.line_source.specs.Openings.{Unread}
 use Rattle.obs_store.specs.declared.file.ObsFile.{ObsFile}
 use Rattle.run_options.specs.declared.options.Options.{Options}
 use Rattle.epoch_pair.specs.declared.faults.PairWhat.{PairWhat}
 use Rattle.epoch_pair.specs.declared.faults.PairWhat.TheVariants.{NoBasePosition, NoSignal, Dense}
 use Rattle.epoch_pair.specs.declared.faults.SessionFault.TheVariants as fault
 use Rattle.epoch_pair.specs.Beginnings.{IsSessionFault}
-use Rattle.job_answers.specs.declared.status.Status.{Status}
 use Rattle.job_answers.specs.declared.status.Status.TheVariants.{Refused}
-use Rattle.job_answers.specs.Endings.{Ending, ending, IsRefusedFile}
+use Rattle.job_answers.specs.Endings.{Ending, ending}
 
 -- why they are
 abbrev pub pair_reason : PairWhat → List ℕ
@@ -28,10 +25,3 @@ pub record IsPairRefused (b r : ObsFile) (o : Options) (end : Ending) : Type 0 w
   pub what : PairWhat
   pub why : IsSessionFault b r o (fault.Refused what)
   pub end_is : end ≡ ending Refused [] (pair_line what)
-
--- A refusal is that of one of the files, or of the two together.
-abbrev pub HaveRefused : (List ℕ → Option (List ℕ)) → Unread → List (List ℕ) → Status → (List ℕ → Type 0) → Type 0
-HaveRefused text_of left names status reports = status ≡ Refused → Any (IsRefusedFile text_of left reports) names ⊎ ((what : PairWhat) × reports (pair_line what))
-
-abbrev pub AreRefusedWhole : (List ℕ → Option (List ℕ)) → Unread → List (List ℕ) → Ending → Type 0
-AreRefusedWhole text_of left names end = HaveRefused text_of left names end.status (λ text. end.err ≡ text)

@@ -2,6 +2,7 @@
 use Rattle.std.specs.Prelude.{◌⊎◌, ℕ, List}
 use Rattle.std.specs.declared.option.Option.{Option}
 use Rattle.line_source.specs.Lines.{lines_of}
+use Rattle.line_source.specs.Givens.{Given, GivesWhole}
 use Rattle.obs_store.specs.declared.file.ObsFile.{ObsFile}
 use Rattle.rinex_head.specs.declared.system.System.{System}
 use Rattle.obs_source.specs.Formats.{any_of, IsObservation, HasObservation}
@@ -21,6 +22,20 @@ pub record IsObsOf (system : System) (text_of : List ℕ → Option (List ℕ)) 
 pub record IsNavOf (system : System) (text_of : List ℕ → Option (List ℕ)) (name : List ℕ) (records : Records) : Type 0 where
   pub text : List ℕ
   pub is : IsTextOf text_of name text
+  pub is_file : IsNavFile system (lines_of text) records.all
+  pub are_fit : AreFit records.all records.fit
+
+-- the same of the text that the file's reads gave, to its end, which is what is told of it where something is
+pub record IsObsGiven (system : System) (told : List ℕ → Option (List ℕ)) (name : List ℕ) (before now : List Given) (file : ObsFile) : Type 0 where
+  pub text : List ℕ
+  pub is : IsTextOf told name text
+  pub given : GivesWhole name text before now
+  pub is_file : IsObservation system (lines_of text) file
+
+pub record IsNavGiven (system : System) (told : List ℕ → Option (List ℕ)) (name : List ℕ) (before now : List Given) (records : Records) : Type 0 where
+  pub text : List ℕ
+  pub is : IsTextOf told name text
+  pub given : GivesWhole name text before now
   pub is_file : IsNavFile system (lines_of text) records.all
   pub are_fit : AreFit records.all records.fit
 

@@ -3,7 +3,7 @@ ghost use Rattle.std.specs.Prelude.{[], ◌∷◌, IfOk};
 ghost use Rattle.epoch_pair.specs.Beginnings.{IsSessionFault};
 ghost use Rattle.epoch_pair.specs.declared.faults.SessionFault.TheVariants as fault;
 ghost use Rattle.job_answers.specs.Answers.{ending_of, IfEnded};
-ghost use Rattle.job_answers.specs.Works.{file_work, IsDoneOver};
+ghost use Rattle.job_answers.specs.Works.{known_between, file_work, IsDoneOver};
 ghost use Rattle.session_files.specs.SessionJobs.{SessionAnswers, AreAnswered, EndsOnFiles, SessionEnds, IsPairLine, IfPairRefused};
 
 use crate::{SessionFiles, read_session, refused_pair};
@@ -58,7 +58,7 @@ pub fn answer_session<C: SessionCommand, F: Files>(
     nav: &str,
     options: &Options,
 ) -> Result<JobOutput, JobStop>
-    ensures { IsDoneOver (file_work F.Files files.old files.new) (base.now ∷ rover.now ∷ nav.now ∷ []) IsPairLine (SessionEnds C.answers (F.text_of files.old) base.now rover.now nav.now options.now) result }
+    ensures { IsDoneOver (file_work F.Files files.old files.new) (base.now ∷ rover.now ∷ nav.now ∷ []) IsPairLine (SessionEnds C.answers (known_between F.Files files.old files.new) base.now rover.now nav.now options.now) result }
 {
     let system = System::of_letter(options.system);
     let read = read_session(alloc, files, system, base, rover, nav)?;

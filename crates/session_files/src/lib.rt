@@ -4,9 +4,9 @@
 //! `read_session` gives the three, or stops at the first that can't be had: one that can't be read (status 4, only where
 //! the files' count of faults rose, and never for a name that is sure not to fail), one that is too large, or one whose
 //! text is none of its form (status 3, with the place where its lines leave the form). The line on err names that file
-//! (`named`), and a file is refused only after it was read to its end (`refused`). They are opened in this order, each once;
-//! the three come after all were opened and the last was read to its end (`whole`). `obs_file` says the same of one
-//! observation file. Out of memory may come in the place of any answer. Two observation files of which no session is made
+//! (`named`). A file is refused only after it was read to its end, or where its reads gave more bytes than a file may have, and each
+//! before it was read to its end (`refused`). They are opened in this order, each once; the three come after all were opened and
+//! each was read to its end (`whole`). `obs_file` says the same of one observation file. Out of memory may come in the place of any answer. Two observation files of which no session is made
 //! are refused with one line (`refused_pair`). A file whose text is known has one reading (`one_obs_law`, `one_nav_law`).
 #![tactic(auto)]
 
@@ -15,6 +15,7 @@ ghost use Rattle.line_source.specs.Causes.{Rose};
 ghost use Rattle.line_source.specs.Openings.{OpensIt, OpensFirst, IsReadToEnd, unread};
 ghost use Rattle.line_source.specs.Reports.{Same, Stays};
 ghost use Rattle.line_source.specs.Pieces.{IsTakenWhole};
+ghost use Rattle.line_source.specs.Givens.{GivesFirst};
 ghost use Rattle.line_source.specs.Lines.{lines_of};
 ghost use Rattle.rinex_head.specs.declared.system.System.{System};
 ghost use Rattle.obs_source.specs.Formats.{any_of, IsObservation, HasObservation};
@@ -23,9 +24,9 @@ ghost use Rattle.rinex_nav.specs.NavForm.{IsNavFile, HasNavFile};
 ghost use Rattle.rinex_nav.specs.NavRules.{nav_of};
 ghost use Rattle.eph_store.specs.Records.{AreFit};
 ghost use Rattle.job_answers.specs.Answers.{IfStopped};
-ghost use Rattle.job_answers.specs.Endings.{EndsUnloaded, IsRefusal, IsRefusedWhole};
-ghost use Rattle.job_answers.specs.Works.{file_work, AreAllRead, IsFaultOf};
-ghost use Rattle.session_files.specs.SessionFiles.{IsObsOf, IsNavOf, StopsAtObs, StopsAtNav, StopsAtFiles, AreFilesOf};
+ghost use Rattle.job_answers.specs.Endings.{EndsUnloaded, IsRefusal, IsRefusalOf};
+ghost use Rattle.job_answers.specs.Works.{ForAllKnown, known_between, file_work, AreAllRead, IsRefusalAmong, IsFaultOf};
+ghost use Rattle.session_files.specs.SessionFiles.{IsObsGiven, IsNavGiven, StopsAtObs, StopsAtNav, StopsAtFiles, AreFilesOf};
 
 mod commands;
 mod laws;
@@ -61,10 +62,11 @@ fn take_file<F: Files, T: Taker>(
 ) -> Result<(), JobStop>
     requires none_taken { T.taken taker.old ≡ 0 }
     requires stands_for_none { T.stands_for taker.old [] }
-    ensures taken { OnOk result (IsTakenWhole (F.text_of files.old name.now) (T.taken taker.new) (T.stands_for taker.new)) }
-    ensures stopped { IfStopped result (λ end. EndsUnloaded (F.text_of files.old) name.now end) }
-    ensures whole { OnOk result (IsReadToEnd (F.text_of files.old) (unread (F.openings files.new) (F.unread files.new)) name.now) }
-    ensures refused { IfStopped result (IsRefusedWhole (F.text_of files.old) (unread (F.openings files.new) (F.unread files.new)) (name.now ∷ [])) }
+    ensures taken { OnOk result (IsTakenWhole (F.text_of files.old name.now) name.now (F.given files.old) (F.given files.new) (T.taken taker.new) (T.stands_for taker.new)) }
+    ensures stopped { ForAllKnown F.Files files.old files.new (λ known. IfStopped result (λ end. EndsUnloaded known name.now end)) }
+    ensures gives { GivesFirst (name.now ∷ []) (F.given files.old) (F.given files.new) }
+    ensures whole { OnOk result (IsReadToEnd (F.text_of files.old) (unread (F.openings files.new) (F.unread files.new) (F.given files.new)) name.now) }
+    ensures refused { IfStopped result (IsRefusalOf (F.text_of files.old) (F.given files.old) (unread (F.openings files.new) (F.unread files.new) (F.given files.new)) name.now) }
     ensures opened { OpensFirst (name.now ∷ []) (F.openings files.old) (F.openings files.new) }
     ensures opens { OnOk result (OpensIt name.now (F.openings files.old) (F.openings files.new)) }
     ensures cause { F.faults files.old ≤ F.faults files.new }
@@ -122,10 +124,11 @@ pub fn obs_file<F: Files>(
     system: System,
     name: &str,
 ) -> Result<ObsFile, JobStop>
-    ensures read { IfOk result (λ file. IsObsOf system (F.text_of files.old) name.now file) }
-    ensures stopped { IfStopped result (λ end. StopsAtObs system (F.text_of files.old) name.now end) }
-    ensures whole { OnOk result (IsReadToEnd (F.text_of files.old) (unread (F.openings files.new) (F.unread files.new)) name.now) }
-    ensures refused { IfStopped result (IsRefusedWhole (F.text_of files.old) (unread (F.openings files.new) (F.unread files.new)) (name.now ∷ [])) }
+    ensures read { IfOk result (λ file. IsObsGiven system (F.text_of files.old) name.now (F.given files.old) (F.given files.new) file) }
+    ensures stopped { ForAllKnown F.Files files.old files.new (λ known. IfStopped result (λ end. StopsAtObs system known name.now end)) }
+    ensures gives { GivesFirst (name.now ∷ []) (F.given files.old) (F.given files.new) }
+    ensures whole { OnOk result (IsReadToEnd (F.text_of files.old) (unread (F.openings files.new) (F.unread files.new) (F.given files.new)) name.now) }
+    ensures refused { IfStopped result (IsRefusalOf (F.text_of files.old) (F.given files.old) (unread (F.openings files.new) (F.unread files.new) (F.given files.new)) name.now) }
     ensures opened { OpensFirst (name.now ∷ []) (F.openings files.old) (F.openings files.new) }
     ensures opens { OnOk result (OpensIt name.now (F.openings files.old) (F.openings files.new)) }
     ensures cause { F.faults files.old ≤ F.faults files.new }
@@ -154,10 +157,11 @@ fn nav_file<F: Files>(
     system: System,
     name: &str,
 ) -> Result<NavFile, JobStop>
-    ensures read { IfOk result (λ file. IsNavOf system (F.text_of files.old) name.now file) }
-    ensures stopped { IfStopped result (λ end. StopsAtNav system (F.text_of files.old) name.now end) }
-    ensures whole { OnOk result (IsReadToEnd (F.text_of files.old) (unread (F.openings files.new) (F.unread files.new)) name.now) }
-    ensures refused { IfStopped result (IsRefusedWhole (F.text_of files.old) (unread (F.openings files.new) (F.unread files.new)) (name.now ∷ [])) }
+    ensures read { IfOk result (λ file. IsNavGiven system (F.text_of files.old) name.now (F.given files.old) (F.given files.new) file) }
+    ensures stopped { ForAllKnown F.Files files.old files.new (λ known. IfStopped result (λ end. StopsAtNav system known name.now end)) }
+    ensures gives { GivesFirst (name.now ∷ []) (F.given files.old) (F.given files.new) }
+    ensures whole { OnOk result (IsReadToEnd (F.text_of files.old) (unread (F.openings files.new) (F.unread files.new) (F.given files.new)) name.now) }
+    ensures refused { IfStopped result (IsRefusalOf (F.text_of files.old) (F.given files.old) (unread (F.openings files.new) (F.unread files.new) (F.given files.new)) name.now) }
     ensures opened { OpensFirst (name.now ∷ []) (F.openings files.old) (F.openings files.new) }
     ensures opens { OnOk result (OpensIt name.now (F.openings files.old) (F.openings files.new)) }
     ensures cause { F.faults files.old ≤ F.faults files.new }
@@ -178,10 +182,11 @@ pub fn read_session<F: Files>(
     rover: &str,
     nav: &str,
 ) -> Result<SessionFiles, JobStop>
-    ensures read { IfOk result (λ s. AreFilesOf system (F.text_of files.old) base.now rover.now nav.now s.base s.rover s.nav) }
-    ensures stopped { IfStopped result (λ end. StopsAtFiles system (F.text_of files.old) base.now rover.now nav.now end) }
+    ensures read { IfOk result (λ s. AreFilesOf system (known_between F.Files files.old files.new) base.now rover.now nav.now s.base s.rover s.nav) }
+    ensures stopped { IfStopped result (λ end. StopsAtFiles system (known_between F.Files files.old files.new) base.now rover.now nav.now end) }
+    ensures gives { GivesFirst (base.now ∷ rover.now ∷ nav.now ∷ []) (F.given files.old) (F.given files.new) }
     ensures whole { OnOk result (AreAllRead (file_work F.Files files.old files.new) (base.now ∷ rover.now ∷ nav.now ∷ [])) }
-    ensures refused { IfStopped result (IsRefusedWhole (F.text_of files.old) (unread (F.openings files.new) (F.unread files.new)) (base.now ∷ rover.now ∷ nav.now ∷ [])) }
+    ensures refused { IfStopped result (IsRefusalAmong (file_work F.Files files.old files.new) (base.now ∷ rover.now ∷ nav.now ∷ [])) }
     ensures opened { OpensFirst (base.now ∷ rover.now ∷ nav.now ∷ []) (F.openings files.old) (F.openings files.new) }
     ensures fault { IfStopped result (λ end. end.status ≡ Status.ReadFault → Rose (F.faults files.old) (F.faults files.new)) }
     ensures sure { All (F.is_sure_name files.old) (base.now ∷ rover.now ∷ nav.now ∷ []) → IfStopped result (λ end. end.status ≢ Status.ReadFault) }

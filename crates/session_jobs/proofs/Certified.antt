@@ -1,5 +1,5 @@
--- A run ends in no other way; and what it decides of the rows, they say again: a check certifies what is fixed, or its search gives up.
-use Rattle.std.proofs.Common.{◌≡◌, ◌⊎◌, inl, inr, ℕ, ℤ, Bool, nat_eq, List, length, sym, subst}
+-- A run ends in no other way; and what it decides of the rows, they say again: a check certifies what is fixed.
+use Rattle.std.proofs.Common.{◌≡◌, inl, inr, ℕ, ℤ, Bool, nat_eq, List, length, sym, subst}
 use Rattle.obs_store.specs.declared.file.ObsFile.{ObsFile}
 use Rattle.eph_store.specs.File.{Records}
 use Rattle.obs_rows.specs.declared.sessions.Session.{Session}
@@ -12,7 +12,7 @@ use Rattle.cert_data.specs.declared.outcomes.Answer.TheVariants.{Full}
 use Rattle.cert_data.specs.declared.verdicts.Verdict.{Verdict}
 use Rattle.cert_data.specs.declared.verdicts.Verdict.TheVariants.{Certified}
 use Rattle.cert_check.specs.RowDecisions.{IsRowDecision}
-use Rattle.cert_check.specs.Verdicts.{IsSaidOf, IsVerdictOf, IsGivenUp}
+use Rattle.cert_check.specs.Verdicts.{IsSaidOf, IsVerdictOf}
 use Rattle.cert_check.proofs.SameNumbers.{same_numbers}
 use Rattle.cert_check.proofs.OneVerdict.{one_verdict}
 use Rattle.round_steps.specs.Steps.{IsRoundEnd, IsOnlyEnd}
@@ -56,10 +56,7 @@ certified_again base rover nav options outcome cert is full fix =
       said = subst (λ (t : Tail). IsSaidOf fixed t Certified) (sym fix.tail_is) (same_numbers fix.h fix.moved fix.best fix.top);
     }
 
--- each verdict on it is that one, or that the search gave up
+-- each verdict on it is that one
 pub no_other : (cert : Cert) → IsVerdictOf cert.session cert.ratio cert.budget cert.tail Certified → (v : Verdict)
-    → IsVerdictOf cert.session cert.ratio cert.budget cert.tail v → (v ≡ Certified) ⊎ IsGivenUp v
-no_other cert certified v is = elim (one_verdict cert.session cert.ratio cert.budget cert.tail v Certified is certified) [
-  | inl same ↦ inl same
-  | inr given_up ↦ elim (given_up) [ inl here ↦ inr here | inr there ↦ absurd there ]
-]
+    → IsVerdictOf cert.session cert.ratio cert.budget cert.tail v → v ≡ Certified
+no_other cert certified v is = one_verdict cert.session cert.ratio cert.budget cert.tail v Certified is certified

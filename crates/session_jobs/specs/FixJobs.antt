@@ -1,5 +1,5 @@
 -- What the command `fix` answers of its files.
-use Rattle.std.specs.Prelude.{◌≡◌, ◌⊎◌, ◌==◌, ℕ, true, List, map, ℤ}
+use Rattle.std.specs.Prelude.{◌≡◌, ◌==◌, ℕ, true, List, map, ℤ}
 use Rattle.obs_store.specs.declared.file.ObsFile.{ObsFile}
 use Rattle.eph_store.specs.File.{Records}
 use Rattle.obs_rows.specs.declared.arcs.Arc.{Arc}
@@ -19,7 +19,7 @@ use Rattle.cert_data.specs.declared.outcomes.Answer.TheVariants.{Full}
 use Rattle.cert_data.specs.declared.tails.Tail.TheVariants.{Fixed}
 use Rattle.cert_data.specs.declared.verdicts.Verdict.{Verdict}
 use Rattle.cert_data.specs.declared.verdicts.Verdict.TheVariants.{Certified}
-use Rattle.cert_check.specs.Verdicts.{IsVerdictOf, IsGivenUp}
+use Rattle.cert_check.specs.Verdicts.{IsVerdictOf}
 use Rattle.round_steps.specs.Steps.{IsOnlyEnd}
 use Rattle.round_steps.specs.Runs.{most_rounds}
 use Rattle.run_options.specs.declared.options.Options.{Options}
@@ -57,14 +57,14 @@ pub record StandsForIts (b r : ObsFile) (n : Records) (o : Options) (cert : Cert
       position signals cert.session.point (map (λ (a : Arc). a.shift) cert.session.arcs) 0 cert.session
 
 -- The answer is a certificate that says `fixed`, of a session that stands for the files. All other integers have a sum of
--- squares that is greater by the ratio. A check of it says that it is certified, or its search gives up.
+-- squares that is greater by the ratio. A check of it says that it is certified.
 pub record IsFixedFor (b r : ObsFile) (n : Records) (o : Options) (answer : Answer) : Type 0 where
   pub cert : Cert
   pub answer_is : answer ≡ Full cert
   pub fix : IsFix cert
   pub by_ratio : IsBestByRatio cert.ratio cert.session (first_of fix.best) fix.moved
   pub certified : IsVerdictOf cert.session cert.ratio cert.budget cert.tail Certified
-  pub only : (v : Verdict) → IsVerdictOf cert.session cert.ratio cert.budget cert.tail v → (v ≡ Certified) ⊎ IsGivenUp v
+  pub only : (v : Verdict) → IsVerdictOf cert.session cert.ratio cert.budget cert.tail v → v ≡ Certified
   pub stands : StandsForIts b r n o cert
 
 -- done for a fix, else declined
@@ -72,7 +72,7 @@ abbrev pub status_of : Answer → Status
 status_of a = verdict_status (is_fixed a)
 
 -- The outcome of the files, whatever is printed of it. A certificate of it stands for the files, whatever it says. The round of its
--- session ends the run, and in no other way, but where a search gave up.
+-- session ends the run, and in no other way.
 pub record IsOutcomeFor (b r : ObsFile) (n : Records) (o : Options) (outcome : Outcome) : Type 0 where
   pub is : IsOutcome b r n o outcome
   pub fixed : is_fixed outcome.answer ≡ true → IsFixedFor b r n o outcome.answer

@@ -8,7 +8,7 @@ use Rattle.whole_math.proofs.Certificates.{cert, weak, ◌≼◌, hy}
 use Rattle.whole_math.proofs.Inequalities.{same_by, le_refl_ℤ, less_nn}
 use Rattle.whole_math.specs.Rounding.{floor_div}
 use Rattle.whole_math.proofs.Rounding.{floor_le, lt_floor}
-use Rattle.rational.specs.Rational.{Rational, ◌≈◌, ◌≤ʳ◌, of_whole, of_scale, add_r, sub_r, mul_r, neg_r, times, two_to_minus, AreWithin, InBox}
+use Rattle.rational.specs.Rational.{Rational, ◌≈◌, ◌≤ʳ◌, of_whole, of_scale, ◌+ʳ◌, ◌-ʳ◌, ◌*ʳ◌, neg_r, times, two_to_minus, AreWithin, InBox}
 use Rattle.rational.proofs.Laws.{≤ʳ_trans, ≤ʳ_from_same}
 use Rattle.rational.proofs.Ends.{low_end, high_end}
 use Rattle.trig_box.specs.AnglePairs.{Pair, doubled, taylor_pair, part, IsAnglePair, IsCanonicalPair}
@@ -20,7 +20,7 @@ use Rattle.signal_travel.proofs.EarthTurnCertificates.{angle_up, angle_down, pad
 -- ---- a pair of a time of the box lies within the pad of the canonical pair of the middle
 within : (t : Rational) (l h m r a p : ℤ) → InBox 60 l h t → (m -ℤ l) ≤ℤ r → (h -ℤ m) ≤ℤ r → a ≡ floor_div (pos 72921151467 *ℤ m) 16000000000000000 →
     (r +ℤ pos 135168) ≤ℤ (pos 4096 *ℤ p) → pos 0 ≤ℤ r →
-    AreWithin (of_scale 61 (p -ℤ pos 1)) (mul_r earth_rate t) (of_scale 56 a)
+    AreWithin (of_scale 61 (p -ℤ pos 1)) (earth_rate *ʳ t) (of_scale 56 a)
 within t l h m r a p b lm mh e k r0 = (
   angle_up t.num (pos t.den) h m r a p b.1 mh (top (pos 72921151467 *ℤ m) a e) k r0 (weak (pos 0) (pos t.den) (lt_pos 0 t.den t.positive)),
   angle_down t.num (pos t.den) l m r a p b.0 lm (bottom (pos 72921151467 *ℤ m) a e) k r0 (weak (pos 0) (pos t.den) (lt_pos 0 t.den t.positive)),
@@ -34,23 +34,23 @@ within t l h m r a p b lm mh e k r0 = (
     bottom z a e = subst (λ (y : ℤ). (y *ℤ pos 16000000000000000) ≤ℤ z) (sym e) (floor_le z 16000000000000000 (lit< tt))
 
 -- twice that distance, and the constant of the law, are at most the pad
-pad_most : (p : ℤ) → add_r (times 2 (of_scale 61 (p -ℤ pos 1))) (two_to_minus 67) ≤ʳ of_scale 60 p
+pad_most : (p : ℤ) → times 2 (of_scale 61 (p -ℤ pos 1)) +ʳ two_to_minus 67 ≤ʳ of_scale 60 p
 pad_most p = omega (arith, ints)
 
 -- a box that reaches the pad further on both sides
 pub padded_holds : (l h l' h' p : ℤ) (c s d : Rational) → l' ≡ l -ℤ p → h' ≡ h +ℤ p → InBox 60 l h s → AreWithin d c s → d ≤ʳ of_scale 60 p → InBox 60 l' h' c
 padded_holds l h l' h' p c s d el eh b w k = (
-  ≤ʳ_trans (of_scale 60 l') (sub_r (of_scale 60 l) (of_scale 60 p)) c (≤ʳ_from_same (of_scale 60 l') (sub_r (of_scale 60 l) (of_scale 60 p)) (low l p l' el))
+  ≤ʳ_trans (of_scale 60 l') (of_scale 60 l -ʳ of_scale 60 p) c (≤ʳ_from_same (of_scale 60 l') (of_scale 60 l -ʳ of_scale 60 p) (low l p l' el))
       (pad_low c s d (of_scale 60 l) (of_scale 60 p) b.0 w.1 k),
-  ≤ʳ_trans c (add_r (of_scale 60 h) (of_scale 60 p)) (of_scale 60 h') (pad_high c s d (of_scale 60 h) (of_scale 60 p) b.1 w.0 k)
-      (≤ʳ_from_same (add_r (of_scale 60 h) (of_scale 60 p)) (of_scale 60 h') (high h p h' eh)),
+  ≤ʳ_trans c (of_scale 60 h +ʳ of_scale 60 p) (of_scale 60 h') (pad_high c s d (of_scale 60 h) (of_scale 60 p) b.1 w.0 k)
+      (≤ʳ_from_same (of_scale 60 h +ʳ of_scale 60 p) (of_scale 60 h') (high h p h' eh)),
 )
   where
-    low : (l p z : ℤ) → z ≡ l -ℤ p → of_scale 60 z ≈ sub_r (of_scale 60 l) (of_scale 60 p)
-    low l p z e = subst (λ (y : ℤ). of_scale 60 y ≈ sub_r (of_scale 60 l) (of_scale 60 p)) (sym e) (same_by (l ∷ p ∷ pos (2 ^ 60) ∷ []) (λ l p k. ((l ⊖ p) ⊗ (k ⊗ k), (l ⊗ k ⊖ p ⊗ k) ⊗ k)) refl)
+    low : (l p z : ℤ) → z ≡ l -ℤ p → of_scale 60 z ≈ of_scale 60 l -ʳ of_scale 60 p
+    low l p z e = subst (λ (y : ℤ). of_scale 60 y ≈ of_scale 60 l -ʳ of_scale 60 p) (sym e) (same_by (l ∷ p ∷ pos (2 ^ 60) ∷ []) (λ l p k. ((l ⊖ p) ⊗ (k ⊗ k), (l ⊗ k ⊖ p ⊗ k) ⊗ k)) refl)
 
-    high : (h p z : ℤ) → z ≡ h +ℤ p → add_r (of_scale 60 h) (of_scale 60 p) ≈ of_scale 60 z
-    high h p z e = subst (λ (y : ℤ). add_r (of_scale 60 h) (of_scale 60 p) ≈ of_scale 60 y) (sym e) (same_by (h ∷ p ∷ pos (2 ^ 60) ∷ []) (λ h p k. ((h ⊗ k ⊕ p ⊗ k) ⊗ k, (h ⊕ p) ⊗ (k ⊗ k))) refl)
+    high : (h p z : ℤ) → z ≡ h +ℤ p → of_scale 60 h +ʳ of_scale 60 p ≈ of_scale 60 z
+    high h p z e = subst (λ (y : ℤ). of_scale 60 h +ʳ of_scale 60 p ≈ of_scale 60 y) (sym e) (same_by (h ∷ p ∷ pos (2 ^ 60) ∷ []) (λ h p k. ((h ⊗ k ⊕ p ⊗ k) ⊗ k, (h ⊕ p) ⊗ (k ⊗ k))) refl)
 
 -- the boxes of the pairs of an angle
 pub record ArePairs (a cl ch sl sh : ℤ) : Type 0 where
@@ -77,14 +77,14 @@ canonical a l h = canonical_exists 5 (of_scale 56 a) (go a l h)
     go a l h = omega (arith, ints)
 
 pub turn_holds : (tl th m a p cl ch sl sh cl' ch' sl' sh' : ℤ) → IsTurn tl th m a p cl ch sl sh → cl' ≡ cl -ℤ p → ch' ≡ ch +ℤ p → sl' ≡ sl -ℤ p → sh' ≡ sh +ℤ p →
-    (t c s : Rational) → InBox 60 tl th t → IsAnglePair 5 (mul_r earth_rate t) c s → InBox 60 cl' ch' c × InBox 60 sl' sh' s
+    (t c s : Rational) → InBox 60 tl th t → IsAnglePair 5 (earth_rate *ʳ t) c s → InBox 60 cl' ch' c × InBox 60 sl' sh' s
 turn_holds tl th m a p cl ch sl sh cl' ch' sl' sh' k e f g h t c s b q =
     let canonical_pair = canonical a k.angle_low k.angle_high in
     let angle_is_within = within t tl th m (th -ℤ m) a p b k.below (le_refl_ℤ (th -ℤ m)) k.angle k.least (less_nn k.middle_high) in
     let is_pair = canonical_is_pair 5 (of_scale 56 a) canonical_pair.0 canonical_pair.1 canonical_pair.2 in
-    let law = sharp_law 5 (of_scale 61 (p -ℤ pos 1)) (mul_r earth_rate t) (of_scale 56 a) c s canonical_pair.0 canonical_pair.1 (lit≤ tt) q is_pair angle_is_within in
+    let law = sharp_law 5 (of_scale 61 (p -ℤ pos 1)) (earth_rate *ʳ t) (of_scale 56 a) c s canonical_pair.0 canonical_pair.1 (lit≤ tt) q is_pair angle_is_within in
     let held = k.pairs canonical_pair.0 canonical_pair.1 is_pair in
-    let distance : Rational = add_r (times 2 (of_scale 61 (p -ℤ pos 1))) (two_to_minus 67) in
+    let distance : Rational = times 2 (of_scale 61 (p -ℤ pos 1)) +ʳ two_to_minus 67 in
     (padded_holds cl ch cl' ch' p c canonical_pair.0 distance e f held.0 law.0 (pad_most p), padded_holds sl sh sl' sh' p s canonical_pair.1 distance g h held.1 law.1 (pad_most p))
 
 -- ---- sizes: the pair of so small an angle is near (1, 0)
@@ -96,7 +96,7 @@ low_of m q h = go m q.num (pos q.den) h
     go : (m n d : ℤ) → (neg_ℤ n *ℤ pos 1152921504606846976) ≤ℤ (m *ℤ d) → (neg_ℤ m *ℤ d) ≤ℤ (n *ℤ pos 1152921504606846976)
     go m n d h = cert (m ∷ n ∷ d ∷ []) ((ng (va 1) ⊗ ko (pos 1152921504606846976) ≼ va 0 ⊗ va 2) ∷ []) (ng (va 0) ⊗ va 2) (va 1 ⊗ ko (pos 1152921504606846976)) (hy 0) refl (h, tt)
 
-one_most : add_r (of_whole (pos 1)) (two_to_minus 16) ≤ʳ of_scale 60 (pos 1152939096792891392)
+one_most : of_whole (pos 1) +ʳ two_to_minus 16 ≤ʳ of_scale 60 (pos 1152939096792891392)
 one_most = le_pos (65537 * 1152921504606846976) (1152939096792891392 * 65536) (lit≤ tt)
 
 pub cos_ends : (a cl ch sl sh : ℤ) → ArePairs a cl ch sl sh → (neg_ℤ (pos 1152939096792891904) ≤ℤ cl) × (ch ≤ℤ pos 1152939096792891904)
@@ -105,7 +105,7 @@ cos_ends a cl ch sl sh k =
     let is_pair = canonical_is_pair 5 (of_scale 56 a) canonical_pair.0 canonical_pair.1 canonical_pair.2 in
     let cosine_at_most = (size_law_5 (of_scale 56 a) canonical_pair.0 canonical_pair.1 is_pair).0 in
     let cosine_in_box = (k.pairs canonical_pair.0 canonical_pair.1 is_pair).0 in
-    let largest : Rational = add_r (of_whole (pos 1)) (two_to_minus 16) in
+    let largest : Rational = of_whole (pos 1) +ʳ two_to_minus 16 in
     let cosine : Rational = canonical_pair.0 in (
       low_end 60 cl ch (pos 512) (neg_ℤ (pos 1152939096792891392)) cosine k.cos_narrow (low_of (pos 1152939096792891392) cosine (≤ʳ_trans (neg_r cosine) largest (of_scale 60 (pos 1152939096792891392)) cosine_at_most.1 one_most)) cosine_in_box,
       high_end 60 cl ch (pos 512) (pos 1152939096792891392) cosine k.cos_narrow (≤ʳ_trans cosine largest (of_scale 60 (pos 1152939096792891392)) cosine_at_most.0 one_most) cosine_in_box,

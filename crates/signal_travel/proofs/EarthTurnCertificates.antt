@@ -5,7 +5,7 @@ use Rattle.std.proofs.Common.{[], ◌∷◌, ℤ, pos, ◌+ℤ◌, ◌-ℤ◌, �
 use Rattle.std.proofs.lemmas.Int.{ints}
 use Rattle.whole_math.proofs.Ring.{va, ko, ◌⊕◌, ◌⊖◌, ◌⊗◌, ng}
 use Rattle.whole_math.proofs.Certificates.{cert, cancel, weak, ◌≼◌, hy, nm, ◌⊞◌, ◌⊠◌}
-use Rattle.rational.specs.Rational.{Rational, ◌≤ʳ◌, add_r, sub_r}
+use Rattle.rational.specs.Rational.{Rational, ◌≤ʳ◌, ◌+ʳ◌, ◌-ʳ◌}
 use Rattle.orbit_model.proofs.Orders.{cert_r}
 
 -- the angle of a time of the box against that of its middle, rounded
@@ -42,11 +42,11 @@ angle_down t u l m r a p h0 h1 h2 h3 h4 h5 =
     ⊠ (hy 5)) ⊠ (hy 2))) ⊞ (((nm 72057594037927936000000000000000) ⊠ (hy 5)) ⊠ (hy 3))) ⊞ (((nm 29012543840425253569440300138496) ⊠ (hy 5)) ⊠ (hy 4)))
     ⊞ ((nm 9444732965739290427392000000000000000) ⊠ (hy 5))) refl (h0, (h1, (h2, (h3, (h4, (h5, tt)))))))
 
-pub pad_low : (c s d l p : Rational) → l ≤ʳ s → (sub_r s c) ≤ʳ d → d ≤ʳ p → (sub_r l p) ≤ʳ c
+pub pad_low : (c s d l p : Rational) → l ≤ʳ s → s -ʳ c ≤ʳ d → d ≤ʳ p → l -ʳ p ≤ʳ c
 pad_low c s d l p h0 h1 h2 =
     cert_r (c ∷ s ∷ d ∷ l ∷ p ∷ []) (((va 3) ≼ (va 1)) ∷ (((va 1) ⊖ (va 0)) ≼ (va 2)) ∷ ((va 2) ≼ (va 4)) ∷ []) ((va 3) ⊖ (va 4)) (va 0) (((hy 0) ⊞ (hy 1)) ⊞ (hy 2)) refl (h0, (h1, (h2, tt)))
 
-pub pad_high : (c s d h p : Rational) → s ≤ʳ h → (sub_r c s) ≤ʳ d → d ≤ʳ p → c ≤ʳ (add_r h p)
+pub pad_high : (c s d h p : Rational) → s ≤ʳ h → c -ʳ s ≤ʳ d → d ≤ʳ p → c ≤ʳ h +ʳ p
 pad_high c s d h p h0 h1 h2 =
     cert_r (c ∷ s ∷ d ∷ h ∷ p ∷ []) (((va 1) ≼ (va 3)) ∷ (((va 0) ⊖ (va 1)) ≼ (va 2)) ∷ ((va 2) ≼ (va 4)) ∷ []) (va 0) ((va 3) ⊕ (va 4)) (((hy 0) ⊞ (hy 1)) ⊞ (hy 2)) refl (h0, (h1, (h2, tt)))
 

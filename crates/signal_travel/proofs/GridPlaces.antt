@@ -8,7 +8,7 @@ use Rattle.whole_math.proofs.Inequalities.{same_by, le_by, both_nn, prod_nn, les
 use Rattle.whole_math.proofs.Certificates.{cancel}
 use Rattle.whole_math.proofs.Rounding.{floor_le, lt_floor}
 use Rattle.whole_math.proofs.IntLaws.{mul_assoc_ℤ}
-use Rattle.rational.specs.Rational.{Rational, of_whole, of_scale, sub_r, mul_r, add_r, divided, two_to_minus, AreWithin, InBox}
+use Rattle.rational.specs.Rational.{Rational, of_whole, of_scale, ◌-ʳ◌, ◌*ʳ◌, ◌+ʳ◌, divided, two_to_minus, AreWithin, InBox}
 use Rattle.rational.specs.Over.{Over}
 use Rattle.rational.proofs.Over.{over_add, over_mul, over_times, over_zero, over_le, over_lt}
 use Rattle.orbit_model.specs.SeenPlaces.{Place, point_of, difference, dot, square, mask_side, height_side, IsAboveMask, IsBelowMask}
@@ -58,7 +58,7 @@ grid_near lo hi q w b = (near_above (grid lo) q.num (pos q.den) lo (grid_high lo
 
 -- ---- the rule
 -- x - p is the offset over 2^17 · 625
-offset_over : (g p : ℤ) → Over (pos 81920000) ((pos 625 *ℤ g) -ℤ (pos 8192 *ℤ p)) (sub_r (of_scale 17 g) (divided (of_whole p) 10000 (lit< tt)))
+offset_over : (g p : ℤ) → Over (pos 81920000) ((pos 625 *ℤ g) -ℤ (pos 8192 *ℤ p)) (of_scale 17 g -ʳ divided (of_whole p) 10000 (lit< tt))
 offset_over g p = same_by (g ∷ p ∷ []) (λ g p. ((g ⊗ nat 10000 ⊖ p ⊗ nat 131072) ⊗ nat 81920000, (nat 625 ⊗ g ⊖ nat 8192 ⊗ p) ⊗ nat 1310720000)) refl
 
 point_over : (p : ℤ) → Over (pos 10000) p (divided (of_whole p) 10000 (lit< tt))
@@ -66,8 +66,8 @@ point_over p = refl
 
 dot_over : (j k a b c p q r : ℤ) (v w : Place) → Over j a v.x → Over j b v.y → Over j c v.z → Over k p w.x → Over k q w.y → Over k r w.z → Over (j *ℤ k) (dot3 a b c p q r) (dot v w)
 dot_over j k a b c p q r v w ea eb ec ep eq er =
-    over_add (j *ℤ k) ((a *ℤ p) +ℤ (b *ℤ q)) (c *ℤ r) (add_r (mul_r v.x w.x) (mul_r v.y w.y)) (mul_r v.z w.z)
-    (over_add (j *ℤ k) (a *ℤ p) (b *ℤ q) (mul_r v.x w.x) (mul_r v.y w.y) (over_mul j k a p v.x w.x ea ep) (over_mul j k b q v.y w.y eb eq))
+    over_add (j *ℤ k) ((a *ℤ p) +ℤ (b *ℤ q)) (c *ℤ r) (v.x *ʳ w.x +ʳ v.y *ʳ w.y) (v.z *ʳ w.z)
+    (over_add (j *ℤ k) (a *ℤ p) (b *ℤ q) (v.x *ʳ w.x) (v.y *ʳ w.y) (over_mul j k a p v.x w.x ea ep) (over_mul j k b q v.y w.y eb eq))
     (over_mul j k c r v.z w.z ec er)
 
 -- both sides of the rule over one denominator
@@ -97,8 +97,8 @@ sides mask x y z p q r =
     let n : ℤ = dot3 p q r p q r in
     record {
       rise = rise;
-      mask_is = over_times (pos 671088640000000000000000) (pos (mask * mask)) (m *ℤ n) (mul_r (square offset_vector) (square point)) (over_mul (pos 6710886400000000) (pos 100000000) m n (square offset_vector) (square point) offset_dot_over point_dot_over);
-      height_is = over_times (pos 671088640000000000000000) (pos 1000000) (k *ℤ k) (mul_r (dot offset_vector point) (dot offset_vector point)) (over_mul (pos 819200000000) (pos 819200000000) k k (dot offset_vector point) (dot offset_vector point) rise rise);
+      mask_is = over_times (pos 671088640000000000000000) (pos (mask * mask)) (m *ℤ n) (square offset_vector *ʳ square point) (over_mul (pos 6710886400000000) (pos 100000000) m n (square offset_vector) (square point) offset_dot_over point_dot_over);
+      height_is = over_times (pos 671088640000000000000000) (pos 1000000) (k *ℤ k) (dot offset_vector point *ʳ dot offset_vector point) (over_mul (pos 819200000000) (pos 819200000000) k k (dot offset_vector point) (dot offset_vector point) rise rise);
     }
 
 pub is_above : (mask : ℕ) (d s t : ℤ) (seen point : Place) → AreSides mask d s t seen point → pos 0 ≤ℤ d

@@ -7,7 +7,7 @@ use Rattle.whole_math.proofs.Order.{lins, mul_le_left}
 use Rattle.whole_math.proofs.Inequalities.{pos_nn, same_by}
 use Rattle.whole_math.proofs.Rounding.{floor_greatest, ceil_least}
 use Rattle.whole_math.proofs.Extremes.{min_case, max_case}
-use Rattle.rational.specs.Rational.{Rational, ◌≤ʳ◌, of_whole, add_r, mul_r, IsAtMostInSize}
+use Rattle.rational.specs.Rational.{Rational, ◌≤ʳ◌, of_whole, ◌+ʳ◌, ◌*ʳ◌, IsAtMostInSize}
 use Rattle.rational.proofs.Laws.{≤ʳ_trans}
 use Rattle.iv_core.specs.Boxes.{least_ratio, most_ratio}
 use Rattle.iv_core.proofs.QuotientLaws.{positive_is}
@@ -78,10 +78,10 @@ pub move_x : (m : Place) → IsDisplacement m → IsAtMostInSize (of_whole (pos 
 move_x m h = coordinates m.x m.y m.z 16 h
 
 pub move_y : (m : Place) → IsDisplacement m → IsAtMostInSize (of_whole (pos 16)) m.y
-move_y m h = coordinates m.y m.x m.z 16 (≤ʳ_trans (add_r (add_r (mul_r m.y m.y) (mul_r m.x m.x)) (mul_r m.z m.z)) (square m) (of_whole (pos 256)) (turned_round m.x m.y m.z) h)
+move_y m h = coordinates m.y m.x m.z 16 (≤ʳ_trans (m.y *ʳ m.y +ʳ m.x *ʳ m.x +ʳ m.z *ʳ m.z) (square m) (of_whole (pos 256)) (turned_round m.x m.y m.z) h)
 
 pub move_z : (m : Place) → IsDisplacement m → IsAtMostInSize (of_whole (pos 16)) m.z
-move_z m h = coordinates m.z m.y m.x 16 (≤ʳ_trans (add_r (add_r (mul_r m.z m.z) (mul_r m.y m.y)) (mul_r m.x m.x)) (square m) (of_whole (pos 256)) (turned_about m.x m.y m.z) h)
+move_z m h = coordinates m.z m.y m.x 16 (≤ʳ_trans (m.z *ʳ m.z +ʳ m.y *ʳ m.y +ʳ m.x *ʳ m.x) (square m) (of_whole (pos 256)) (turned_about m.x m.y m.z) h)
 
 -- what an end of a coordinate is at most, in plain powers
 pub wider : (l x : ℤ) → neg_ℤ ((l +ℤ pos 80) +ℤ pos 524289) ≤ℤ x → neg_ℤ (l +ℤ pos (2 ^ 20)) ≤ℤ x

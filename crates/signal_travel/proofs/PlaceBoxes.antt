@@ -1,7 +1,7 @@
 -- From the distances of the places in a box to the limits of its ends.
 use Rattle.std.proofs.Common.{ℕ, ◌*◌, ◌^◌, ℤ, pos, ◌*ℤ◌, neg_ℤ, ◌≤ℤ◌, arith}
 use Rattle.std.proofs.lemmas.Int.{ints}
-use Rattle.rational.specs.Rational.{Rational, ◌≤ʳ◌, of_whole, of_scale, add_r, mul_r, neg_r}
+use Rattle.rational.specs.Rational.{Rational, ◌≤ʳ◌, of_whole, of_scale, ◌+ʳ◌, ◌*ʳ◌, neg_r}
 use Rattle.rational.proofs.Laws.{≤ʳ_trans}
 use Rattle.iv_core.specs.declared.Iv.{Iv}
 use Rattle.iv_core.specs.Intervals.{IsWithin}
@@ -23,13 +23,13 @@ away_within l m x y z away =
     let d : Rational = of_scale 36 x.hi in
     let e : Rational = of_scale 36 y.hi in
     let f : Rational = of_scale 36 z.hi in
-    let most : Rational = mul_r (of_whole (pos m)) (of_whole (pos m)) in
+    let most : Rational = of_whole (pos m) *ʳ of_whole (pos m) in
     let low = (away a b c (low_held x) (low_held y) (low_held z)).1 in (
       ends x m (coordinates a b c m low).1 (coordinates d b c m (away d b c (high_held x) (low_held y) (low_held z)).1).0,
-      ends y m (coordinates b a c m (≤ʳ_trans (add_r (add_r (mul_r b b) (mul_r a a)) (mul_r c c)) (add_r (add_r (mul_r a a) (mul_r b b)) (mul_r c c)) most (turned_round a b c) low)).1
-          (coordinates e a c m (≤ʳ_trans (add_r (add_r (mul_r e e) (mul_r a a)) (mul_r c c)) (add_r (add_r (mul_r a a) (mul_r e e)) (mul_r c c)) most
+      ends y m (coordinates b a c m (≤ʳ_trans (b *ʳ b +ʳ a *ʳ a +ʳ c *ʳ c) (a *ʳ a +ʳ b *ʳ b +ʳ c *ʳ c) most (turned_round a b c) low)).1
+          (coordinates e a c m (≤ʳ_trans (e *ʳ e +ʳ a *ʳ a +ʳ c *ʳ c) (a *ʳ a +ʳ e *ʳ e +ʳ c *ʳ c) most
           (turned_round a e c) (away a e c (low_held x) (high_held y) (low_held z)).1)).0,
-      ends z m (coordinates c b a m (≤ʳ_trans (add_r (add_r (mul_r c c) (mul_r b b)) (mul_r a a)) (add_r (add_r (mul_r a a) (mul_r b b)) (mul_r c c)) most (turned_about a b c) low)).1
-          (coordinates f b a m (≤ʳ_trans (add_r (add_r (mul_r f f) (mul_r b b)) (mul_r a a)) (add_r (add_r (mul_r a a) (mul_r b b)) (mul_r f f)) most
+      ends z m (coordinates c b a m (≤ʳ_trans (c *ʳ c +ʳ b *ʳ b +ʳ a *ʳ a) (a *ʳ a +ʳ b *ʳ b +ʳ c *ʳ c) most (turned_about a b c) low)).1
+          (coordinates f b a m (≤ʳ_trans (f *ʳ f +ʳ b *ʳ b +ʳ a *ʳ a) (a *ʳ a +ʳ b *ʳ b +ʳ f *ʳ f) most
           (turned_about a b f) (away a b f (low_held x) (low_held y) (high_held z)).1)).0,
     )

@@ -4,7 +4,7 @@ use Rattle.std.proofs.lemmas.Int.{ints}
 use Rattle.whole_math.proofs.Ring.{◌⊕◌, ◌⊗◌}
 use Rattle.whole_math.proofs.Inequalities.{same_by, nat}
 use Rattle.whole_math.proofs.Order.{le_pos, lt_pos}
-use Rattle.rational.specs.Rational.{Rational, ◌≈◌, ◌≤ʳ◌, of_whole, of_scale, add_r, sub_r, mul_r, times, two_to_minus, AreWithin, InBox}
+use Rattle.rational.specs.Rational.{Rational, ◌≈◌, ◌≤ʳ◌, of_whole, of_scale, ◌+ʳ◌, ◌-ʳ◌, ◌*ʳ◌, times, two_to_minus, AreWithin, InBox}
 use Rattle.rational.proofs.Boxes.{end_in}
 use Rattle.rational.proofs.Laws.{≈_sym, ≤ʳ_trans, ≤ʳ_total, ≤ʳ_from_same}
 use Rattle.iv_core.specs.declared.Iv.{Iv}
@@ -29,30 +29,30 @@ use Rattle.signal_travel.proofs.SeenAfterCertificates.{rate_times, rate_enough, 
 -- ---- the turns of two times
 -- half of what the parts of the pairs of two times within d are apart at most
 half_move : Rational → Rational
-half_move d = add_r (mul_r earth_rate d) (two_to_minus 68)
+half_move d = earth_rate *ʳ d +ʳ two_to_minus 68
 
 -- twice a sum with the slack of the law of pairs
-twice_sum : (e : Rational) → add_r (times 2 e) (two_to_minus 67) ≤ʳ times 2 (add_r e (two_to_minus 68))
-twice_sum e = ≤ʳ_from_same (add_r (times 2 e) (two_to_minus 67)) (times 2 (add_r e (two_to_minus 68)))
+twice_sum : (e : Rational) → times 2 e +ʳ two_to_minus 67 ≤ʳ times 2 (e +ʳ two_to_minus 68)
+twice_sum e = ≤ʳ_from_same (times 2 e +ʳ two_to_minus 67) (times 2 (e +ʳ two_to_minus 68))
     (same_by (e.num ∷ pos e.den ∷ []) (λ n d. (
       (nat 2 ⊗ n ⊗ nat 147573952589676412928 ⊕ nat 1 ⊗ d) ⊗ (d ⊗ nat 295147905179352825856),
       nat 2 ⊗ (n ⊗ nat 295147905179352825856 ⊕ nat 1 ⊗ d) ⊗ (d ⊗ nat 147573952589676412928),
     )) refl)
 
-near_turns : (d a b : Rational) (p q : Pair) → AreWithin d a b → IsAnglePair 5 (mul_r earth_rate a) p.cos p.sin → IsAnglePair 5 (mul_r earth_rate b) q.cos q.sin → AreTurns (half_move d) p q
+near_turns : (d a b : Rational) (p q : Pair) → AreWithin d a b → IsAnglePair 5 (earth_rate *ʳ a) p.cos p.sin → IsAnglePair 5 (earth_rate *ʳ b) q.cos q.sin → AreTurns (half_move d) p q
 unfolding half_move
 near_turns d a b p q w hp hq =
-    let e : Rational = mul_r earth_rate d in
-    let law = sharp_law 5 e (mul_r earth_rate a) (mul_r earth_rate b) p.cos p.sin q.cos q.sin (lit≤ tt) hp hq
+    let e : Rational = earth_rate *ʳ d in
+    let law = sharp_law 5 e (earth_rate *ʳ a) (earth_rate *ʳ b) p.cos p.sin q.cos q.sin (lit≤ tt) hp hq
     (rate_times earth_rate d a b rate_low w.0, rate_times earth_rate d b a rate_low w.1) in
-    let cos = both_within (add_r e (two_to_minus 68)) p.cos q.cos (loosely_within e p.cos q.cos law.0) in
-    let sin = both_within (add_r e (two_to_minus 68)) p.sin q.sin (loosely_within e p.sin q.sin law.1) in
+    let cos = both_within (e +ʳ two_to_minus 68) p.cos q.cos (loosely_within e p.cos q.cos law.0) in
+    let sin = both_within (e +ʳ two_to_minus 68) p.sin q.sin (loosely_within e p.sin q.sin law.1) in
     record { cos_up = cos.0; cos_down = cos.1; sin_up = sin.0; sin_down = sin.1 }
   where
-    loosely_within : (e p q : Rational) → AreWithin (add_r (times 2 e) (two_to_minus 67)) p q → AreWithin (times 2 (add_r e (two_to_minus 68))) p q
+    loosely_within : (e p q : Rational) → AreWithin (times 2 e +ʳ two_to_minus 67) p q → AreWithin (times 2 (e +ʳ two_to_minus 68)) p q
     loosely_within e p q h = (
-      ≤ʳ_trans (sub_r p q) (add_r (times 2 e) (two_to_minus 67)) (times 2 (add_r e (two_to_minus 68))) h.0 (twice_sum e),
-      ≤ʳ_trans (sub_r q p) (add_r (times 2 e) (two_to_minus 67)) (times 2 (add_r e (two_to_minus 68))) h.1 (twice_sum e),
+      ≤ʳ_trans (p -ʳ q) (times 2 e +ʳ two_to_minus 67) (times 2 (e +ʳ two_to_minus 68)) h.0 (twice_sum e),
+      ≤ʳ_trans (q -ʳ p) (times 2 e +ʳ two_to_minus 67) (times 2 (e +ʳ two_to_minus 68)) h.1 (twice_sum e),
     )
 
 -- ---- the times of light after them
@@ -65,16 +65,16 @@ gap : (sent point seen : Place) (a t : Rational) → AreApart sent point → (x 
 gap sent point seen a t h x =
     let place : Place = turned_back x.turn sent in
     record {
-      bounds = vector_square place point (loosely (square place) (turned_square sent (mul_r earth_rate a) x.turn h.is_sent x.turn_is)) h.is_receiver;
+      bounds = vector_square place point (loosely (square place) (turned_square sent (earth_rate *ʳ a) x.turn h.is_sent x.turn_is)) h.is_receiver;
       same = square_same (difference seen point) (difference place point) (difference_same seen place point x.seen_is);
     }
 
-rate_most : mul_r (of_whole (pos 1000000000000000)) earth_rate ≤ʳ of_whole (pos 72921151467)
+rate_most : of_whole (pos 1000000000000000) *ʳ earth_rate ≤ʳ of_whole (pos 72921151467)
 rate_most = le_pos (1000000000000000 * 72921151467) (72921151467 * 1000000000000000) (lit≤ tt)
 
 -- 1000 |t - s| ≤ d + 2^-50 for times of light t and s after turns in times within d of each other
 pub closer : (sent point seen other : Place) (d a b t s : Rational) → AreApart sent point → of_whole (pos 0) ≤ʳ d → AreWithin d a b →
-    IsSeenAfter sent point a t seen → IsSeenAfter sent point b s other → mul_r (of_whole (pos 1000)) (sub_r t s) ≤ʳ add_r d (two_to_minus 50)
+    IsSeenAfter sent point a t seen → IsSeenAfter sent point b s other → of_whole (pos 1000) *ʳ (t -ʳ s) ≤ʳ d +ʳ two_to_minus 50
 unfolding half_move
 closer sent point seen other d a b t s h o w x y =
     let u : Rational = half_move d in
@@ -94,15 +94,15 @@ closer sent point seen other d a b t s h o w x y =
     (range_least (range_of s) right_square low (≤ʳ_trans (of_whole (pos 141000000000000)) right_turned_square right_square right_gap.bounds.low below)) in
     let sum_nonnegative = both_least d v o (le_pos 0 1 (lit≤ tt)) in
     times_apart t s d v
-    (root_r (mul_r (of_whole (pos 1000)) (range_of t)) (add_r (mul_r (of_whole (pos 1000)) (range_of s)) (mul_r (of_whole (pos 299792458)) (add_r d v)))
+    (root_r (of_whole (pos 1000) *ʳ range_of t) (of_whole (pos 1000) *ʳ range_of s +ʳ of_whole (pos 299792458) *ʳ (d +ʳ v))
     (sum_least s d v far sum_nonnegative)
     (times_square t s d v u left_turned_square right_turned_square left_square right_square (near_high (range_of t) left_square (range_root t left_square x.travel_is)) low
-    (moves_slowly sent point u (mul_r earth_rate b) (mul_r earth_rate a) y.turn x.turn h y.turn_is x.turn_is (near_turns d b a y.turn x.turn (w.1, w.0) y.turn_is x.turn_is))
+    (moves_slowly sent point u (earth_rate *ʳ b) (earth_rate *ʳ a) y.turn x.turn h y.turn_is x.turn_is (near_turns d b a y.turn x.turn (w.1, w.0) y.turn_is x.turn_is))
     (enough d o) above below (≤ʳ_trans left_square left_turned_square most above left_gap.bounds.high)
     (≤ʳ_trans right_square right_turned_square most (≤ʳ_from_same right_square right_turned_square right_gap.same) right_gap.bounds.high) far sum_nonnegative))
   where
-    enough : (d : Rational) → of_whole (pos 0) ≤ʳ d → add_r (mul_r (of_whole (pos 1152921504606846976)) (mul_r (of_whole (pos 96672000000000000)) (half_move d))) (of_whole (pos 4080000000000000))
-        ≤ʳ mul_r (of_whole (pos 8157037253232621494131805388800)) (add_r d (two_to_minus 50))
+    enough : (d : Rational) → of_whole (pos 0) ≤ʳ d → of_whole (pos 1152921504606846976) *ʳ (of_whole (pos 96672000000000000) *ʳ half_move d) +ʳ of_whole (pos 4080000000000000)
+        ≤ʳ of_whole (pos 8157037253232621494131805388800) *ʳ (d +ʳ two_to_minus 50)
     enough d o = rate_enough d earth_rate (two_to_minus 68) (two_to_minus 50) o rate_most (le_pos (2 ^ 68) (2 ^ 68) (lit≤ tt)) (le_pos (2 ^ 50) (2 ^ 50) (lit≤ tt))
 
 -- ---- light comes from somewhere after each turn
@@ -116,7 +116,7 @@ light_after sent point l h l0 l1 =
     let some_turn_exists = some_turn l l0 l1 in
     let place : Place = turned_back some_turn_exists.turn sent in
     let square_length : Rational = square (difference place point) in
-    let bounds = vector_square place point (loosely (square place) (turned_square sent (mul_r earth_rate (of_scale 60 l)) some_turn_exists.turn h.is_sent some_turn_exists.is_pair)) h.is_receiver in
+    let bounds = vector_square place point (loosely (square place) (turned_square sent (earth_rate *ʳ of_scale 60 l) some_turn_exists.turn h.is_sent some_turn_exists.is_pair)) h.is_receiver in
     let has_root = near_root_exists (over_light_speed_squared square_length) (positive square_length bounds.low) in
     record { seen = place; travel = has_root.root; is_seen = record { turn = some_turn_exists.turn; turn_is = some_turn_exists.is_pair; seen_is = (refl, refl, refl); travel_is = has_root.is_root } }
   where
@@ -130,7 +130,7 @@ light_after sent point l h l0 l1 =
 is_after : (sent point seen : Place) (t : Rational) → IsSeenPlace sent point t seen → IsSeenAfter sent point t t seen
 is_after sent point seen t h = record { turn = h.turn; turn_is = h.turn_is; seen_is = h.seen_is; travel_is = h.travel_is }
 
-reach_enough : add_r (mul_r (of_whole (pos 1000)) (of_scale 60 (pos 4080))) (two_to_minus 50) ≤ʳ mul_r (of_whole (pos 999)) (of_scale 60 (pos 4096))
+reach_enough : of_whole (pos 1000) *ʳ of_scale 60 (pos 4080) +ʳ two_to_minus 50 ≤ʳ of_whole (pos 999) *ʳ of_scale 60 (pos 4096)
 reach_enough = omega (arith, ints)
 
 pub settled : (sent point seen : Place) (g lo hi l h : ℤ) (t : Rational) → AreApart sent point → pos 0 ≤ℤ g → g ≤ℤ pos 192153584101141163 →
@@ -148,22 +148,22 @@ settled sent point seen g lo hi l h t k g0 g1 el eh holds above below is =
     let is_seen_after = is_after sent point seen t is in
     go (≤ʳ_total guess t)
     (λ o. not_late t travel guess a r v
-    (closer sent point seen light.seen (sub_r t guess) t guess t travel k (less_least t guess o) (≤ʳ_from_same (sub_r t guess) (sub_r t guess) refl, less_back t guess o) is_seen_after light.is_seen)
-    (≤ʳ_trans travel (of_scale 60 hi) (add_r guess a) travel_in_box.1 (up hi g above)) reach_enough)
+    (closer sent point seen light.seen (t -ʳ guess) t guess t travel k (less_least t guess o) (≤ʳ_from_same (t -ʳ guess) (t -ʳ guess) refl, less_back t guess o) is_seen_after light.is_seen)
+    (≤ʳ_trans travel (of_scale 60 hi) (guess +ʳ a) travel_in_box.1 (up hi g above)) reach_enough)
     (λ o. not_early t travel guess a r v
-    (closer sent point light.seen seen (sub_r guess t) guess t travel t k (less_least guess t o) (≤ʳ_from_same (sub_r guess t) (sub_r guess t) refl, less_back guess t o) light.is_seen is_seen_after)
-    (≤ʳ_trans (sub_r guess a) (of_scale 60 lo) travel (down lo g below) travel_in_box.0) reach_enough)
+    (closer sent point light.seen seen (guess -ʳ t) guess t travel t k (less_least guess t o) (≤ʳ_from_same (guess -ʳ t) (guess -ʳ t) refl, less_back guess t o) light.is_seen is_seen_after)
+    (≤ʳ_trans (guess -ʳ a) (of_scale 60 lo) travel (down lo g below) travel_in_box.0) reach_enough)
   where
-    up : (hi g : ℤ) → (hi -ℤ g) ≤ℤ pos 4080 → of_scale 60 hi ≤ʳ add_r (of_scale 60 g) (of_scale 60 (pos 4080))
+    up : (hi g : ℤ) → (hi -ℤ g) ≤ℤ pos 4080 → of_scale 60 hi ≤ʳ of_scale 60 g +ʳ of_scale 60 (pos 4080)
     up hi g h = omega (arith, ints)
 
-    down : (lo g : ℤ) → (g -ℤ lo) ≤ℤ pos 4080 → sub_r (of_scale 60 g) (of_scale 60 (pos 4080)) ≤ʳ of_scale 60 lo
+    down : (lo g : ℤ) → (g -ℤ lo) ≤ℤ pos 4080 → of_scale 60 g -ʳ of_scale 60 (pos 4080) ≤ʳ of_scale 60 lo
     down lo g h = omega (arith, ints)
 
-    high : (g h : ℤ) → h ≡ g +ℤ pos 4096 → add_r (of_scale 60 g) (of_scale 60 (pos 4096)) ≤ʳ of_scale 60 h
+    high : (g h : ℤ) → h ≡ g +ℤ pos 4096 → of_scale 60 g +ʳ of_scale 60 (pos 4096) ≤ʳ of_scale 60 h
     high g h e = omega (arith, ints)
 
-    low : (g l : ℤ) → l ≡ g -ℤ pos 4096 → of_scale 60 l ≤ʳ sub_r (of_scale 60 g) (of_scale 60 (pos 4096))
+    low : (g l : ℤ) → l ≡ g -ℤ pos 4096 → of_scale 60 l ≤ʳ of_scale 60 g -ʳ of_scale 60 (pos 4096)
     low g l e = omega (arith, ints)
 
     least : (g l : ℤ) → l ≡ g -ℤ pos 4096 → of_scale 60 l ≤ʳ of_scale 60 g
@@ -172,10 +172,10 @@ settled sent point seen g lo hi l h t k g0 g1 el eh holds above below is =
     most : (g h : ℤ) → h ≡ g +ℤ pos 4096 → of_scale 60 g ≤ʳ of_scale 60 h
     most g h e = omega (arith, ints)
 
-    go : (of_scale 60 g ≤ʳ t) ⊎ (t ≤ʳ of_scale 60 g) → (of_scale 60 g ≤ʳ t → t ≤ʳ add_r (of_scale 60 g) (of_scale 60 (pos 4096)))
-        → (t ≤ʳ of_scale 60 g → sub_r (of_scale 60 g) (of_scale 60 (pos 4096)) ≤ʳ t) → InBox 60 l h t
-    go (inl o) late early = (≤ʳ_trans (of_scale 60 l) (of_scale 60 g) t (least g l el) o, ≤ʳ_trans t (add_r (of_scale 60 g) (of_scale 60 (pos 4096))) (of_scale 60 h) (late o) (high g h eh))
-    go (inr o) late early = (≤ʳ_trans (of_scale 60 l) (sub_r (of_scale 60 g) (of_scale 60 (pos 4096))) t (low g l el) (early o), ≤ʳ_trans t (of_scale 60 g) (of_scale 60 h) o (most g h eh))
+    go : (of_scale 60 g ≤ʳ t) ⊎ (t ≤ʳ of_scale 60 g) → (of_scale 60 g ≤ʳ t → t ≤ʳ of_scale 60 g +ʳ of_scale 60 (pos 4096))
+        → (t ≤ʳ of_scale 60 g → of_scale 60 g -ʳ of_scale 60 (pos 4096) ≤ʳ t) → InBox 60 l h t
+    go (inl o) late early = (≤ʳ_trans (of_scale 60 l) (of_scale 60 g) t (least g l el) o, ≤ʳ_trans t (of_scale 60 g +ʳ of_scale 60 (pos 4096)) (of_scale 60 h) (late o) (high g h eh))
+    go (inr o) late early = (≤ʳ_trans (of_scale 60 l) (of_scale 60 g -ʳ of_scale 60 (pos 4096)) t (low g l el) (early o), ≤ʳ_trans t (of_scale 60 g) (of_scale 60 h) o (most g h eh))
 
 -- ---- in the code's terms: a pass from the times around x leads near x, so that the times around it are all
 pub all_around : (sent : SentBox) (point : Point) (box travel : Iv 60) (x : ℤ) → pos 4096 ≤ℤ x → (x +ℤ pos 4096) ≤ℤ pos 192153584101141163 →

@@ -4,7 +4,7 @@ use Rattle.std.proofs.lemmas.Int.{ints}
 use Rattle.whole_math.proofs.Ring.{va, ko, ◌⊖◌}
 use Rattle.whole_math.proofs.Certificates.{◌≼◌, hy, ◌⊞◌}
 use Rattle.whole_math.proofs.Inequalities.{le_refl_ℤ}
-use Rattle.rational.specs.Rational.{Rational, ◌≤ʳ◌, of_whole, of_scale, mul_r, sub_r, InBox}
+use Rattle.rational.specs.Rational.{Rational, ◌≤ʳ◌, of_whole, of_scale, ◌*ʳ◌, ◌-ʳ◌, InBox}
 use Rattle.rational.proofs.Boxes.{InBox-along, end_in}
 use Rattle.rational.proofs.Laws.{≈_sym}
 use Rattle.orbit_model.proofs.Orders.{cert_r}
@@ -59,12 +59,12 @@ point_place p = receiver_place p.x p.y p.z p.receiver
 -- a travel time of the box has a pair of the Earth's turn
 pub record IsSomeTurn (t : Rational) : Type 0 where
   pub turn : Pair
-  pub is_pair : IsAnglePair 5 (mul_r earth_rate t) turn.cos turn.sin
+  pub is_pair : IsAnglePair 5 (earth_rate *ʳ t) turn.cos turn.sin
 
 pub some_turn : (l : ℤ) → pos 0 ≤ℤ l → l ≤ℤ pos 192153584101141163 → IsSomeTurn (of_scale 60 l)
 some_turn l h k =
-    let canonical_pair = canonical_exists 5 (mul_r earth_rate (of_scale 60 l)) (go l h k) in
-    record { turn = record { cos = canonical_pair.0; sin = canonical_pair.1 }; is_pair = canonical_is_pair 5 (mul_r earth_rate (of_scale 60 l)) canonical_pair.0 canonical_pair.1 canonical_pair.2 }
+    let canonical_pair = canonical_exists 5 (earth_rate *ʳ of_scale 60 l) (go l h k) in
+    record { turn = record { cos = canonical_pair.0; sin = canonical_pair.1 }; is_pair = canonical_is_pair 5 (earth_rate *ʳ of_scale 60 l) canonical_pair.0 canonical_pair.1 canonical_pair.2 }
   where
     go : (l : ℤ) → pos 0 ≤ℤ l → l ≤ℤ pos 192153584101141163 → 2 * unsigned_abs (pos 72921151467 *ℤ l) ≤ 2 ^ 5 * (10 ^ 15 * 2 ^ 60)
     go l h k = omega (arith, ints)
@@ -76,14 +76,14 @@ pub record HasTurned (b : VectorBox) : Type 0 where
   pub bounds : IsBetween 360990000000000 1444030000000000 (square place)
 
 pub turned_in : (sent b : VectorBox) (tl th : ℤ) → IsBetweenDistances 19000000 38000000 sent.x sent.y sent.z → pos 0 ≤ℤ tl → tl ≤ℤ th → th ≤ℤ pos 192153584101141163 →
-    ((t : Rational) (pair : Pair) → InBox 60 tl th t → IsAnglePair 5 (mul_r earth_rate t) pair.cos pair.sin → (p : Place) → HoldsVector sent p → HoldsVector b (turned_back pair p)) → HasTurned b
+    ((t : Rational) (pair : Pair) → InBox 60 tl th t → IsAnglePair 5 (earth_rate *ʳ t) pair.cos pair.sin → (p : Place) → HoldsVector sent p → HoldsVector b (turned_back pair p)) → HasTurned b
 turned_in sent b tl th away t0 o t1 holds =
     let some_turn_exists = some_turn tl t0 (through tl th o t1) in
     let lowest_place : Place = lowest sent in
     record {
       place = turned_back some_turn_exists.turn lowest_place;
       held = holds (of_scale 60 tl) some_turn_exists.turn (end_in 60 tl th tl (le_refl_ℤ tl) o) some_turn_exists.is_pair lowest_place (lowest_held sent);
-      bounds = turned_square lowest_place (mul_r earth_rate (of_scale 60 tl)) some_turn_exists.turn (lowest_sent sent away) some_turn_exists.is_pair;
+      bounds = turned_square lowest_place (earth_rate *ʳ of_scale 60 tl) some_turn_exists.turn (lowest_sent sent away) some_turn_exists.is_pair;
     }
   where
     through : (a b : ℤ) → a ≤ℤ b → b ≤ℤ pos 192153584101141163 → a ≤ℤ pos 192153584101141163
@@ -96,10 +96,10 @@ between b v p h holds =
     record { vector = difference h.place (point_of p.x p.y p.z); held = holds h.place h.held; far = square_between.low; near = square_between.high }
 
 -- ---- two places in a narrow box are near each other
-apart : (a x h l : Rational) → a ≤ʳ h → l ≤ʳ x → sub_r h l ≤ʳ of_whole (pos 1) → sub_r a x ≤ʳ of_whole (pos 1)
+apart : (a x h l : Rational) → a ≤ʳ h → l ≤ʳ x → h -ʳ l ≤ʳ of_whole (pos 1) → a -ʳ x ≤ʳ of_whole (pos 1)
 apart a x h l i j k = cert_r (a ∷ x ∷ h ∷ l ∷ []) ((va 0 ≼ va 2) ∷ (va 3 ≼ va 1) ∷ (va 2 ⊖ va 3 ≼ ko (pos 1)) ∷ []) (va 0 ⊖ va 1) (ko (pos 1)) (hy 0 ⊞ hy 1 ⊞ hy 2) refl (i, (j, (k, tt)))
 
-near : (b : Iv 36) (p q : Rational) → width_of b ≤ℤ pos (2 ^ 19) → Holds b p → Holds b q → sub_r p q ≤ʳ of_whole (pos 1)
+near : (b : Iv 36) (p q : Rational) → width_of b ≤ℤ pos (2 ^ 19) → Holds b p → Holds b q → p -ʳ q ≤ʳ of_whole (pos 1)
 near b p q w h k = apart p q (of_scale 36 b.hi) (of_scale 36 b.lo) h.1 k.0 (go b.lo b.hi w)
   where
     go : (l h : ℤ) → (h -ℤ l) ≤ℤ pos 524288 → (((h *ℤ pos 68719476736) -ℤ (l *ℤ pos 68719476736)) *ℤ pos 1) ≤ℤ (pos 1 *ℤ pos (68719476736 * 68719476736))

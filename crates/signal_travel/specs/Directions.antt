@@ -1,13 +1,13 @@
 -- What a spread says of a number, and three of a direction.
 use Rattle.std.specs.Prelude.{◌^◌, List, [], ◌∷◌, pos}
-use Rattle.rational.specs.Rational.{Rational, Near, of_whole, mul_r}
+use Rattle.rational.specs.Rational.{Rational, Near, of_whole, ◌*ʳ◌}
 use Rattle.orbit_model.specs.SeenPlaces.{Place}
 use Rattle.obs_rows.specs.declared.units.TheConstants.{DIRECTION_EXPONENT}
 use Rattle.signal_travel.specs.declared.spread.Spread.{Spread}
 
 -- q, as a row's direction, is within the radius of the centre
 abbrev pub IsInSpread : Spread → Rational → Type 0
-IsInSpread s q = Near s.centre s.radius (mul_r (of_whole (pos (2 ^ DIRECTION_EXPONENT))) q)
+IsInSpread s q = Near s.centre s.radius (of_whole (pos (2 ^ DIRECTION_EXPONENT)) *ʳ q)
 
 -- each rational is in the spread in its place, and the lists are equally long
 abbrev pub AreInSpreads : List Spread → List Rational → Type 0

@@ -1,5 +1,5 @@
 -- Where a receiver sees a satellite if the Earth turns in another time than light travels.
-use Rattle.rational.specs.Rational.{Rational, mul_r, IsNearRoot}
+use Rattle.rational.specs.Rational.{Rational, ◌*ʳ◌, IsNearRoot}
 use Rattle.trig_box.specs.AnglePairs.{Pair, IsAnglePair}
 use Rattle.orbit_model.specs.Elements.{earth_rate}
 use Rattle.orbit_model.specs.SeenPlaces.{Place, difference, square, turned_back, AreSamePlace, over_light_speed_squared}
@@ -8,6 +8,6 @@ use Rattle.orbit_model.specs.SeenPlaces.{Place, difference, square, turned_back,
 -- both times are one, it is what IsSeenPlace says
 pub record IsSeenAfter (sent point : Place) (turned travel : Rational) (seen : Place) : Type 0 where
   pub turn : Pair
-  pub turn_is : IsAnglePair 5 (mul_r earth_rate turned) turn.cos turn.sin
+  pub turn_is : IsAnglePair 5 (earth_rate *ʳ turned) turn.cos turn.sin
   pub seen_is : AreSamePlace seen (turned_back turn sent)
   pub travel_is : IsNearRoot travel (over_light_speed_squared (square (difference seen point)))

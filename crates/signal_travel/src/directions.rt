@@ -1,6 +1,6 @@
 //! The mean direction over a move: −(2 (x − p) − δ) over the sum of the ranges before and after it.
 ghost use Rattle.std.specs.Prelude.{◌≡◌, ◌+◌, ◌*◌, ◌^◌, ◌≤◌, pos, ◌+ℤ◌, ◌-ℤ◌, neg_ℤ, ◌≤ℤ◌, unsigned_abs};
-ghost use Rattle.rational.specs.Rational.{Rational, ◌≈◌, ◌≤ʳ◌, of_whole, add_r, sub_r, mul_r, IsAtMostInSize};
+ghost use Rattle.rational.specs.Rational.{Rational, ◌≈◌, ◌≤ʳ◌, of_whole, ◌+ʳ◌, ◌-ʳ◌, ◌*ʳ◌, IsAtMostInSize};
 ghost use Rattle.iv_core.specs.Intervals.{Holds, width_of, IsWithin};
 ghost use Rattle.orbit_model.specs.Places.{IsBetweenDistances};
 ghost use Rattle.orbit_model.specs.SeenPlaces.{Place, difference, point_of, IsDisplacement, IsMeanDirection};
@@ -30,8 +30,8 @@ fn sum_of_ranges(before: &Iv<36>) -> Iv<35>
     ensures lo { result.lo ≡ before.now.lo -ℤ pos (33 * 2 ^ 34) }
     ensures hi { result.hi ≡ before.now.hi +ℤ pos (33 * 2 ^ 34) }
     ensures holds { (r s : Rational) → Holds before.now r →
-        mul_r (of_whole (pos 2)) s ≤ʳ add_r (mul_r (of_whole (pos 2)) r) (of_whole (pos 33)) →
-        sub_r (mul_r (of_whole (pos 2)) r) (of_whole (pos 33)) ≤ʳ mul_r (of_whole (pos 2)) s → Holds result (add_r r s) }
+        of_whole (pos 2) *ʳ s ≤ʳ of_whole (pos 2) *ʳ r +ʳ of_whole (pos 33) →
+        of_whole (pos 2) *ʳ r -ʳ of_whole (pos 33) ≤ʳ of_whole (pos 2) *ʳ s → Holds result (r +ʳ s) }
 {
     Iv::from_ends(before.lo - MOST_CHANGE, before.hi + MOST_CHANGE)
 }
@@ -41,7 +41,7 @@ fn move_less_twice(x: &Iv<36>) -> Iv<35>
     requires { IsWithin (45200000 * 2 ^ 36) x.now }
     ensures lo { result.lo ≡ neg_ℤ x.now.hi -ℤ pos (16 * 2 ^ 35) }
     ensures hi { result.hi ≡ pos (16 * 2 ^ 35) -ℤ x.now.lo }
-    ensures holds { (q m : Rational) → Holds x.now q → IsAtMostInSize (of_whole (pos 16)) m → Holds result (sub_r m (mul_r (of_whole (pos 2)) q)) }
+    ensures holds { (q m : Rational) → Holds x.now q → IsAtMostInSize (of_whole (pos 16)) m → Holds result (m -ʳ of_whole (pos 2) *ʳ q) }
 {
     Iv::from_ends(-x.hi - LONGEST_MOVE, LONGEST_MOVE - x.lo)
 }
@@ -53,7 +53,7 @@ fn quotient_of(change: &Iv<35>, sum: &Iv<35>, inverses: &Inverses) -> Iv<DIRECTI
     requires high { change.now.hi ≤ℤ (sum.now.lo +ℤ pos (66 * 2 ^ 34)) }
     requires change_width { width_of change.now ≤ℤ pos (2 ^ 40 + 2 ^ 20) }
     requires sum_width { width_of sum.now ≤ℤ pos (33 * 2 ^ 35 + 2 ^ 20) }
-    ensures holds { (x y z : Rational) → Holds change.now x → Holds sum.now y → mul_r z y ≈ x → Holds result z }
+    ensures holds { (x y z : Rational) → Holds change.now x → Holds sum.now y → z *ʳ y ≈ x → Holds result z }
     ensures size { IsWithin (2 ^ DIRECTION_EXPONENT + 28) result }
     ensures width { width_of result ≤ℤ pos 57 }
 {
@@ -108,9 +108,9 @@ fn coordinate_spread(x: &Iv<36>, range: &Iv<36>, inverses: &Inverses) -> Spread
     requires low { neg_ℤ (range.now.lo +ℤ pos (2 ^ 20)) ≤ℤ x.now.lo }
     requires high { x.now.hi ≤ℤ (range.now.lo +ℤ pos (2 ^ 20)) }
     ensures { (q m r s u : Rational) → Holds x.now q → Holds range.now r → IsAtMostInSize (of_whole (pos 16)) m →
-        mul_r (of_whole (pos 2)) s ≤ʳ add_r (mul_r (of_whole (pos 2)) r) (of_whole (pos 33)) →
-        sub_r (mul_r (of_whole (pos 2)) r) (of_whole (pos 33)) ≤ʳ mul_r (of_whole (pos 2)) s →
-        mul_r u (add_r r s) ≈ sub_r m (mul_r (of_whole (pos 2)) q) → IsInSpread result u }
+        of_whole (pos 2) *ʳ s ≤ʳ of_whole (pos 2) *ʳ r +ʳ of_whole (pos 33) →
+        of_whole (pos 2) *ʳ r -ʳ of_whole (pos 33) ≤ʳ of_whole (pos 2) *ʳ s →
+        u *ʳ (r +ʳ s) ≈ m -ʳ of_whole (pos 2) *ʳ q → IsInSpread result u }
 {
     spread_of(&quotient_of(&move_less_twice(x), &sum_of_ranges(range), inverses))
 }

@@ -1,7 +1,7 @@
 //! The Earth's turn while a signal travels.
 ghost use Rattle.std.specs.Prelude.{◌≡◌, ◌+◌, ◌*◌, ◌/◌, ◌^◌, ◌<◌, ◌≤◌, pos, ◌+ℤ◌, ◌-ℤ◌, ◌*ℤ◌, ◌≤ℤ◌, ℤ};
 ghost use Rattle.whole_math.specs.Rounding.{floor_div};
-ghost use Rattle.rational.specs.Rational.{Rational, of_scale, mul_r};
+ghost use Rattle.rational.specs.Rational.{Rational, of_scale, ◌*ʳ◌};
 ghost use Rattle.iv_core.specs.Intervals.{Holds, width_of, IsWithin};
 ghost use Rattle.trig_box.specs.AnglePairs.{Pair, IsAnglePair};
 ghost use Rattle.trig_box.specs.PairBoxes.{HoldsPair, AreAtMostWide};
@@ -97,7 +97,7 @@ fn padded(x: &Iv<60>, pad: i64) -> Iv<60>
 /// Boxes of every pair of every angle by which the Earth turns in a time of the box.
 pub fn turn_in(travel: &Iv<60>) -> PairBox
     requires { IsTravel travel.now }
-    ensures holds { (t c s : Rational) → Holds travel.now t → IsAnglePair 5 (mul_r earth_rate t) c s → HoldsPair result c s }
+    ensures holds { (t c s : Rational) → Holds travel.now t → IsAnglePair 5 (earth_rate *ʳ t) c s → HoldsPair result c s }
     ensures cos_size { IsWithin (2 ^ 60 + 2 ^ 46) result.cos }
     ensures sin_size { IsWithin (2 ^ 46) result.sin }
     ensures width { (w : ℤ) → (width_of travel.now +ℤ pos (580 * 2 ^ 12 + 1)) ≤ℤ (pos (2 ^ 12) *ℤ w) → AreAtMostWide w result }
@@ -117,7 +117,7 @@ fn cos_part(cos: &Iv<60>, x: &Iv<36>) -> Iv<36>
     requires cos_size { IsWithin (2 ^ 60 + 2 ^ 46) cos.now }
     requires size { IsWithin (38000000 * 2 ^ 36) x.now }
     requires narrow { width_of x.now ≤ℤ pos (2 ^ 18) }
-    ensures holds { (c q : Rational) → Holds cos.now c → Holds x.now q → Holds result (mul_r c q) }
+    ensures holds { (c q : Rational) → Holds cos.now c → Holds x.now q → Holds result (c *ʳ q) }
     ensures size { IsWithin (38002400 * 2 ^ 36) result }
     ensures width { (pos (2 ^ 24) *ℤ width_of result) ≤ℤ ((pos 38000000 *ℤ width_of cos.now) +ℤ pos (262162 * 2 ^ 24)) }
 {
@@ -129,7 +129,7 @@ fn sin_part(sin: &Iv<60>, x: &Iv<36>) -> Iv<36>
     requires sin_size { IsWithin (2 ^ 46) sin.now }
     requires size { IsWithin (38000000 * 2 ^ 36) x.now }
     requires narrow { width_of x.now ≤ℤ pos (2 ^ 18) }
-    ensures holds { (s q : Rational) → Holds sin.now s → Holds x.now q → Holds result (mul_r s q) }
+    ensures holds { (s q : Rational) → Holds sin.now s → Holds x.now q → Holds result (s *ʳ q) }
     ensures size { IsWithin (2400 * 2 ^ 36) result }
     ensures width { (pos (2 ^ 24) *ℤ width_of result) ≤ℤ ((pos 38000000 *ℤ width_of sin.now) +ℤ pos (18 * 2 ^ 24)) }
 {

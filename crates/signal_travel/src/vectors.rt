@@ -1,7 +1,7 @@
 //! The vector from a point to a place, and its length.
 ghost use Rattle.std.specs.Prelude.{◌≡◌, ◌+◌, ◌*◌, ◌^◌, ◌<◌, ◌≤◌, ℤ, pos, ◌+ℤ◌, ◌-ℤ◌, ◌*ℤ◌, ◌≤ℤ◌, ◌<ℤ◌, unsigned_abs};
 ghost use Rattle.whole_math.specs.Rounding.{floor_div, ceil_div};
-ghost use Rattle.rational.specs.Rational.{Rational, sub_r, mul_r, IsNearRoot};
+ghost use Rattle.rational.specs.Rational.{Rational, ◌-ʳ◌, ◌*ʳ◌, IsNearRoot};
 ghost use Rattle.iv_core.specs.Boxes.{near_end, far_end};
 ghost use Rattle.iv_core.specs.Intervals.{Holds, width_of, IsWithin};
 ghost use Rattle.orbit_model.specs.SeenPlaces.{Place, square};
@@ -62,7 +62,7 @@ fn offset_from(x: &Iv<36>, coordinate: &Iv<36>) -> Iv<36>
     requires x_size { IsWithin (38100000 * 2 ^ 36) x.now }
     requires size { IsWithin (7000001 * 2 ^ 36) coordinate.now }
     requires narrow { width_of coordinate.now ≤ℤ pos 1 }
-    ensures holds { (q p : Rational) → Holds x.now q → Holds coordinate.now p → Holds result (sub_r q p) }
+    ensures holds { (q p : Rational) → Holds x.now q → Holds coordinate.now p → Holds result (q -ʳ p) }
     ensures size { IsWithin (45200000 * 2 ^ 36) result }
     ensures width { width_of result ≤ℤ (width_of x.now +ℤ pos 1) }
 {
@@ -73,9 +73,9 @@ fn offset_from(x: &Iv<36>, coordinate: &Iv<36>) -> Iv<36>
 pub fn vector_from(point: &Point, place: &VectorBox) -> VectorBox
     requires { IsVectorWithin (38100000 * 2 ^ 36) place.now }
     ensures holds { (p : Place) → HoldsVector place.now p → HoldsVector result (record {
-      x = sub_r p.x (coordinate_of point.now.x);
-      y = sub_r p.y (coordinate_of point.now.y);
-      z = sub_r p.z (coordinate_of point.now.z);
+      x = p.x -ʳ coordinate_of point.now.x;
+      y = p.y -ʳ coordinate_of point.now.y;
+      z = p.z -ʳ coordinate_of point.now.z;
     }) }
     ensures size { IsVectorWithin (45200000 * 2 ^ 36) result }
     ensures width { (w : ℤ) → IsVectorAtMostWide w place.now → IsVectorAtMostWide (w +ℤ pos 1) result }
@@ -89,7 +89,7 @@ pub fn vector_from(point: &Point, place: &VectorBox) -> VectorBox
 
 fn square_of(x: &Iv<36>) -> Iv<9>
     requires { IsWithin (45200000 * 2 ^ 36) x.now }
-    ensures holds { (q : Rational) → Holds x.now q → Holds result (mul_r q q) }
+    ensures holds { (q : Rational) → Holds x.now q → Holds result (q *ʳ q) }
     ensures lo { result.lo ≡ floor_div (near_end x.now.lo x.now.hi *ℤ near_end x.now.lo x.now.hi) (2 ^ 63) }
     ensures hi { result.hi ≡ ceil_div (far_end x.now.lo x.now.hi *ℤ far_end x.now.lo x.now.hi) (2 ^ 63) }
     ensures low { pos 0 ≤ℤ result.lo }

@@ -2,7 +2,7 @@
 ghost use Rattle.std.specs.Prelude.{None};
 
 use gal_obs::read_gal_obs;
-use line_source::{Failed, FileId, Files, Opening, OpeningLog, load_into};
+use line_source::{Failed, FileId, Files, GivenLog, Opening, OpeningLog, Reading, load_into};
 use rinex_obs::{GalFeed, ObsFeed, read_obs};
 use sim_session::make;
 use std::alloc::{AllocError, Global};
@@ -15,6 +15,7 @@ struct Pieces {
     at: usize,
     most: usize,
     openings: OpeningLog,
+    given: GivenLog,
 }
 
 impl Files for Pieces {
@@ -26,21 +27,26 @@ impl Files for Pieces {
 
     ghost openings = { λ s. s.openings.all };
 
+    ghost given = { λ s. s.given.all };
+
     ghost is_sure_name = { λ _ _. ⊥ };
 
     ghost is_sure_id = { λ _ _. ⊥ };
 
     fn open_file(&mut self, name: &str) -> Result<FileId, Failed> {
         let id = FileId(0);
-        self.openings = self.openings.and(&Opening { name, id });
+        let opening = Opening { name, id };
+        self.openings = self.openings.and(&opening);
+        self.given = self.given.opened(&opening);
         Ok(id)
     }
 
-    fn read(&mut self, _id: FileId, into: &mut [u8]) -> Result<usize, Failed> {
+    fn read(&mut self, id: FileId, into: &mut [u8]) -> Result<usize, Failed> {
         let at = self.at.min(self.text.len());
         let count = into.len().min(self.most).min(self.text.len() - at);
         into[..count].copy_from_slice(&self.text[at..at + count]);
         self.at = at + count;
+        self.given = self.given.gave(&Reading { into, id, count });
         Ok(count)
     }
 }
@@ -52,6 +58,7 @@ impl Pieces {
             at: 0,
             most,
             openings: OpeningLog::new(),
+            given: GivenLog::new(),
         })
     }
 }

@@ -5,20 +5,20 @@ use Rattle.obs_rows.specs.declared.units.TheConstants.{LIGHT_SPEED}
 use Rattle.whole_math.specs.Rounding.{IsFloor}
 use Rattle.whole_math.proofs.Ring.{va, ko, ◌⊕◌, ◌⊖◌, ◌⊗◌}
 use Rattle.whole_math.proofs.Certificates.{◌≼◌, hy, nm, ◌⊞◌, ◌⊠◌}
-use Rattle.rational.specs.Rational.{Rational, ◌≤ʳ◌, of_whole, of_scale, add_r, sub_r, mul_r, InBox}
+use Rattle.rational.specs.Rational.{Rational, ◌≤ʳ◌, of_whole, of_scale, ◌+ʳ◌, ◌-ʳ◌, ◌*ʳ◌, InBox}
 use Rattle.rational.proofs.Orders.{order_r}
 use Rattle.sim_session.specs.Observed.{IsDistance}
 
 lower : (lo clock f d : ℤ) → (LIGHT_SPEED *ℤ clock) <ℤ ((f *ℤ pos (2 ^ 24)) +ℤ pos (2 ^ 24)) → d ≡ lo -ℤ f →
-    add_r (of_scale 36 (d -ℤ pos 1)) (mul_r (of_whole LIGHT_SPEED) (of_scale 60 clock)) ≤ʳ of_scale 36 lo
+    of_scale 36 (d -ℤ pos 1) +ʳ of_whole LIGHT_SPEED *ʳ of_scale 60 clock ≤ʳ of_scale 36 lo
 lower lo clock f d h e = omega (arith, ints)
 
 upper : (lo hi least clock f d : ℤ) → (f *ℤ pos (2 ^ 24)) ≤ℤ (LIGHT_SPEED *ℤ clock) → d ≡ lo -ℤ f → (hi -ℤ lo) ≤ℤ pos (2 ^ 19) → (clock -ℤ least) ≤ℤ pos (2 ^ 10) →
-    of_scale 36 hi ≤ʳ add_r (of_scale 36 (d +ℤ pos (2 ^ 20))) (mul_r (of_whole LIGHT_SPEED) (of_scale 60 least))
+    of_scale 36 hi ≤ʳ of_scale 36 (d +ℤ pos (2 ^ 20)) +ʳ of_whole LIGHT_SPEED *ʳ of_scale 60 least
 upper lo hi least clock f d h e w v = omega (arith, ints)
 
 pub distance_is : (lo hi least clock f d : ℤ) (r t : Rational) → (hi -ℤ lo) ≤ℤ pos (2 ^ 19) → (clock -ℤ least) ≤ℤ pos (2 ^ 10) → IsFloor (LIGHT_SPEED *ℤ clock) (2 ^ 24) f → d ≡ lo -ℤ f →
-    InBox 36 lo hi r → InBox 60 least clock t → IsDistance d (sub_r r (mul_r (of_whole LIGHT_SPEED) t))
+    InBox 36 lo hi r → InBox 60 least clock t → IsDistance d (r -ʳ of_whole LIGHT_SPEED *ʳ t)
 distance_is lo hi least clock f d r t w v i e h k = (
   order_r (r ∷ t ∷ of_scale 36 lo ∷ of_scale 60 clock ∷ of_scale 36 (d -ℤ pos 1) ∷ [])
       ((va 2 ≼ va 0) ∷ (va 1 ≼ va 3) ∷ (va 4 ⊕ ko LIGHT_SPEED ⊗ va 3 ≼ va 2) ∷ []) []

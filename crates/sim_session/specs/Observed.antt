@@ -1,7 +1,8 @@
--- What a receiver observes of a satellite, as relations to every solution of the satellite's place and clock and of the seen place.
+-- What a receiver observes of a satellite, as relations to every solution of the satellite's place and clock and of the seen place: there is
+-- one at each step.
 use Rattle.std.specs.Prelude.{◌≡◌, ℕ, zero, suc, ◌/◌, ◌^◌, List, [], ◌∷◌, ℤ, pos, ◌+ℤ◌, ◌-ℤ◌, ◌*ℤ◌, unsigned_abs, slice_index_or}
 use Rattle.std.proofs.Common.{lit<}
-use Rattle.rational.specs.Rational.{Rational, of_whole, add_r, sub_r, mul_r, divided, AreWithin, InBox}
+use Rattle.rational.specs.Rational.{Rational, of_whole, ◌+ʳ◌, ◌-ʳ◌, ◌*ʳ◌, divided, AreWithin, InBox}
 use Rattle.obs_rows.specs.declared.units.TheConstants.{UNIT_FREQUENCY, LIGHT_SPEED}
 use Rattle.obs_rows.specs.Signals.{wavelength}
 use Rattle.eph_store.specs.declared.ephemeris.Eph.{Eph}
@@ -13,18 +14,32 @@ use Rattle.orbit_model.specs.SeenPlaces.{Place, point_of, IsSeenPlace, range_of,
 
 -- the range less c times what the satellite's clock is ahead, in metres
 abbrev pub distance : Rational → Rational → Rational
-distance travel clock = sub_r (range_of travel) (mul_r (of_whole LIGHT_SPEED) clock)
+distance travel clock = range_of travel -ʳ of_whole LIGHT_SPEED *ʳ clock
 
--- P holds of that distance for every solution by a system's constants at the tag with this code in mm, seen from the point
-abbrev pub ForSolutions : Constants → Eph → ℕ → ℤ → List ℤ → (Rational → Type 0) → Type 0
-ForSolutions world eph tag code point P = (q : Quantities) (a b c : ℤ) (seen : Place) (travel : Rational) → point ≡ a ∷ b ∷ c ∷ [] →
-    IsNearSolution world (elements_of eph) (sent_at tag code) q → IsSeenPlace (sent_place q) (point_of a b c) travel seen → P (distance travel q.clock)
+-- v is that distance in a solution by a system's constants at the tag with this code in mm, where the satellite is seen from the point
+pub record IsSolvedDistance (world : Constants) (eph : Eph) (tag : ℕ) (code : ℤ) (point : List ℤ) (v : Rational) : Type 0 where
+  pub solution : Quantities
+  pub is_solution : IsNearSolution world (elements_of eph) (sent_at tag code) solution
+  pub x : ℤ
+  pub y : ℤ
+  pub z : ℤ
+  pub point_is : point ≡ x ∷ y ∷ z ∷ []
+  pub travel : Rational
+  pub seen : Place
+  pub is_seen : IsSeenPlace (sent_place solution) (point_of x y z) travel seen
+  pub distance_is : v ≡ distance travel solution.clock
+
+-- there is such a distance, and P holds of every one
+pub record ForSolutions (world : Constants) (eph : Eph) (tag : ℕ) (code : ℤ) (point : List ℤ) (P : Rational → Type 0) : Type 0 where
+  pub some : Rational
+  pub exists : IsSolvedDistance world eph tag code point some
+  pub every : (v : Rational) → IsSolvedDistance world eph tag code point v → P v
 
 -- what the receiver measures of a distance, with its own clock term, in mm
 abbrev pub measured : ℤ → Rational → Rational
-measured clock v = add_r (mul_r (of_whole (pos 1000)) v) (of_whole clock)
+measured clock v = of_whole (pos 1000) *ʳ v +ʳ of_whole clock
 
--- `after` is within 2 mm of what is measured in every solution with the code `before`
+-- there is a solution with the code `before`, and `after` is within 2 mm of what is measured in every one
 abbrev pub IsCodeAfter : Constants → Eph → ℕ → List ℤ → ℤ → ℤ → ℤ → Type 0
 IsCodeAfter world eph tag point clock before after = ForSolutions world eph tag before point (λ v. AreWithin (of_whole (pos 2)) (of_whole after) (measured clock v))
 
@@ -35,12 +50,13 @@ IsReachedIn (suc n) world eph tag point clock code = (before : ℤ) × (IsReache
 
 -- a length in mm over the wavelength of a carrier of `frequency` Hz, in thousandths of a cycle: the wavelength is c / frequency
 abbrev pub thousandths : ℕ → Rational → Rational
-thousandths frequency mm = divided (mul_r (of_whole (pos frequency)) mm) (unsigned_abs LIGHT_SPEED) (lit< tt)
+thousandths frequency mm = divided (of_whole (pos frequency) *ʳ mm) (unsigned_abs LIGHT_SPEED) (lit< tt)
 
--- the phase is within 2 thousandths of a cycle of what is measured in every solution with that code, and these whole cycles
+-- there is a solution with that code, and the phase is within 2 thousandths of a cycle of what is measured in every one, and these
+-- whole cycles
 abbrev pub IsPhase : ℕ → Constants → Eph → ℕ → List ℤ → ℤ → ℤ → ℤ → ℤ → Type 0
 IsPhase frequency world eph tag point clock code cycles phase = ForSolutions world eph tag code point
-    (λ v. AreWithin (of_whole (pos 2)) (of_whole phase) (add_r (thousandths frequency (measured clock v)) (of_whole (pos 1000 *ℤ cycles))))
+    (λ v. AreWithin (of_whole (pos 2)) (of_whole phase) (thousandths frequency (measured clock v) +ʳ of_whole (pos 1000 *ℤ cycles)))
 
 -- the carrier of a phase in Hz: in a period of it light travels the wavelength, in one of the unit's frequency the unit
 abbrev pub carrier : ℕ → ℕ

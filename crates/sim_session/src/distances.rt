@@ -1,6 +1,6 @@
 //! Distances, and what is measured of them.
 ghost use Rattle.std.specs.Prelude.{◌≡◌, ◌*◌, ◌^◌, ◌≤◌, pos, ◌+ℤ◌, ◌*ℤ◌, ◌≤ℤ◌, ◌<ℤ◌, unsigned_abs};
-ghost use Rattle.rational.specs.Rational.{Rational, of_whole, add_r, sub_r, mul_r, AreWithin};
+ghost use Rattle.rational.specs.Rational.{Rational, of_whole, ◌+ʳ◌, ◌-ʳ◌, ◌*ʳ◌, AreWithin};
 ghost use Rattle.iv_core.specs.Intervals.{Holds, width_of, IsWithin};
 ghost use Rattle.whole_math.specs.Rounding.{IsFloor, IsNearest};
 ghost use Rattle.obs_rows.specs.declared.units.TheConstants.{LIGHT_SPEED};
@@ -35,7 +35,7 @@ pub fn distance_of(range: &Iv<36>, clock: &Iv<60>) -> Distance
     requires range_far { pos (10000000 * 2 ^ 36) ≤ℤ range.now.lo }
     requires clock_narrow { width_of clock.now ≤ℤ pos (2 ^ 10) }
     requires clock_small { IsWithin (2 ^ 54) clock.now }
-    ensures { (r t : Rational) → Holds range.now r → Holds clock.now t → IsDistance result.units (sub_r r (mul_r (of_whole LIGHT_SPEED) t)) }
+    ensures { (r t : Rational) → Holds range.now r → Holds clock.now t → IsDistance result.units (r -ʳ of_whole LIGHT_SPEED *ʳ t) }
 {
     Distance {
         units: range.lo - ahead_of(clock),
@@ -104,7 +104,7 @@ pub fn phase_of(distance: &Distance, clock: i64, frequency: u32, cycles: i64) ->
     requires most { frequency ≤ 2000000000 }
     requires cycles { unsigned_abs cycles ≤ MOST_CYCLES }
     ensures near { (v : Rational) → IsDistance distance.now.units v →
-        AreWithin (of_whole (pos 2)) (of_whole result) (add_r (thousandths frequency (measured clock v)) (of_whole (pos 1000 *ℤ cycles))) }
+        AreWithin (of_whole (pos 2)) (of_whole result) (thousandths frequency (measured clock v) +ʳ of_whole (pos 1000 *ℤ cycles)) }
     ensures low { pos 0 ≤ℤ result }
     ensures high { result <ℤ pos (10 ^ 13) }
 {

@@ -6,7 +6,7 @@
 #![tactic(auto)]
 
 ghost use Rattle.std.specs.Prelude.{◌≡◌, ◌+◌, ◌-◌, ◌*◌, ◌^◌, ◌<◌, ◌≤◌, pos, ◌≤ℤ◌};
-ghost use Rattle.rational.specs.Rational.{Rational, add_r, sub_r, mul_r, ◌≈◌};
+ghost use Rattle.rational.specs.Rational.{Rational, ◌+ʳ◌, ◌-ʳ◌, ◌*ʳ◌, ◌≈◌};
 ghost use Rattle.iv_core.specs.Intervals.{Holds, width_of, IsWithin};
 
 use iv_core::Iv;
@@ -49,7 +49,7 @@ impl<const K: u32, const SIZE: u64, const WIDTH: u64> SizedBox<K, SIZE, WIDTH> {
         requires limit { TO_SIZE ≤ 2 ^ 62 }
         requires width { WIDTH + OTHER_WIDTH ≤ TO_WIDTH }
         ensures holds { (x y : Rational) →
-            Holds self.now.held x → Holds other.now.held y → Holds result.held (add_r x y) }
+            Holds self.now.held x → Holds other.now.held y → Holds result.held (x +ʳ y) }
     {
         SizedBox::new(self.held.sum_of(&other.held))
     }
@@ -65,7 +65,7 @@ impl<const K: u32, const SIZE: u64, const WIDTH: u64> SizedBox<K, SIZE, WIDTH> {
         requires limit { TO_SIZE ≤ 2 ^ 62 }
         requires width { WIDTH + OTHER_WIDTH ≤ TO_WIDTH }
         ensures holds { (x y : Rational) →
-            Holds self.now.held x → Holds other.now.held y → Holds result.held (sub_r x y) }
+            Holds self.now.held x → Holds other.now.held y → Holds result.held (x -ʳ y) }
     {
         SizedBox::new(self.held.difference_of(&other.held))
     }
@@ -85,7 +85,7 @@ impl<const K: u32, const SIZE: u64, const WIDTH: u64> SizedBox<K, SIZE, WIDTH> {
         requires limit { TO_SIZE ≤ 2 ^ 62 }
         requires width { SIZE * OTHER_WIDTH + OTHER_SIZE * WIDTH + 2 * 2 ^ (K + A - TO) ≤ (TO_WIDTH + 1) * 2 ^ (K + A - TO) }
         ensures holds { (x y : Rational) →
-            Holds self.now.held x → Holds other.now.held y → Holds result.held (mul_r x y) }
+            Holds self.now.held x → Holds other.now.held y → Holds result.held (x *ʳ y) }
     {
         SizedBox::new(self.held.product_of::<A, TO>(&other.held))
     }
@@ -99,7 +99,7 @@ impl<const K: u32, const SIZE: u64, const WIDTH: u64> SizedBox<K, SIZE, WIDTH> {
         requires size { SIZE * SIZE ≤ TO_SIZE * 2 ^ (K + K - TO) }
         requires limit { TO_SIZE ≤ 2 ^ 62 }
         requires width { 2 * SIZE * WIDTH + 2 * 2 ^ (K + K - TO) ≤ (TO_WIDTH + 1) * 2 ^ (K + K - TO) }
-        ensures holds { (x : Rational) → Holds self.now.held x → Holds result.held (mul_r x x) }
+        ensures holds { (x : Rational) → Holds self.now.held x → Holds result.held (x *ʳ x) }
     {
         SizedBox::new(self.held.square_of::<TO>())
     }
@@ -123,7 +123,7 @@ impl<const K: u32, const SIZE: u64, const WIDTH: u64> SizedBox<K, SIZE, WIDTH> {
         requires limit { TO_SIZE ≤ 2 ^ 62 }
         requires width { 2 ^ (TO + A - K) * WIDTH + TO_SIZE * OTHER_WIDTH + 2 * LEAST ≤ (TO_WIDTH + 1) * LEAST }
         ensures holds { (x y z : Rational) →
-            Holds self.now.held x → Holds other.now.held y → mul_r z y ≈ x → Holds result.held z }
+            Holds self.now.held x → Holds other.now.held y → z *ʳ y ≈ x → Holds result.held z }
     {
         SizedBox::new(self.held.div_to::<A, TO>(&other.held).unwrap())
     }

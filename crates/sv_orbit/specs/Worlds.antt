@@ -1,6 +1,6 @@
 -- The constants of each system.
 use Rattle.std.specs.Prelude.{ℕ, pos, neg_ℤ, ◌^◌, ◌==◌, if◌then◌else◌}
-use Rattle.rational.specs.Rational.{Rational, of_whole, mul_r}
+use Rattle.rational.specs.Rational.{Rational, of_whole, ◌*ʳ◌}
 use Rattle.eph_store.specs.Decimals.{decimal}
 use Rattle.orbit_model.specs.Elements.{Constants}
 use Rattle.sv_orbit.specs.Solutions.{gps}
@@ -15,7 +15,7 @@ world_of system = if system == 69 then galileo else gps
 
 -- F² c⁴ and 4 μ
 abbrev pub squared_effect : Constants → Rational
-squared_effect world = mul_r (mul_r world.relativity world.relativity) (of_whole (pos (299_792_458 ^ 4)))
+squared_effect world = world.relativity *ʳ world.relativity *ʳ of_whole (pos (299_792_458 ^ 4))
 
 abbrev pub four_mu : Constants → Rational
-four_mu world = mul_r (of_whole (pos 4)) world.mu
+four_mu world = of_whole (pos 4) *ʳ world.mu

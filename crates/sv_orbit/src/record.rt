@@ -1,7 +1,7 @@
 //! The place and the clock of a record's satellite.
 ghost use Rattle.std.specs.Prelude.{◌≡◌, ◌*◌, ◌^◌, ◌<◌, ◌≤◌, pos, ◌≤ℤ◌};
 ghost use Rattle.std.specs.Int.{abs_diff};
-ghost use Rattle.rational.specs.Rational.{Rational, ◌≈◌, sub_r, mul_r, times};
+ghost use Rattle.rational.specs.Rational.{Rational, ◌≈◌, ◌-ʳ◌, ◌*ʳ◌, times};
 ghost use Rattle.iv_core.specs.Intervals.{Holds};
 ghost use Rattle.orbit_model.specs.Elements.{Constants, earth_rate, sent_at};
 ghost use Rattle.trig_box.specs.AnglePairs.{Pair};
@@ -51,14 +51,14 @@ pub struct SvRecord {
     pub crc: SizedBox<40, RADIUS_CHANGE, 1>,
     pub crs: SizedBox<40, RADIUS_CHANGE, 1>,
     pub ghost eccentricity_in: { Holds shape.eccentricity.held (elements_of clock.eph).ecc },
-    pub ghost axis_in: { (x : Rational) → x ≈ mul_r (elements_of clock.eph).root_a (elements_of clock.eph).root_a → Holds axis.held x },
+    pub ghost axis_in: { (x : Rational) → x ≈ (elements_of clock.eph).root_a *ʳ (elements_of clock.eph).root_a → Holds axis.held x },
     pub ghost axis_least: { pos (20249999 * 2 ^ 36) ≤ℤ axis.held.lo },
     pub ghost perigee_in: { (p : Pair) → IsPairOf5 (elements_of clock.eph).peri p → HoldsBoth perigee.cos perigee.sin p },
     pub ghost inclination_in: { Holds inclination.held (elements_of clock.eph).incl },
     pub ghost node_in: { Holds node.held (elements_of clock.eph).node },
     pub ghost inclination_rate_in: { Holds inclination_rate.held (times (10 ^ 4) (elements_of clock.eph).incl_rate) },
-    pub ghost node_rate_in: { Holds node_rate.held (sub_r (times (10 ^ 4) (elements_of clock.eph).node_rate) (times (10 ^ 4) earth_rate)) },
-    pub ghost earth_turn_in: { Holds earth_turn.held (mul_r earth_rate (elements_of clock.eph).toe_second) },
+    pub ghost node_rate_in: { Holds node_rate.held (times (10 ^ 4) (elements_of clock.eph).node_rate -ʳ times (10 ^ 4) earth_rate) },
+    pub ghost earth_turn_in: { Holds earth_turn.held (earth_rate *ʳ (elements_of clock.eph).toe_second) },
     pub ghost cuc_in: { Holds cuc.held (elements_of clock.eph).cuc },
     pub ghost cus_in: { Holds cus.held (elements_of clock.eph).cus },
     pub ghost cic_in: { Holds cic.held (elements_of clock.eph).cic },

@@ -18,7 +18,6 @@ use Rattle.integer_form.specs.Forms.{integers_of, value_of}
 use Rattle.integer_form.specs.FloatPoint.{HasWide}
 use Rattle.int_search.specs.declared.answer.TwoBest.{TwoBest}
 use Rattle.int_search.specs.Answers.{IsTwoBest}
-use Rattle.int_search.specs.ReducedCounts.{KeepsBudget}
 use Rattle.fix_decide.specs.Widths.{IsWide}
 use Rattle.fix_decide.specs.Decisions.{IsSeparated, first_of}
 use Rattle.track_data.specs.declared.tails.TrackTail.{TrackTail}
@@ -26,7 +25,7 @@ use Rattle.track_data.specs.declared.tails.TrackTail.TheVariants.{Overwidth}
 use Rattle.track_data.specs.TrackTails.{AreTrackVectors, IsTrackTailOf, track_tail_of_vectors}
 use Rattle.track_sum.specs.Fronts.{track_top}
 use Rattle.track_sum.specs.PairFronts.{IsFrontOfPair, move_at}
-use Rattle.track_sum.specs.Decided.{IsTrackForm, AreFound, IsSumWide, pair_uppers}
+use Rattle.track_sum.specs.Decided.{IsTrackForm, IsSearchedIn, AreFound, IsSumWide, pair_uppers}
 use Rattle.track_sum.proofs.StrictlyBest.{track_strictly_best}
 use Rattle.track_form.specs.Decided.{IsFormRefused, track_tail_of, IsTrackWideAt, IsTrackDecision, IsTrackBestWhereFixed}
 use Rattle.track_form.specs.Uppers.{IsSomeWide}
@@ -36,7 +35,7 @@ use Rattle.track_form.proofs.OneDecision.{wide_refused}
 
 -- the two least vectors with their moves and the upper sum
 pub found_by : (arcs : List Arc) (ss : List ℕ) (pairs : List PairRows) (budget : ℕ) (moves : List (List ℤ)) (best : TwoBest) (top : ℤ) (fs : List FrontForm) (f : Form) →
-    IsTrackForm arcs ss pairs fs f → IsTwoBest f best → KeepsBudget f budget best → moves ≡ map (move_at (first_of best)) fs → All (λ m. HasWide m → ⊥) moves →
+    IsTrackForm arcs ss pairs fs f → IsTwoBest f best → IsSearchedIn f budget best → moves ≡ map (move_at (first_of best)) fs → All (λ m. HasWide m → ⊥) moves →
     AllZip (λ p m. IsWide arcs ss (first_of best) m p → ⊥) pairs moves → top ≡ track_top f.h (pair_uppers arcs ss (first_of best) pairs moves) → AreFound arcs ss pairs budget f.h moves best top
 found_by arcs ss pairs budget moves best top fs f is two kept moves_are narrow bounded top_is = record {
   fronts = fs;
@@ -68,7 +67,7 @@ told_best arcs ss pairs ratio budget h moves best top false found large from the
 
 -- an upper sum that is too wide
 pub sum_wide : (arcs : List Arc) (ss : List ℕ) (pairs : List PairRows) (budget : ℕ) (moves : List (List ℤ)) (best : TwoBest) (fs : List FrontForm) (f : Form) → IsTrackForm arcs ss pairs fs f →
-    IsTwoBest f best → KeepsBudget f budget best →
+    IsTwoBest f best → IsSearchedIn f budget best →
     moves ≡ map (move_at (first_of best)) fs → All (λ m. HasWide m → ⊥) moves → IsSomeWide arcs ss (first_of best) pairs moves → IsSumWide arcs ss pairs budget
 sum_wide arcs ss pairs budget moves best fs f is two kept moves_are narrow some = record {
   fronts = fs;
@@ -96,8 +95,8 @@ told_fits ss arcs pairs budget h moves best top false fit = fit
 
 -- ---- a decision that ends with vectors
 pub record IsTold (arcs : List Arc) (signals : Signals) (pairs : List PairRows) (ratio : ℕ) (f : Form) (best : TwoBest) (t : TrackTail) : Type 0 where
-  pub decision : (budget : ℕ) → KeepsBudget f budget best → IsTrackDecision arcs (fine_signals signals) pairs ratio budget t
-  pub strictly_best : (budget : ℕ) → KeepsBudget f budget best → IsTrackBestWhereFixed arcs (fine_signals signals) pairs t
+  pub decision : (budget : ℕ) → IsSearchedIn f budget best → IsTrackDecision arcs (fine_signals signals) pairs ratio budget t
+  pub strictly_best : (budget : ℕ) → IsSearchedIn f budget best → IsTrackBestWhereFixed arcs (fine_signals signals) pairs t
   pub fits : (budget : ℕ) → IsTrackTailOf (fine_signals signals) arcs pairs budget t
 
 -- from the moves, the upper sum and the test of the ratio, each of them as the code hands it on
@@ -121,7 +120,7 @@ vectors_told arcs signals pairs ratio fs f best moves list slice top word second
     ss : List ℕ
     ss = fine_signals signals
 
-    found : (budget : ℕ) → KeepsBudget f budget best → AreFound arcs ss pairs budget f.h moves best top
+    found : (budget : ℕ) → IsSearchedIn f budget best → AreFound arcs ss pairs budget f.h moves best top
     found budget kept = found_by arcs ss pairs budget moves best top fs f is two kept moves_are narrow
         (subst (λ (ms : List (List ℤ)). AllZip (λ p m. IsWide arcs ss (first_of best) m p → ⊥) pairs ms) slice_is bounded)
         (top_is ∙ ap (λ (ms : List (List ℤ)). track_top f.h (pair_uppers arcs ss (first_of best) pairs ms)) slice_is)

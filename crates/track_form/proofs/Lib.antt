@@ -4,3 +4,4 @@ pub mod OneDecision
 pub mod OneVerdict
 pub mod WeakLaws
 pub mod Found
+pub mod MoreBudget

@@ -1,5 +1,5 @@
--- The rows of a track have one decision, but where a search gave up.
-use Rattle.std.proofs.Common.{◌≡◌, ◌⊎◌, inl, inr, ℕ, ◌<◌, List, [], ◌∷◌, length, map, get_or, All, Any, ℤ, pos, refl, sym, ap, ◌∙◌, subst, arith}
+-- The rows of a track have one decision.
+use Rattle.std.proofs.Common.{◌≡◌, ◌⊎◌, inl, inr, ℕ, ◌<◌, List, [], ◌∷◌, length, map, get_or, All, Any, ℤ, pos, refl, sym, ap, ◌∙◌, subst, arith, Err}
 use Rattle.std.specs.List.{AllZip}
 use Rattle.std.proofs.lemmas.List.Elements.{All-map}
 use Rattle.quadratic_form.specs.Elimination.{Refusal, weak, wide_factor, wide_entry}
@@ -16,6 +16,10 @@ use Rattle.integer_form.specs.FloatPoint.{HasWide}
 use Rattle.integer_form.specs.ReportedRefusals.{fault_of}
 use Rattle.int_search.specs.declared.answer.TwoBest.{TwoBest}
 use Rattle.int_search.specs.Answers.{IsTwoBest}
+use Rattle.int_search.specs.ReducedCounts.{HasAnswer, IsSearchEnd}
+use Rattle.int_search.specs.declared.answer.SearchFault.{SearchFault}
+use Rattle.int_search.specs.declared.answer.SearchFault.TheVariants.{Spent as SearchSpent, Overwidth as SearchOverwidth}
+use Rattle.int_search.proofs.EndLaws.{HaveSameColumns, no_fault, same_fault, end_as}
 use Rattle.fix_decide.specs.Widths.{IsWide}
 use Rattle.fix_decide.specs.Decisions.{IsSeparated, first_of}
 use Rattle.cert_check.specs.SameTails.{AreSameBest, AreSameNumbers}
@@ -28,7 +32,7 @@ use Rattle.track_sum.specs.PairFronts.{IsRefusedPair, HasFront, move_at}
 use Rattle.track_sum.specs.Decided.{IsTrackForm, IsFinishRefused, AreFound, IsMoveWide, IsSumWide, pair_uppers}
 use Rattle.track_sum.proofs.OneFront.{no_front}
 use Rattle.track_sum.proofs.OneForm.{SameForm, one_form, same_moves, no_fronts, no_form, one_first, one_finish}
-use Rattle.track_form.specs.Decided.{IsFormRefused, track_tail_of, IsTrackWideAt, IsTrackDecision, IsSameTail, HasGivenUp, IsSameDecision}
+use Rattle.track_form.specs.Decided.{IsFormRefused, track_tail_of, IsTrackWideAt, IsTrackDecision, IsSameTail}
 use Rattle.track_form.proofs.Lists.{not_mapped, any_mapped, not_all_and_any}
 
 -- ---- refusals
@@ -170,9 +174,30 @@ one_found arcs ss pairs budget h k moves others best other top over a b =
       top_is = a.top_is ∙ (λ t. track_top (same.h_is t) (pair_uppers arcs ss (same.best_is.first_is t) pairs (same.moves_are t))) ∙ sym b.top_is;
     }
 
+-- a search that ends without an answer, as a tail
+abbrev fault_tail : ℕ → SearchFault → TrackTail
+fault_tail budget SearchSpent = Spent budget
+fault_tail budget SearchOverwidth = Overwidth Search
+
+-- the form of the rows, and that its search ends so
+record IsGivenUp (arcs : List Arc) (ss : List ℕ) (pairs : List PairRows) (budget : ℕ) (e : SearchFault) : Type 0 where
+  fronts : List FrontForm
+  form : Form
+  of_rows : IsTrackForm arcs ss pairs fronts form
+  end : IsSearchEnd form budget (Err e)
+
+same_columns : (arcs : List Arc) (ss : List ℕ) (pairs : List PairRows) (fs gs : List FrontForm) (f g : Form) → IsTrackForm arcs ss pairs fs f → IsTrackForm arcs ss pairs gs g → HaveSameColumns f g
+same_columns arcs ss pairs fs gs f g a b = let same : SameForm f g = one_form arcs ss pairs fs gs f g a b in record { columns = same.columns; form = same.form }
+
+no_answer : (arcs : List Arc) (ss : List ℕ) (pairs : List PairRows) (budget : ℕ) (e : SearchFault) (gs : List FrontForm) (g : Form) → IsGivenUp arcs ss pairs budget e → IsTrackForm arcs ss pairs gs g → HasAnswer g budget → ⊥
+no_answer arcs ss pairs budget e gs g a of_rows answered = no_fault g budget e answered (end_as a.form g budget (Err e) (same_columns arcs ss pairs a.fronts gs a.form g a.of_rows of_rows) a.end)
+
+one_fault : (arcs : List Arc) (ss : List ℕ) (pairs : List PairRows) (budget : ℕ) (e d : SearchFault) → IsGivenUp arcs ss pairs budget e → IsGivenUp arcs ss pairs budget d → e ≡ d
+one_fault arcs ss pairs budget e d a b = same_fault b.form budget e d (end_as a.form b.form budget (Err e) (same_columns arcs ss pairs a.fronts b.fronts a.form b.form a.of_rows b.of_rows) a.end).1 b.end.1
+
 -- where the decision ends
 data Ends (arcs : List Arc) (ss : List ℕ) (pairs : List PairRows) (ratio budget : ℕ) (t : TrackTail) : Type 0 where
-  given_up : HasGivenUp t → Ends arcs ss pairs ratio budget t
+  given_up : (e : SearchFault) → IsGivenUp arcs ss pairs budget e → t ≡ fault_tail budget e → Ends arcs ss pairs ratio budget t
   refused : (why : LowerFault) → IsFormRefused arcs ss pairs why → t ≡ track_tail_of why → Ends arcs ss pairs ratio budget t
   wide_move : IsMoveWide arcs ss pairs budget → t ≡ Overwidth Float → Ends arcs ss pairs ratio budget t
   wide_sum : IsSumWide arcs ss pairs budget → t ≡ Overwidth Sum → Ends arcs ss pairs ratio budget t
@@ -190,9 +215,9 @@ ends arcs ss pairs ratio budget (Overwidth FactorPlace) is = refused (fault.Over
 ends arcs ss pairs ratio budget (Overwidth Entry) is = refused (fault.Overwidth Entry) is refl
 ends arcs ss pairs ratio budget (Overwidth Float) is = wide_move is refl
 ends arcs ss pairs ratio budget (Overwidth Point) is = refused (fault.Overwidth Point) is refl
-ends arcs ss pairs ratio budget (Overwidth Search) is = given_up tt
+ends arcs ss pairs ratio budget (Overwidth Search) is = given_up SearchOverwidth (record { fronts = is.fronts; form = is.form; of_rows = is.of_rows; end = is.ended.0 }) refl
 ends arcs ss pairs ratio budget (Overwidth Sum) is = wide_sum is refl
-ends arcs ss pairs ratio budget (Spent spent) is = given_up tt
+ends arcs ss pairs ratio budget (Spent spent) is = given_up SearchSpent (record { fronts = is.1.fronts; form = is.1.form; of_rows = is.1.of_rows; end = is.1.ended.0 }) (ap Spent is.0)
 
 -- the same numbers are as far apart
 as_far : (ratio : ℕ) (h k : ℕ) (moves others : List (List ℤ)) (best other : TwoBest) (top over : ℤ) → AreSameNumbers h k moves others best other top over →
@@ -208,33 +233,38 @@ same_self (Weak column pivot) = (refl, refl)
 same_self (Overwidth place) = refl
 same_self (Spent budget) = refl
 
-equal : (t u v : TrackTail) → t ≡ v → u ≡ v → IsSameDecision t u
-equal t u v e f = inl (subst (λ (w : TrackTail). IsSameTail t w) (e ∙ sym f) (same_self t))
+equal : (t u v : TrackTail) → t ≡ v → u ≡ v → IsSameTail t u
+equal t u v e f = subst (λ (w : TrackTail). IsSameTail t w) (e ∙ sym f) (same_self t)
 
-alike : (t u v w : TrackTail) → t ≡ v → u ≡ w → IsSameTail v w → IsSameDecision t u
-alike t u v w e f same = inl (subst (λ (x : TrackTail). IsSameTail x u) (sym e) (subst (λ (x : TrackTail). IsSameTail v x) (sym f) same))
+alike : (t u v w : TrackTail) → t ≡ v → u ≡ w → IsSameTail v w → IsSameTail t u
+alike t u v w e f same = subst (λ (x : TrackTail). IsSameTail x u) (sym e) (subst (λ (x : TrackTail). IsSameTail v x) (sym f) same)
 
-pair_up : (arcs : List Arc) (ss : List ℕ) (pairs : List PairRows) (ratio budget : ℕ) (t u : TrackTail) → Ends arcs ss pairs ratio budget t → Ends arcs ss pairs ratio budget u → IsSameDecision t u
-pair_up arcs ss pairs r n t u (given_up a) b = inr (inl a)
-pair_up arcs ss pairs r n t u (refused why a is) (given_up b) = inr (inr b)
+pair_up : (arcs : List Arc) (ss : List ℕ) (pairs : List PairRows) (ratio budget : ℕ) (t u : TrackTail) → Ends arcs ss pairs ratio budget t → Ends arcs ss pairs ratio budget u → IsSameTail t u
+pair_up arcs ss pairs r n t u (given_up e a is) (given_up d b is_too) = equal t u (fault_tail n d) (is ∙ ap (fault_tail n) (one_fault arcs ss pairs n e d a b)) is_too
+pair_up arcs ss pairs r n t u (given_up e a is) (refused why b is_too) = absurd (none_refused arcs ss pairs why a.fronts a.form b a.of_rows)
+pair_up arcs ss pairs r n t u (given_up e a is) (wide_move b is_too) = absurd (no_answer arcs ss pairs n e b.fronts b.form a b.of_rows b.visits.1)
+pair_up arcs ss pairs r n t u (given_up e a is) (wide_sum b is_too) = absurd (no_answer arcs ss pairs n e b.fronts b.form a b.of_rows b.visits.1)
+pair_up arcs ss pairs r n t u (given_up e a is) (fixed h ms two top b far is_too) = absurd (no_answer arcs ss pairs n e b.fronts b.form a b.of_rows b.visits.1)
+pair_up arcs ss pairs r n t u (given_up e a is) (near h ms two top b close is_too) = absurd (no_answer arcs ss pairs n e b.fronts b.form a b.of_rows b.visits.1)
+pair_up arcs ss pairs r n t u (refused why a is) (given_up e b is_too) = absurd (none_refused arcs ss pairs why b.fronts b.form a b.of_rows)
 pair_up arcs ss pairs r n t u (refused why a is) (refused too b is_too) = equal t u (track_tail_of too) (is ∙ ap track_tail_of (one_refusal arcs ss pairs why too a b)) is_too
 pair_up arcs ss pairs r n t u (refused why a is) (wide_move b is_too) = absurd (none_refused arcs ss pairs why b.fronts b.form a b.of_rows)
 pair_up arcs ss pairs r n t u (refused why a is) (wide_sum b is_too) = absurd (none_refused arcs ss pairs why b.fronts b.form a b.of_rows)
 pair_up arcs ss pairs r n t u (refused why a is) (fixed h ms two top b far is_too) = absurd (none_refused arcs ss pairs why b.fronts b.form a b.of_rows)
 pair_up arcs ss pairs r n t u (refused why a is) (near h ms two top b close is_too) = absurd (none_refused arcs ss pairs why b.fronts b.form a b.of_rows)
-pair_up arcs ss pairs r n t u (wide_move a is) (given_up b) = inr (inr b)
+pair_up arcs ss pairs r n t u (wide_move a is) (given_up e b is_too) = absurd (no_answer arcs ss pairs n e a.fronts a.form b a.of_rows a.visits.1)
 pair_up arcs ss pairs r n t u (wide_move a is) (refused why b is_too) = absurd (none_refused arcs ss pairs why a.fronts a.form b a.of_rows)
 pair_up arcs ss pairs r n t u (wide_move a is) (wide_move b is_too) = equal t u (Overwidth Float) is is_too
 pair_up arcs ss pairs r n t u (wide_move a is) (wide_sum b is_too) = absurd (no_move arcs ss pairs n b.form.h b.best _ a (moves_summed arcs ss pairs n b) (sum_narrow arcs ss pairs n b))
 pair_up arcs ss pairs r n t u (wide_move a is) (fixed h ms two top b far is_too) = absurd (no_move arcs ss pairs n h two ms a (moves_found arcs ss pairs n h ms two top b) b.narrow)
 pair_up arcs ss pairs r n t u (wide_move a is) (near h ms two top b close is_too) = absurd (no_move arcs ss pairs n h two ms a (moves_found arcs ss pairs n h ms two top b) b.narrow)
-pair_up arcs ss pairs r n t u (wide_sum a is) (given_up b) = inr (inr b)
+pair_up arcs ss pairs r n t u (wide_sum a is) (given_up e b is_too) = absurd (no_answer arcs ss pairs n e a.fronts a.form b a.of_rows a.visits.1)
 pair_up arcs ss pairs r n t u (wide_sum a is) (refused why b is_too) = absurd (none_refused arcs ss pairs why a.fronts a.form b a.of_rows)
 pair_up arcs ss pairs r n t u (wide_sum a is) (wide_move b is_too) = absurd (no_move arcs ss pairs n a.form.h a.best _ b (moves_summed arcs ss pairs n a) (sum_narrow arcs ss pairs n a))
 pair_up arcs ss pairs r n t u (wide_sum a is) (wide_sum b is_too) = equal t u (Overwidth Sum) is is_too
 pair_up arcs ss pairs r n t u (wide_sum a is) (fixed h ms two top b far is_too) = absurd (no_sum arcs ss pairs n h ms two top a b)
 pair_up arcs ss pairs r n t u (wide_sum a is) (near h ms two top b close is_too) = absurd (no_sum arcs ss pairs n h ms two top a b)
-pair_up arcs ss pairs r n t u (fixed h ms two top a far is) (given_up b) = inr (inr b)
+pair_up arcs ss pairs r n t u (fixed h ms two top a far is) (given_up e b is_too) = absurd (no_answer arcs ss pairs n e a.fronts a.form b a.of_rows a.visits.1)
 pair_up arcs ss pairs r n t u (fixed h ms two top a far is) (refused why b is_too) = absurd (none_refused arcs ss pairs why a.fronts a.form b a.of_rows)
 pair_up arcs ss pairs r n t u (fixed h ms two top a far is) (wide_move b is_too) = absurd (no_move arcs ss pairs n h two ms b (moves_found arcs ss pairs n h ms two top a) a.narrow)
 pair_up arcs ss pairs r n t u (fixed h ms two top a far is) (wide_sum b is_too) = absurd (no_sum arcs ss pairs n h ms two top b a)
@@ -242,7 +272,7 @@ pair_up arcs ss pairs r n t u (fixed h ms two top a far is) (fixed k ns other ov
     alike t u (Fixed h ms two top) (Fixed k ns other over) is is_too (one_found arcs ss pairs n h k ms ns two other top over a b)
 pair_up arcs ss pairs r n t u (fixed h ms two top a far is) (near k ns other over b close is_too) =
     absurd (close (as_far r h k ms ns two other top over (one_found arcs ss pairs n h k ms ns two other top over a b) far))
-pair_up arcs ss pairs r n t u (near h ms two top a close is) (given_up b) = inr (inr b)
+pair_up arcs ss pairs r n t u (near h ms two top a close is) (given_up e b is_too) = absurd (no_answer arcs ss pairs n e a.fronts a.form b a.of_rows a.visits.1)
 pair_up arcs ss pairs r n t u (near h ms two top a close is) (refused why b is_too) = absurd (none_refused arcs ss pairs why a.fronts a.form b a.of_rows)
 pair_up arcs ss pairs r n t u (near h ms two top a close is) (wide_move b is_too) = absurd (no_move arcs ss pairs n h two ms b (moves_found arcs ss pairs n h ms two top a) a.narrow)
 pair_up arcs ss pairs r n t u (near h ms two top a close is) (wide_sum b is_too) = absurd (no_sum arcs ss pairs n h ms two top b a)
@@ -252,5 +282,5 @@ pair_up arcs ss pairs r n t u (near h ms two top a close is) (near k ns other ov
     alike t u (Unseparated h ms two top) (Unseparated k ns other over) is is_too (one_found arcs ss pairs n h k ms ns two other top over a b)
 
 pub one_decision : (arcs : List Arc) (ss : List ℕ) (pairs : List PairRows) (ratio budget : ℕ) (t u : TrackTail) → IsTrackDecision arcs ss pairs ratio budget t →
-    IsTrackDecision arcs ss pairs ratio budget u → IsSameDecision t u
+    IsTrackDecision arcs ss pairs ratio budget u → IsSameTail t u
 one_decision arcs ss pairs ratio budget t u a b = pair_up arcs ss pairs ratio budget t u (ends arcs ss pairs ratio budget t a) (ends arcs ss pairs ratio budget u b)

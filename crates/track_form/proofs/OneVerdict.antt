@@ -1,21 +1,19 @@
--- The rows of a track and the tail of a text have one verdict, but where a search gave up.
-use Rattle.std.proofs.Common.{◌≡◌, ◌⊎◌, inl, inr, ℕ, ℤ, List, refl, sym, ap₂, ap, ◌∙◌, subst}
+-- The rows of a track and the tail of a text have one verdict.
+use Rattle.std.proofs.Common.{◌≡◌, ℕ, ℤ, List, refl, sym, ap₂, ap, ◌∙◌, subst}
 use Rattle.obs_rows.specs.declared.arcs.Arc.{Arc}
 use Rattle.obs_rows.specs.declared.pair_rows.PairRows.{PairRows}
-use Rattle.integer_form.specs.declared.faults.Place.TheVariants.{Search}
 use Rattle.int_search.specs.declared.answer.TwoBest.{TwoBest}
 use Rattle.fix_decide.specs.Decisions.{first_of}
 use Rattle.cert_data.specs.declared.verdicts.Verdict.{Verdict}
 use Rattle.cert_data.specs.declared.verdicts.Verdict.TheVariants.{Certified, Not}
 use Rattle.cert_data.specs.declared.verdicts.Cause.TheVariants as cause
-use Rattle.cert_check.specs.Verdicts.{IsGivenUp, IsSameVerdict}
 use Rattle.cert_check.specs.SameTails.{AreSameNumbers}
 use Rattle.cert_check.proofs.SameNumbers.{same_numbers_on, same_numbers_back}
 use Rattle.track_data.specs.declared.tails.TrackTail.{TrackTail}
 use Rattle.track_data.specs.declared.tails.TrackTail.TheVariants.{Fixed, Unseparated, Weak, Overwidth, Spent}
 use Rattle.track_sum.specs.Decided.{IsStrictlyBest, IsBestByRatio}
 use Rattle.track_sum.proofs.StrictlyBest.{track_best_by_ratio}
-use Rattle.track_form.specs.Decided.{IsSameTail, HasGivenUp, IsTrackDecision, IsTrackBestWhereFixed}
+use Rattle.track_form.specs.Decided.{IsSameTail, IsTrackDecision, IsTrackBestWhereFixed}
 use Rattle.track_form.specs.Verdicts.{IsSaidOf, IsTrackVerdict, IsTrackBestIn, IsTrackBestByRatioIn}
 use Rattle.track_form.proofs.OneDecision.{one_decision}
 
@@ -55,22 +53,9 @@ same_said (Overwidth place) (Overwidth other) t v w same a z = a ∙ ap (λ p. N
 same_said (Spent budget) (Spent other) t v w same a z = a ∙ sym z
 same_said _ _ t v w same a z = absurd same
 
-given_up : (d t : TrackTail) (v : Verdict) → HasGivenUp d → IsSaidOf d t v → IsGivenUp v
-given_up (Fixed h ms b x) t v up is = absurd up
-given_up (Unseparated h ms b x) t v up is = absurd up
-given_up (Weak column pivot) t v up is = absurd up
-given_up (Overwidth Search) t v up is = subst IsGivenUp (sym is) tt
-given_up (Overwidth _) t v up is = absurd up
-given_up (Spent budget) t v up is = subst IsGivenUp (sym is) tt
-
 pub one_verdict : (arcs : List Arc) (ss : List ℕ) (pairs : List PairRows) (ratio budget : ℕ) (t : TrackTail) (v w : Verdict) → IsTrackVerdict arcs ss pairs ratio budget t v →
-    IsTrackVerdict arcs ss pairs ratio budget t w → IsSameVerdict v w
-one_verdict arcs ss pairs ratio budget t v w a b = by_decision (one_decision arcs ss pairs ratio budget a.decided b.decided a.decision b.decision)
-  where
-    by_decision : IsSameTail a.decided b.decided ⊎ (HasGivenUp a.decided ⊎ HasGivenUp b.decided) → IsSameVerdict v w
-    by_decision (inl same) = inl (same_said a.decided b.decided t v w same a.said b.said)
-    by_decision (inr (inl up)) = inr (inl (given_up a.decided t v up a.said))
-    by_decision (inr (inr up)) = inr (inr (given_up b.decided t w up b.said))
+    IsTrackVerdict arcs ss pairs ratio budget t w → v ≡ w
+one_verdict arcs ss pairs ratio budget t v w a b = same_said a.decided b.decided t v w (one_decision arcs ss pairs ratio budget a.decided b.decided a.decision b.decision) a.said b.said
 
 -- ---- what is certified
 -- what is strictly best is so in a text that says it

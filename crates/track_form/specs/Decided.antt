@@ -52,6 +52,12 @@ abbrev pub IsTrackBestWhereFixed : List Arc → List ℕ → List PairRows → T
 IsTrackBestWhereFixed arcs ss pairs (Fixed h moves best top) = IsStrictlyBest arcs ss pairs (first_of best) moves
 IsTrackBestWhereFixed arcs ss pairs _ = Unit {0}
 
+-- a decision other than that the search ended without an answer: no greater budget changes it
+abbrev pub IsFinal : TrackTail → Type 0
+IsFinal (Overwidth place) = place ≡ Search → ⊥
+IsFinal (Spent budget) = ⊥
+IsFinal _ = Unit {0}
+
 -- ---- one decision
 abbrev pub IsSameTail : TrackTail → TrackTail → Type 0
 IsSameTail (Fixed h moves best top) (Fixed k others other over) = AreSameNumbers h k moves others best other top over
@@ -60,13 +66,3 @@ IsSameTail (Weak column pivot) (Weak other below) = (column ≡ other) × (pivot
 IsSameTail (Overwidth place) (Overwidth other) = place ≡ other
 IsSameTail (Spent budget) (Spent other) = budget ≡ other
 IsSameTail _ _ = ⊥
-
--- the search gave up
-abbrev pub HasGivenUp : TrackTail → Type 0
-HasGivenUp (Spent budget) = Unit {0}
-HasGivenUp (Overwidth Search) = Unit {0}
-HasGivenUp _ = ⊥
-
--- one decision, but where a search gave up
-abbrev pub IsSameDecision : TrackTail → TrackTail → Type 0
-IsSameDecision t u = IsSameTail t u ⊎ (HasGivenUp t ⊎ HasGivenUp u)

@@ -5,14 +5,13 @@ ghost use Rattle.obs_rows.specs.declared.limits.TheConstants.{MOST_RATIO, MOST_B
 ghost use Rattle.integer_form.specs.declared.front_form.FrontForm.{FrontForm};
 ghost use Rattle.integer_form.specs.FloatPoint.{HasWide};
 ghost use Rattle.int_search.specs.Answers.{IsTwoBest};
-ghost use Rattle.int_search.specs.ReducedCounts.{KeepsBudget};
 ghost use Rattle.fix_decide.specs.Decisions.{first_of};
 ghost use Rattle.track_data.specs.TrackTails.{IsTrackTailOf};
 ghost use Rattle.track_data.specs.declared.tails.TrackTail.{TrackTail};
 ghost use Rattle.track_sum.specs.PairFronts.{move_at};
 ghost use Rattle.track_sum.specs.Factors.{AreFactors};
-ghost use Rattle.track_sum.specs.Decided.{IsTrackForm};
-ghost use Rattle.track_form.specs.Decided.{IsTrackDecision, IsTrackBestWhereFixed, IsSameDecision, track_tail_of};
+ghost use Rattle.track_sum.specs.Decided.{IsTrackForm, IsSearchedIn};
+ghost use Rattle.track_form.specs.Decided.{IsTrackDecision, IsTrackBestWhereFixed, IsSameTail, track_tail_of};
 
 use crate::uppers::track_upper;
 use cert_check::values_from;
@@ -46,8 +45,8 @@ fn decide_moved(
     requires narrow { All (λ m. HasWide m → ⊥) moves.items }
     requires ratio_from { 1000 ≤ ratio }
     requires ratio_to { ratio ≤ MOST_RATIO }
-    ensures decision { (budget : ℕ) → KeepsBudget form.now budget best.now → IsTrackDecision track.now.arcs (fine_signals track.now.signals) track.now.pairs ratio budget result }
-    ensures strictly_best { (budget : ℕ) → KeepsBudget form.now budget best.now → IsTrackBestWhereFixed track.now.arcs (fine_signals track.now.signals) track.now.pairs result }
+    ensures decision { (budget : ℕ) → IsSearchedIn form.now budget best.now → IsTrackDecision track.now.arcs (fine_signals track.now.signals) track.now.pairs ratio budget result }
+    ensures strictly_best { (budget : ℕ) → IsSearchedIn form.now budget best.now → IsTrackBestWhereFixed track.now.arcs (fine_signals track.now.signals) track.now.pairs result }
     ensures fits { (budget : ℕ) → IsTrackTailOf (fine_signals track.now.signals) track.now.arcs track.now.pairs budget result }
 {
     values_from(form);
@@ -75,8 +74,8 @@ fn decide_best(
     requires best { IsTwoBest form.now best.now }
     requires ratio_from { 1000 ≤ ratio }
     requires ratio_to { ratio ≤ MOST_RATIO }
-    ensures decision { IfOk result (λ t. (budget : ℕ) → KeepsBudget form.now budget best.now → IsTrackDecision track.now.arcs (fine_signals track.now.signals) track.now.pairs ratio budget t) }
-    ensures strictly_best { IfOk result (λ t. (budget : ℕ) → KeepsBudget form.now budget best.now → IsTrackBestWhereFixed track.now.arcs (fine_signals track.now.signals) track.now.pairs t) }
+    ensures decision { IfOk result (λ t. (budget : ℕ) → IsSearchedIn form.now budget best.now → IsTrackDecision track.now.arcs (fine_signals track.now.signals) track.now.pairs ratio budget t) }
+    ensures strictly_best { IfOk result (λ t. (budget : ℕ) → IsSearchedIn form.now budget best.now → IsTrackBestWhereFixed track.now.arcs (fine_signals track.now.signals) track.now.pairs t) }
     ensures fits { IfOk result (λ t. (budget : ℕ) → IsTrackTailOf (fine_signals track.now.signals) track.now.arcs track.now.pairs budget t) }
 {
     let first = &best.first[..best.size];
@@ -105,7 +104,7 @@ pub fn decide_track(
     requires budget_from { 1 ≤ budget }
     requires budget_to { budget ≤ MOST_BUDGET }
     ensures decision { IfOk result (IsTrackDecision track.now.arcs (fine_signals track.now.signals) track.now.pairs ratio budget) }
-    ensures only { IfOk result (λ t. (u : TrackTail) → IsTrackDecision track.now.arcs (fine_signals track.now.signals) track.now.pairs ratio budget u → IsSameDecision u t) }
+    ensures only { IfOk result (λ t. (u : TrackTail) → IsTrackDecision track.now.arcs (fine_signals track.now.signals) track.now.pairs ratio budget u → IsSameTail u t) }
     ensures strictly_best { IfOk result (IsTrackBestWhereFixed track.now.arcs (fine_signals track.now.signals) track.now.pairs) }
     ensures fits { IfOk result (IsTrackTailOf (fine_signals track.now.signals) track.now.arcs track.now.pairs budget) }
 {

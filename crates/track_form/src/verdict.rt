@@ -3,7 +3,6 @@ ghost use Rattle.std.specs.Prelude.{◌≡◌, IfOk, Ok};
 ghost use Rattle.obs_rows.specs.Signals.{fine_signals};
 ghost use Rattle.cert_data.specs.declared.verdicts.Verdict.{Verdict};
 ghost use Rattle.cert_data.specs.declared.verdicts.Verdict.TheVariants.{Certified};
-ghost use Rattle.cert_check.specs.Verdicts.{IsSameVerdict};
 ghost use Rattle.track_form.specs.Verdicts.{IsSaidOf, IsTrackVerdict, IsTrackBestIn, IsTrackBestByRatioIn};
 
 use crate::decided::decide_track;
@@ -47,7 +46,7 @@ pub fn check_track(alloc: Global, cert: &TrackCert) -> Result<Verdict, AllocErro
     ensures verdict { IfOk result (IsTrackVerdict cert.now.track.arcs (fine_signals cert.now.track.signals) cert.now.track.pairs cert.now.ratio cert.now.budget cert.now.tail) }
     ensures strictly_best { result ≡ Ok Certified → IsTrackBestIn cert.now.track.arcs (fine_signals cert.now.track.signals) cert.now.track.pairs cert.now.tail }
     ensures by_ratio { result ≡ Ok Certified → IsTrackBestByRatioIn cert.now.ratio cert.now.track.arcs (fine_signals cert.now.track.signals) cert.now.track.pairs cert.now.tail }
-    ensures only { IfOk result (λ v. (w : Verdict) → IsTrackVerdict cert.now.track.arcs (fine_signals cert.now.track.signals) cert.now.track.pairs cert.now.ratio cert.now.budget cert.now.tail w → IsSameVerdict w v) }
+    ensures only { IfOk result (λ v. (w : Verdict) → IsTrackVerdict cert.now.track.arcs (fine_signals cert.now.track.signals) cert.now.track.pairs cert.now.ratio cert.now.budget cert.now.tail w → w ≡ v) }
 {
     let decided = decide_track(alloc, &cert.track, cert.ratio, cert.budget)?;
     Ok(said_of(&decided, &cert.tail))

@@ -1,17 +1,16 @@
 -- What an outcome that is a fix says of its files.
-use Rattle.std.proofs.Common.{◌≡◌, ◌⊎◌, true, refl, sym, subst}
+use Rattle.std.proofs.Common.{◌≡◌, true, refl, sym, subst}
 use Rattle.std.proofs.lemmas.Bool.{false≢true}
 use Rattle.eph_store.specs.File.{Records}
 use Rattle.obs_store.specs.declared.file.ObsFile.{ObsFile}
 use Rattle.obs_rows.specs.Signals.{fine_signals}
 use Rattle.cert_data.specs.declared.verdicts.Verdict.{Verdict}
 use Rattle.cert_data.specs.declared.verdicts.Verdict.TheVariants.{Certified}
-use Rattle.cert_check.specs.Verdicts.{IsGivenUp}
 use Rattle.run_options.specs.declared.options.Options.{Options}
 use Rattle.track_data.specs.declared.certs.TrackCert.{TrackCert}
 use Rattle.track_data.specs.declared.tails.TrackTail.{TrackTail}
 use Rattle.track_data.specs.declared.tails.TrackTail.TheVariants as tail
-use Rattle.track_form.specs.Decided.{IsTrackDecision, IsSameDecision, IsTrackBestWhereFixed}
+use Rattle.track_form.specs.Decided.{IsTrackDecision, IsSameTail, IsTrackBestWhereFixed}
 use Rattle.track_form.specs.Verdicts.{IsTrackVerdict, IsTrackBestByRatioIn}
 use Rattle.track_form.proofs.OneVerdict.{certified_by_ratio}
 use Rattle.track_job.specs.declared.answers.TrackOutcome.{TrackOutcome}
@@ -45,16 +44,16 @@ fixed_tail cert (tail.Spent budget) is fixed strictly = absurd (false≢true fix
 -- what a check says of a certificate that is decided as fixed
 record IsCertifiedAgain (cert : TrackCert) : Type 0 where
   certified : IsTrackVerdict cert.track.arcs (fine_signals cert.track.signals) cert.track.pairs cert.ratio cert.budget cert.tail Certified
-  only : (v : Verdict) → IsTrackVerdict cert.track.arcs (fine_signals cert.track.signals) cert.track.pairs cert.ratio cert.budget cert.tail v → (v ≡ Certified) ⊎ IsGivenUp v
+  only : (v : Verdict) → IsTrackVerdict cert.track.arcs (fine_signals cert.track.signals) cert.track.pairs cert.ratio cert.budget cert.tail v → v ≡ Certified
 
 certified_cert : (cert : TrackCert) (fix : IsTrackFix cert) → IsTrackDecision cert.track.arcs (fine_signals cert.track.signals) cert.track.pairs cert.ratio cert.budget cert.tail
-    → ((t : TrackTail) → IsTrackDecision cert.track.arcs (fine_signals cert.track.signals) cert.track.pairs cert.ratio cert.budget t → IsSameDecision t cert.tail) → IsCertifiedAgain cert
+    → ((t : TrackTail) → IsTrackDecision cert.track.arcs (fine_signals cert.track.signals) cert.track.pairs cert.ratio cert.budget t → IsSameTail t cert.tail) → IsCertifiedAgain cert
 certified_cert cert fix decision only =
     let arcs = cert.track.arcs in
     let fine = fine_signals cert.track.signals in
     let pairs = cert.track.pairs in
     let decided = subst (λ (t : TrackTail). IsTrackDecision arcs fine pairs cert.ratio cert.budget t) fix.tail_is decision in
-    let one = subst (λ (u : TrackTail). (t : TrackTail) → IsTrackDecision arcs fine pairs cert.ratio cert.budget t → IsSameDecision t u) fix.tail_is only in
+    let one = subst (λ (u : TrackTail). (t : TrackTail) → IsTrackDecision arcs fine pairs cert.ratio cert.budget t → IsSameTail t u) fix.tail_is only in
     record {
       certified =
           subst (λ (t : TrackTail). IsTrackVerdict arcs fine pairs cert.ratio cert.budget t Certified) (sym fix.tail_is)

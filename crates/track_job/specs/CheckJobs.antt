@@ -4,7 +4,6 @@ use Rattle.rinex_head.specs.declared.place.At.{At}
 use Rattle.obs_rows.specs.Signals.{fine_signals}
 use Rattle.cert_data.specs.declared.verdicts.Verdict.{Verdict}
 use Rattle.cert_data.specs.declared.verdicts.Verdict.TheVariants.{Certified}
-use Rattle.cert_check.specs.Verdicts.{IsSameVerdict}
 use Rattle.cert_report.specs.VerdictText.{verdict_text}
 use Rattle.cert_jobs.specs.CertJobs.{status_of}
 use Rattle.job_answers.specs.Endings.{Ending, ending}
@@ -36,13 +35,13 @@ pub record IsTrackRefused (text : List ℕ) (at : At) : Type 0 where
   pub first : BeginsBefore IsTrackCertificate text at.line
   pub gives_is : track_reading text ≡ Err at
 
--- The rows are decided again, and the tail is compared with what they say. No other verdict holds of them, but where a search
--- gave up. Where it is `Certified`, each other integer vector, with any baselines, one for each pair, has a greater sum of
+-- The rows are decided again, and the tail is compared with what they say. No other verdict holds of them.
+-- Where it is `Certified`, each other integer vector, with any baselines, one for each pair, has a greater sum of
 -- squares for all data in the boxes of the rows, and one that is greater by the certificate's ratio, whoever wrote it.
 pub record CheckTrackEnd (cert : TrackCert) (end : Ending) : Type 0 where
   pub verdict : Verdict
   pub is : IsVerdictOn cert verdict
-  pub only : (v : Verdict) → IsVerdictOn cert v → IsSameVerdict v verdict
+  pub only : (v : Verdict) → IsVerdictOn cert v → v ≡ verdict
   pub best : verdict ≡ Certified → IsBestFor cert
   pub by_ratio : verdict ≡ Certified → IsBestByItsRatio cert
   pub end_is : end ≡ ending (status_of verdict) (verdict_text verdict) []

@@ -1,5 +1,5 @@
 -- What the command `track` answers of its files.
-use Rattle.std.specs.Prelude.{◌≡◌, ◌⊎◌, ℕ, true, List, ℤ}
+use Rattle.std.specs.Prelude.{◌≡◌, ℕ, true, List, ℤ}
 use Rattle.obs_store.specs.declared.file.ObsFile.{ObsFile}
 use Rattle.eph_store.specs.File.{Records}
 use Rattle.obs_rows.specs.declared.bands.Signals.{Signals}
@@ -11,7 +11,6 @@ use Rattle.int_search.specs.declared.answer.TwoBest.{TwoBest}
 use Rattle.fix_decide.specs.Decisions.{first_of}
 use Rattle.cert_data.specs.declared.verdicts.Verdict.{Verdict}
 use Rattle.cert_data.specs.declared.verdicts.Verdict.TheVariants.{Certified}
-use Rattle.cert_check.specs.Verdicts.{IsGivenUp}
 use Rattle.run_options.specs.declared.options.Options.{Options}
 use Rattle.obs_rows.specs.BandSets.{bands_of}
 use Rattle.epoch_pair.specs.Beginnings.{IsPosition, AreSignals, AreTaken}
@@ -54,14 +53,14 @@ pub record TrackStandsForIts (b r : ObsFile) (n : Records) (o : Options) (cert :
   pub stands : TrackStands (setting_of b n signals o.mask (world_of o.system)) b.epochs r.epochs taken (bands_of o.bands) o.jump o.arc o.system position signals cert.track
 
 -- The answer is the certificate of a track that says `fixed` and stands for the files. All other integers have a sum of squares
--- that is greater by the ratio. A check of it says that it is certified, or its search gives up.
+-- that is greater by the ratio. A check of it says that it is certified.
 pub record IsTrackFixedFor (b r : ObsFile) (n : Records) (o : Options) (answer : TrackAnswer) : Type 0 where
   pub cert : TrackCert
   pub answer_is : answer ≡ Full cert
   pub fix : IsTrackFix cert
   pub by_ratio : IsBestByRatio cert.ratio cert.track.arcs (fine_signals cert.track.signals) cert.track.pairs (first_of fix.best) fix.moves
   pub certified : IsTrackVerdict cert.track.arcs (fine_signals cert.track.signals) cert.track.pairs cert.ratio cert.budget cert.tail Certified
-  pub only : (v : Verdict) → IsTrackVerdict cert.track.arcs (fine_signals cert.track.signals) cert.track.pairs cert.ratio cert.budget cert.tail v → (v ≡ Certified) ⊎ IsGivenUp v
+  pub only : (v : Verdict) → IsTrackVerdict cert.track.arcs (fine_signals cert.track.signals) cert.track.pairs cert.ratio cert.budget cert.tail v → v ≡ Certified
   pub stands : TrackStandsForIts b r n o cert
 
 -- done for a fix, else declined

@@ -20,7 +20,7 @@ use Rattle.track_data.specs.declared.certs.TrackCert.{TrackCert}
 use Rattle.track_data.specs.declared.lost.Lost.{Lost}
 use Rattle.track_data.specs.declared.lost.Tracked.{Tracked}
 use Rattle.track_sum.specs.PairFronts.{HasFront}
-use Rattle.track_form.specs.Decided.{IsTrackDecision, IsSameDecision, IsTrackBestWhereFixed}
+use Rattle.track_form.specs.Decided.{IsTrackDecision, IsSameTail, IsTrackBestWhereFixed}
 use Rattle.track_job.specs.declared.answers.TrackOutcome.{TrackOutcome}
 use Rattle.track_job.specs.declared.answers.TrackAnswer.{TrackAnswer}
 use Rattle.track_job.specs.declared.answers.TrackAnswer.TheVariants.{Few, Arcs, Lost as NoneTracked, Full}
@@ -34,14 +34,14 @@ pub record IsTrackable (kept : List Arc) (taken : ℕ) : Type 0 where
 abbrev pub tracked_with : Track → List Lost → Tracked
 tracked_with track lost = record { track = track; lost = lost }
 
--- What is decided of the tracked pairs, whose rows the certificate has: one decision, but where a search gave up. Each of these pairs
+-- What is decided of the tracked pairs, whose rows the certificate has: one decision. Each of these pairs
 -- has a front, so no tail reports the refusal of one: a form is refused at the finish of the fronts' sum alone.
 pub record IsDecidedTrack (o : Options) (cert : TrackCert) : Type 0 where
   pub ratio_is : cert.ratio ≡ o.ratio
   pub budget_is : cert.budget ≡ o.budget
   pub fronts : All (HasFront cert.track.arcs (fine_signals cert.track.signals)) cert.track.pairs
   pub decision : IsTrackDecision cert.track.arcs (fine_signals cert.track.signals) cert.track.pairs cert.ratio cert.budget cert.tail
-  pub only : (t : TrackTail) → IsTrackDecision cert.track.arcs (fine_signals cert.track.signals) cert.track.pairs cert.ratio cert.budget t → IsSameDecision t cert.tail
+  pub only : (t : TrackTail) → IsTrackDecision cert.track.arcs (fine_signals cert.track.signals) cert.track.pairs cert.ratio cert.budget t → IsSameTail t cert.tail
   pub best : IsTrackBestWhereFixed cert.track.arcs (fine_signals cert.track.signals) cert.track.pairs cert.tail
 
 -- no pair is tracked, though some has four satellites in kept arcs

@@ -6,7 +6,7 @@ use Rattle.whole_math.specs.Vectors.{len, sum}
 use Rattle.whole_math.proofs.Ring.{◌⊕◌, ◌⊖◌, ◌⊗◌}
 use Rattle.whole_math.proofs.Inequalities.{le_by, both_nn, prod_nn, less_nn, pos_nn, nat}
 use Rattle.whole_math.proofs.Rounding.{ceil_close}
-use Rattle.rational.specs.Rational.{Rational, of_whole, mul_r, ◌≤ʳ◌}
+use Rattle.rational.specs.Rational.{Rational, of_whole, ◌*ʳ◌, ◌≤ʳ◌}
 use Rattle.rational.proofs.Laws.{≤ʳ_trans, of_whole-le}
 use Rattle.quadratic_form.specs.RationalData.{sum_of_rationals}
 use Rattle.quadratic_form.specs.Rows.{value}
@@ -15,7 +15,7 @@ use Rattle.track_sum.proofs.SumOfForms.{sum_below}
 
 -- 64 times the sum is at least the sum of the pairs' values
 pairs_below : (n : ℕ) (z : List ℤ) (fs : List Front) (gs : List Rational) → AllZip (BoundsPair n z) fs gs →
-    of_whole (fronts_value n fs (z ++ (pos 1 ∷ []))) ≤ʳ mul_r (of_whole (pos 64)) (sum_of_rationals gs)
+    of_whole (fronts_value n fs (z ++ (pos 1 ∷ []))) ≤ʳ of_whole (pos 64) *ʳ sum_of_rationals gs
 pairs_below n z [] [] h = of_whole-le (pos 0) (pos 64 *ℤ pos 0) (le_by [] (nat 0, nat 64 ⊗ nat 0, nat 0) refl (pos_nn 0))
 pairs_below n z [] (g ∷ gs) h = absurd h
 pairs_below n z (f ∷ fs) [] h = absurd h
@@ -30,9 +30,9 @@ pairs_below n z (f ∷ fs) (g ∷ gs) h =
 
 -- 64 times the sum is at least 2^h times the value of the track's form
 pub bound_of_track : (n h : ℕ) (z : List ℤ) (fs : List Front) (gs : List Rational) → All (λ f. f.h ≤ h) fs → len (z ++ (pos 1 ∷ [])) ≡ pos n → AllZip (BoundsPair n z) fs gs
-    → of_whole (pos (2 ^ h) *ℤ value (track_form n h fs) z) ≤ʳ mul_r (of_whole (pos 64)) (sum_of_rationals gs)
+    → of_whole (pos (2 ^ h) *ℤ value (track_form n h fs) z) ≤ʳ of_whole (pos 64) *ʳ sum_of_rationals gs
 bound_of_track n h z fs gs all e bounds =
-    ≤ʳ_trans (of_whole (pos (2 ^ h) *ℤ value (track_form n h fs) z)) (of_whole (fronts_value n fs (z ++ (pos 1 ∷ [])))) (mul_r (of_whole (pos 64)) (sum_of_rationals gs))
+    ≤ʳ_trans (of_whole (pos (2 ^ h) *ℤ value (track_form n h fs) z)) (of_whole (fronts_value n fs (z ++ (pos 1 ∷ [])))) (of_whole (pos 64) *ʳ sum_of_rationals gs)
     (of_whole-le (pos (2 ^ h) *ℤ value (track_form n h fs) z) (fronts_value n fs (z ++ (pos 1 ∷ []))) (sum_below n h fs (z ++ (pos 1 ∷ [])) all e)) (pairs_below n z fs gs bounds)
 
 -- ---- the upper sum

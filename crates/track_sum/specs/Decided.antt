@@ -20,7 +20,7 @@ use Rattle.integer_form.specs.ReportedRefusals.{IsReportedAs}
 use Rattle.elimination.specs.Finish.{IsFinishOf, finish_of}
 use Rattle.int_search.specs.declared.answer.TwoBest.{TwoBest}
 use Rattle.int_search.specs.Answers.{IsTwoBest}
-use Rattle.int_search.specs.ReducedCounts.{KeepsBudget}
+use Rattle.int_search.specs.ReducedCounts.{KeepsBudget, HasAnswer}
 use Rattle.fix_decide.specs.UpperSums.{pair_upper}
 use Rattle.fix_decide.specs.Widths.{IsWide}
 use Rattle.fix_decide.specs.Decisions.{first_of}
@@ -57,6 +57,10 @@ pair_uppers arcs ss z [] moves = []
 pair_uppers arcs ss z (p ∷ ps) [] = []
 pair_uppers arcs ss z (p ∷ ps) (m ∷ ms) = pair_upper arcs ss z m p ∷ pair_uppers arcs ss z ps ms
 
+-- the search ends by itself within the budget, and few suffixes are within the second value
+abbrev pub IsSearchedIn : Form → ℕ → TwoBest → Type 0
+IsSearchedIn form budget best = KeepsBudget form budget best × HasAnswer form budget
+
 -- The two least vectors of a track's form, found within the budget, the baseline of the first for each pair, and the upper sum
 pub record AreFound (arcs : List Arc) (ss : List ℕ) (pairs : List PairRows) (budget h : ℕ) (moves : List (List ℤ)) (best : TwoBest) (top : ℤ) : Type 0 where
   pub fronts : List FrontForm
@@ -64,7 +68,7 @@ pub record AreFound (arcs : List Arc) (ss : List ℕ) (pairs : List PairRows) (b
   pub of_rows : IsTrackForm arcs ss pairs fronts form
   pub h_is : h ≡ form.h
   pub best_is : IsTwoBest form best
-  pub visits : KeepsBudget form budget best
+  pub visits : IsSearchedIn form budget best
   pub moves_are : moves ≡ map (move_at (first_of best)) fronts
   pub narrow : All (λ m. HasWide m → ⊥) moves
   pub bounded : AllZip (λ p m. IsWide arcs ss (first_of best) m p → ⊥) pairs moves
@@ -77,7 +81,7 @@ pub record IsMoveWide (arcs : List Arc) (ss : List ℕ) (pairs : List PairRows) 
   pub of_rows : IsTrackForm arcs ss pairs fronts form
   pub best : TwoBest
   pub best_is : IsTwoBest form best
-  pub visits : KeepsBudget form budget best
+  pub visits : IsSearchedIn form budget best
   pub wide : Any (λ f. HasWide (move_at (first_of best) f)) fronts
 
 -- none is, and the upper sum of some pair is too wide
@@ -87,7 +91,7 @@ pub record IsSumWide (arcs : List Arc) (ss : List ℕ) (pairs : List PairRows) (
   pub of_rows : IsTrackForm arcs ss pairs fronts form
   pub best : TwoBest
   pub best_is : IsTwoBest form best
-  pub visits : KeepsBudget form budget best
+  pub visits : IsSearchedIn form budget best
   pub narrow : All (λ f. HasWide (move_at (first_of best) f) → ⊥) fronts
   pub place : ℕ
   pub inside : place < length pairs

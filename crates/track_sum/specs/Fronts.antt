@@ -5,7 +5,7 @@ use Rattle.whole_math.specs.Vectors.{sum}
 use Rattle.quadratic_form.specs.Forms.{Column, quad}
 use Rattle.quadratic_form.specs.Places.{form_from}
 use Rattle.quadratic_form.specs.Rows.{value}
-use Rattle.rational.specs.Rational.{Rational, of_whole, mul_r, ◌≤ʳ◌}
+use Rattle.rational.specs.Rational.{Rational, of_whole, ◌*ʳ◌, ◌≤ʳ◌}
 
 -- the form that a pair's front leaves, by its entries, in units of 2^h
 pub record Front : Type 0 where
@@ -51,7 +51,7 @@ fronts_value n fs v = sum (map (λ f. pos (2 ^ f.h) *ℤ quad (front_form n f) v
 
 -- 64 times a pair's sum of squares is at least 2^h times the value of its form at the integers z
 abbrev pub BoundsPair : ℕ → List ℤ → Front → Rational → Type 0
-BoundsPair n z f g = of_whole (pos (2 ^ f.h) *ℤ value (front_form n f) z) ≤ʳ mul_r (of_whole (pos 64)) g
+BoundsPair n z f g = of_whole (pos (2 ^ f.h) *ℤ value (front_form n f) z) ≤ʳ of_whole (pos 64) *ʳ g
 
 -- a sum of squares is at most u
 abbrev pub IsAtMost : Rational → ℤ → Type 0

@@ -1,7 +1,7 @@
 //! What the pairs of a track say together: the laws behind its form, its upper sum and its decision. The bodies are empty.
 ghost use Rattle.std.specs.Prelude.{◌≡◌, ◌≢◌, ℕ, ◌^◌, ◌<◌, ◌≤◌, List, [], ◌∷◌, ◌++◌, length, All, ℤ, pos, ◌+ℤ◌, ◌*ℤ◌, ◌≤ℤ◌, unsigned_abs};
 ghost use Rattle.std.specs.List.{AllZip};
-ghost use Rattle.rational.specs.Rational.{Rational, of_whole, mul_r, ◌≤ʳ◌, ◌<ʳ◌};
+ghost use Rattle.rational.specs.Rational.{Rational, of_whole, ◌*ʳ◌, ◌≤ʳ◌, ◌<ʳ◌};
 ghost use Rattle.whole_math.specs.Vectors.{len};
 ghost use Rattle.quadratic_form.specs.Rows.{value};
 ghost use Rattle.quadratic_form.specs.RationalData.{sum_of_rationals};
@@ -17,7 +17,7 @@ ghost use Rattle.track_sum.specs.Decided.{IsStrictlyBest, IsBestByRatio};
 /// least 2^h times the value of the track's form there. The pairs' sums may be of any data and baselines.
 pub fn track_bound_law()
     ensures { (n h : ℕ) (z : List ℤ) (fs : List Front) (gs : List Rational) → All (λ f. f.h ≤ h) fs → len (z ++ (pos 1 ∷ [])) ≡ pos n → AllZip (BoundsPair n z) fs gs →
-        of_whole (pos (2 ^ h) *ℤ value (track_form n h fs) z) ≤ʳ mul_r (of_whole (pos 64)) (sum_of_rationals gs) }
+        of_whole (pos (2 ^ h) *ℤ value (track_form n h fs) z) ≤ʳ of_whole (pos 64) *ʳ sum_of_rationals gs }
 {}
 
 /// Each entry of the track's form is below 2^52 in size, and its exponent is at most 90.

@@ -13,3 +13,4 @@ pub mod Vectors
 pub mod Words
 pub mod Lists
 pub mod Examples
+pub mod Products

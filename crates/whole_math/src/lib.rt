@@ -10,7 +10,7 @@
 
 pub mod laws;
 
-ghost use Rattle.std.specs.Prelude.{◌≡◌, ◌^◌, ◌<◌, ◌≤◌, pos, ◌+ℤ◌, ◌*ℤ◌, ◌≤ℤ◌, ◌<ℤ◌, unsigned_abs};
+ghost use Rattle.std.specs.Prelude.{◌≡◌, ◌^◌, ◌<◌, ◌≤◌, pos, ◌+ℤ◌, ◌*ℤ◌, ◌≤ℤ◌, ◌<ℤ◌, unsigned_abs, ◌+◌};
 ghost use Rattle.whole_math.specs.Rounding.{floor_div, ceil_div, nearest_div, IsFloor, IsCeil, IsNearest};
 
 /// ⌊n / m⌋, the greatest whole number that is at most n / m.
@@ -86,4 +86,28 @@ pub fn ceil_shift(n: i128, shift: u32) -> i128
     ensures size { unsigned_abs result ≤ unsigned_abs n }
 {
     -floor_shift(-n, shift)
+}
+
+/// x · y, of two numbers of at most 2^A and 2^B in size.
+#[inline(always)]
+pub fn product<const A: u32, const B: u32>(x: i64, y: i64) -> i128
+    requires x_size { unsigned_abs x ≤ 2 ^ A }
+    requires y_size { unsigned_abs y ≤ 2 ^ B }
+    requires fits { A + B ≤ 126 }
+    ensures value { result ≡ x *ℤ y }
+    ensures size { unsigned_abs result ≤ 2 ^ (A + B) }
+{
+    x as i128 * y as i128
+}
+
+/// x · y, of a number of at most 2^A and a wide one of at most 2^B in size.
+#[inline(always)]
+pub fn wide_product<const A: u32, const B: u32>(x: i64, y: i128) -> i128
+    requires x_size { unsigned_abs x ≤ 2 ^ A }
+    requires y_size { unsigned_abs y ≤ 2 ^ B }
+    requires fits { A + B ≤ 126 }
+    ensures value { result ≡ x *ℤ y }
+    ensures size { unsigned_abs result ≤ 2 ^ (A + B) }
+{
+    x as i128 * y
 }

@@ -1,6 +1,6 @@
 use Rattle.std.proofs.Common.{◌≡◌, ◌^◌}
 use Rattle.std.proofs.lemmas.Result.{IfOk-at_ok}
-use Rattle.rational.specs.Rational.{Rational, InBox, add_r, mul_r}
+use Rattle.rational.specs.Rational.{Rational, InBox, ◌+ʳ◌, ◌*ʳ◌}
 use Rattle.iv_core.specs.Boxes.{least_corner, most_corner}
 use Rattle.whole_math.specs.Rounding.{floor_div, ceil_div}
 use Rattle.iv_core.proofs.BoxLaws.{ok_of}
@@ -28,7 +28,7 @@ unwrap-requires c =
 pub returns-clause-holds : goal.returns-clause-holds
 returns-clause-holds c = λ x y z h k l.
     let product = IfOk-at_ok (λ b. (x y : Rational) → InBox 60 c.args.e.now.lo c.args.e.now.hi x → InBox 60 c.args.sine.now.lo c.args.sine.now.hi y
-    → InBox 56 b.lo b.hi (mul_r x y)) c.unwrap-product.ensures c.mul_to.ensures.holds in
+    → InBox 56 b.lo b.hi (x *ʳ y)) c.unwrap-product.ensures c.mul_to.ensures.holds in
     let sum = IfOk-at_ok (λ b. (x y : Rational) → InBox 56 c.args.m.now.lo c.args.m.now.hi x
-    → InBox 56 c.unwrap-product.result.lo c.unwrap-product.result.hi y → InBox 56 b.lo b.hi (add_r x y)) c.unwrap.ensures c.add.ensures.holds in
-    sum x (mul_r y z) h (product y z k l)
+    → InBox 56 c.unwrap-product.result.lo c.unwrap-product.result.hi y → InBox 56 b.lo b.hi (x +ʳ y)) c.unwrap.ensures c.add.ensures.holds in
+    sum x (y *ʳ z) h (product y z k l)

@@ -1,5 +1,5 @@
 use Rattle.std.proofs.Common.{subst}
-use Rattle.rational.specs.Rational.{mul_r}
+use Rattle.rational.specs.Rational.{◌*ʳ◌}
 use Rattle.iv_core.specs.declared.Iv.{Iv}
 use Rattle.orbit_model.specs.Places.{IsBetweenDistances}
 use Rattle.orbit_place.specs.Directions.{direction}
@@ -15,13 +15,13 @@ returns-clause-holds c = λ world eph sent q h s.
     let radius_held = c.in_plane-plane.ensures.radius world eph sent q h s in
     let direction_held = c.direction_of-direction.ensures.holds latitude inclination node (c.in_plane-plane.ensures.latitude world eph sent q h s)
     (c.inclination_of-inclination.ensures.holds world eph sent q h s (c.in_plane-plane.ensures.twice world eph sent q h s)) (c.node_of.ensures.holds world eph sent q h s) in (
-      held_along c.mul-x.result.held (mul_r q.radius (direction latitude inclination node).x) q.x
+      held_along c.mul-x.result.held (q.radius *ʳ (direction latitude inclination node).x) q.x
           (x_with q.x q.plane_x q.plane_y q.radius latitude.cos latitude.sin node.cos node.sin inclination.cos s.position_in_plane_x s.position_in_plane_y s.earth_fixed_x)
           (c.mul-x.ensures.holds q.radius (direction latitude inclination node).x radius_held direction_held.0),
-      held_along c.mul-y.result.held (mul_r q.radius (direction latitude inclination node).y) q.y
+      held_along c.mul-y.result.held (q.radius *ʳ (direction latitude inclination node).y) q.y
           (y_with q.y q.plane_x q.plane_y q.radius latitude.cos latitude.sin node.cos node.sin inclination.cos s.position_in_plane_x s.position_in_plane_y s.earth_fixed_y)
           (c.mul-y.ensures.holds q.radius (direction latitude inclination node).y radius_held direction_held.1),
-      held_along c.mul-z.result.held (mul_r q.radius (direction latitude inclination node).z) q.z (z_with q.z q.plane_y q.radius latitude.sin inclination.sin s.position_in_plane_y s.earth_fixed_z)
+      held_along c.mul-z.result.held (q.radius *ʳ (direction latitude inclination node).z) q.z (z_with q.z q.plane_y q.radius latitude.sin inclination.sin s.position_in_plane_y s.earth_fixed_z)
           (c.mul-z.ensures.holds q.radius (direction latitude inclination node).z radius_held direction_held.2),
     )
 

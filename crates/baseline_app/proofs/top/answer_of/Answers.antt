@@ -1,4 +1,6 @@
-use Rattle.std.proofs.Common.{rules, inl, inr, subst}
+use Rattle.std.proofs.Common.{rules, refl, inl, inr, subst}
+use Rattle.line_source.proofs.OpeningLaws.{none_first}
+use Rattle.job_answers.proofs.KnownLaws.{no_more_given}
 use Rattle.job_answers.specs.Works.{file_work, IsDoneOver}
 use Rattle.job_answers.proofs.EndingLaws.{ended_weaker}
 use Rattle.command_words.specs.declared.jobs.Job.{Job}
@@ -24,3 +26,13 @@ returns-in_ok-usage-in-Err-Usage-clause-answer g c =
 
 pub returns-in_ok-usage-in-Err-Usage-clause-done : goal.returns-in_ok-usage-in-Err-Usage-clause-done
 returns-in_ok-usage-in-Err-Usage-clause-done g c = λ job asked. absurd (c.read_words.ensures.usage (search rules) job asked)
+
+pub returns-in_err-usage-in-Err-Usage-clause-done : goal.returns-in_err-usage-in-Err-Usage-clause-done
+returns-in_err-usage-in-Err-Usage-clause-done g c = λ job asked. absurd (c.read_words.ensures.usage (search rules) job asked)
+
+pub returns-in-Err-NoMemory-clause-done : goal.returns-in-Err-NoMemory-clause-done
+returns-in-Err-NoMemory-clause-done g c = λ job asked. record {
+  opened = none_first (file_words job) (g.F.Files.openings c.args.files.now) (g.F.Files.openings c.args.files.now) refl;
+  given = no_more_given (file_words job) (g.F.Files.given c.args.files.now) (g.F.Files.given c.args.files.now) refl;
+  ended = tt;
+}

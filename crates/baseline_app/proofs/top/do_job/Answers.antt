@@ -50,4 +50,4 @@ pub returns-in-Sim-clause-done : goal.returns-in-Sim-clause-done
 returns-in-Sim-clause-done g c =
     let work = file_work g.F.Files c.args.files.now c.args.files.now in
     job_asked work c.sim_part.result _ _ c.in-Sim.is
-    (part_done work c.sim_part.result c.in-Sim.part c.in-Sim.seed c.in-Sim.epochs c.in-Sim.sats c.in-Sim.bands c.in-Sim.system refl c.sim_part.ensures)
+    (part_done work c.sim_part.result c.in-Sim.part c.in-Sim.seed c.in-Sim.epochs c.in-Sim.sats c.in-Sim.bands c.in-Sim.system refl refl c.sim_part.ensures)

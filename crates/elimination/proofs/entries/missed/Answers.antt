@@ -12,8 +12,8 @@ returns-clause-value c =
     let ratio_kept : to_z w64 (of_z w64 c.args.ratio) ≡ c.args.ratio = to_z-of_z w64 c.args.ratio c.ranges.ratio in
     let divisor_kept : to_z w64 (of_z w64 c.args.a) ≡ c.args.a = to_z-of_z w64 c.args.a c.ranges.a in
     let pivot_kept : to_z w64 (of_z w64 c.args.p) ≡ c.args.p = to_z-of_z w64 c.args.p c.ranges.p in
-    let first : c.long_product.result ≡ c.args.ratio *ℤ c.args.a = rw (ratio_kept, divisor_kept) at c.long_product.ensures.value in
-    let second : c.long_product-2.result ≡ pos (2 ^ 52) *ℤ c.args.p = rw pivot_kept at c.long_product-2.ensures.value in
-    ap₂ (λ x y. to_z w128 (of_z w128 (x -ℤ y))) (as_w128 c.long_product.result (omega (arith, c.long_product.ensures.size))) (as_w128 c.long_product-2.result (omega (arith, c.long_product-2.ensures.size)))
-    ∙ as_w128 (c.long_product.result -ℤ c.long_product-2.result) (difference_size c.long_product.result c.long_product-2.result c.long_product.ensures.size c.long_product-2.ensures.size)
+    let first : c.product.result ≡ c.args.ratio *ℤ c.args.a = rw (ratio_kept, divisor_kept) at c.product.ensures.value in
+    let second : c.product-2.result ≡ pos (2 ^ 52) *ℤ c.args.p = rw pivot_kept at c.product-2.ensures.value in
+    ap₂ (λ x y. to_z w128 (of_z w128 (x -ℤ y))) (as_w128 c.product.result (omega (arith, c.product.ensures.size))) (as_w128 c.product-2.result (omega (arith, c.product-2.ensures.size)))
+    ∙ as_w128 (c.product.result -ℤ c.product-2.result) (difference_size c.product.result c.product-2.result c.product.ensures.size c.product-2.ensures.size)
     ∙ ap₂ (λ x y. x -ℤ y) first second

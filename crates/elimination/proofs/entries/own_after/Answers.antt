@@ -11,12 +11,12 @@ returns-clause-value c =
     let p_kept : to_z w128 (of_z w128 c.args.p) ≡ c.args.p = to_z-of_z w128 c.args.p c.ranges.p in
     let divisor_kept : to_z w128 (of_z w128 c.args.a) ≡ c.args.a = to_z-of_z w128 c.args.a c.ranges.a in
     let count_kept : to_z w128 (of_z w128 c.args.count) ≡ c.args.count = to_z-of_z w128 c.args.count c.ranges.count in
-    let product_kept : to_z w128 (of_z w128 c.product.result) ≡ c.product.result = as_w128 c.product.result (omega (arith, c.product.ensures.size)) in
+    let product_kept : to_z w128 (of_z w128 c.narrow_product.result) ≡ c.narrow_product.result = as_w128 c.narrow_product.result (omega (arith, c.narrow_product.ensures.size)) in
     let loss_kept : to_z w128 (of_z w128 c.ceil_by-loss.result) ≡ c.ceil_by-loss.result = as_w128 c.ceil_by-loss.result (omega (arith, c.ceil_by-loss.ensures.size)) in
     let factor_loss_kept : to_z w128 (of_z w128 c.factor_loss.result) ≡ c.factor_loss.result = as_w128 c.factor_loss.result (omega (arith, c.factor_loss.ensures.size)) in
     let rest_kept : to_z w128 (of_z w128 c.less_three.result) ≡ c.less_three.result = as_w128 c.less_three.result (omega (arith, c.less_three.ensures.size)) in
-    let product_is : c.product.result ≡ c.args.p *ℤ c.args.p = rw p_kept at c.product.ensures.value in
-    let loss_is : c.ceil_by-loss.result ≡ ceil_div c.product.result (unsigned_abs c.args.a) = rw (product_kept, divisor_kept) at c.ceil_by-loss.ensures.value in
+    let product_is : c.narrow_product.result ≡ c.args.p *ℤ c.args.p = rw p_kept at c.narrow_product.ensures.value in
+    let loss_is : c.ceil_by-loss.result ≡ ceil_div c.narrow_product.result (unsigned_abs c.args.a) = rw (product_kept, divisor_kept) at c.ceil_by-loss.ensures.value in
     let factor_loss_is : c.factor_loss.result ≡ ceil_div (c.args.count *ℤ c.args.a) (2 ^ 42) = rw (count_kept, divisor_kept) at c.factor_loss.ensures.value in
     let rest_is : c.less_three.result ≡ ((c.args.entry -ℤ c.ceil_by-loss.result) -ℤ c.args.count) -ℤ c.factor_loss.result = rw (entry_kept, loss_kept, count_kept, factor_loss_kept) at c.less_three.ensures.value in
     rest_kept ∙ rest_is ∙ ap (λ z. ((c.args.entry -ℤ z) -ℤ c.args.count) -ℤ c.factor_loss.result) (loss_is ∙ ap (λ z. ceil_div z (unsigned_abs c.args.a)) product_is)

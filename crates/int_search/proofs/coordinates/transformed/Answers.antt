@@ -53,6 +53,9 @@ returns-clause-form c =
     subst (λ (column_count : ℕ). IsTransformed column_count c.args.change.now.map c.args.form.now.p c.of.result) size_is
     (record {
       columns = column_count;
+      small = λ i j h g. subst (λ (z : ℤ). unsigned_abs z < 2 ^ 52)
+          ((c.if-not-write_wholes.ensures.done refl).same i j h g ∙ wholes_as n m (entry c.write_halves.new.halves) (half_entry n m p) c.write_halves.ensures.value i j g)
+          ((c.if-not-write_wholes.ensures.done refl).entries i j);
       form = ap (λ (t : List (List ℤ)). form_of_table t (c.of.result.columns - 3)) c.of.ensures.p
           ∙ table_form n (c.of.result.columns - 3) c.args.change.now.map c.args.form.now.p c.write_wholes.new.p width_is
           (λ i j h g. (c.if-not-write_wholes.ensures.done refl).same i j h g ∙ wholes_as n m (entry c.write_halves.new.halves) (half_entry n m p) c.write_halves.ensures.value i j g);

@@ -18,12 +18,12 @@ loop-b-preserved c =
     let map_entry_is : to_z w64 (of_z w64 c.map_entry.result) ≡ with_constant c.args.n (entry c.args.map.now) b c.args.j = rest_w64 c.map_entry.result c.map_entry.ensures.size ∙ c.map_entry.ensures.value in
     let form_entry_is : to_z w64 (of_z w64 c.at.result) ≡ entry c.args.p.now c.args.a b = ap (λ z. to_z w64 (of_z w64 z)) c.at.ensures.value
     ∙ narrow_w64 (entry c.args.p.now c.args.a b) (c.requires.form c.args.a b) in
-    let product_is : c.entry_product-sum.result ≡ term b = c.entry_product-sum.ensures.value ∙ ap₂ (λ x y. x *ℤ y) map_entry_is form_entry_is in
-    let product_kept : to_z w128 (of_z w128 c.entry_product-sum.result) ≡ c.entry_product-sum.result = as_w128 c.entry_product-sum.result (omega (arith, c.entry_product-sum.ensures.size)) in
+    let product_is : c.product-sum.result ≡ term b = c.product-sum.ensures.value ∙ ap₂ (λ x y. x *ℤ y) map_entry_is form_entry_is in
+    let product_kept : to_z w128 (of_z w128 c.product-sum.result) ≡ c.product-sum.result = as_w128 c.product-sum.result (omega (arith, c.product-sum.ensures.size)) in
     let place_in_form : b < MOST_FORM_COLUMNS = omega (arith, c.requires.size, c.loop-b-test.true) in
-    let sum_kept : to_z w128 (of_z w128 (sum +ℤ to_z w128 (of_z w128 c.entry_product-sum.result))) ≡ sum +ℤ c.entry_product-sum.result = ap (λ z. to_z w128 (of_z w128 (sum +ℤ z))) product_kept
-    ∙ sum_word sum c.entry_product-sum.result b place_in_form c.loop-b.invariant.size c.entry_product-sum.ensures.size in
+    let sum_kept : to_z w128 (of_z w128 (sum +ℤ to_z w128 (of_z w128 c.product-sum.result))) ≡ sum +ℤ c.product-sum.result = ap (λ z. to_z w128 (of_z w128 (sum +ℤ z))) product_kept
+    ∙ sum_word sum c.product-sum.result b place_in_form c.loop-b.invariant.size c.product-sum.ensures.size in
     record {
       value = sum_kept ∙ ap₂ (λ x y. x +ℤ y) c.loop-b.invariant.value product_is ∙ sym (total_last term 0 b ∙ ap (λ (i : ℕ). total term 0 b +ℤ term i) (zero-add b));
-      size = subst (λ (z : ℤ). unsigned_abs z ≤ (b + 1) * 2 ^ 82) (sym sum_kept) (sum_size sum c.entry_product-sum.result b c.loop-b.invariant.size c.entry_product-sum.ensures.size);
+      size = subst (λ (z : ℤ). unsigned_abs z ≤ (b + 1) * 2 ^ 82) (sym sum_kept) (sum_size sum c.product-sum.result b c.loop-b.invariant.size c.product-sum.ensures.size);
     }

@@ -18,8 +18,8 @@ loop-k-preserved c =
     let product_opens = product_step row z k c.args.size (omega arith) (omega arith) (omega arith) in
     let fits_word : SFits w64 (get_or z k (pos 0)) = search rules in
     let entry_is : c.at.result ≡ get_or row k (pos 0) = c.at.ensures.value in
-    let product_is : c.small_product-sum.result ≡ get_or row k (pos 0) *ℤ get_or z k (pos 0) = subst (λ (x : ℤ). c.small_product-sum.result ≡ x *ℤ get_or z k (pos 0)) entry_is (grind (arith, to_z-of_z)) in
-    let product_small = c.small_product-sum.ensures.size in
+    let product_is : c.product-sum.result ≡ get_or row k (pos 0) *ℤ get_or z k (pos 0) = subst (λ (x : ℤ). c.product-sum.result ≡ x *ℤ get_or z k (pos 0)) entry_is (grind (arith, to_z-of_z)) in
+    let product_small = c.product-sum.ensures.size in
     let total_so_far = c.loop-k.invariant.total in
     let sum_small = c.loop-k.invariant.small in
     record { total = omega (arith, lins, product_opens, product_is); small = omega (arith, ints) }

@@ -8,7 +8,7 @@ use Rattle.int_search.specs.PlainCount.{side}
 use Rattle.int_search.specs.Vectors.{suffix}
 use Rattle.int_search.specs.SearchedForm.{search_form}
 use Rattle.int_search.proofs.FormNumbers.{searchable}
-use Rattle.int_search.proofs.PointLaws.{point_head, neighbour_set, neighbour_wide, small_set, zeros_set}
+use Rattle.int_search.proofs.PointLaws.{point_head, neighbour_set, neighbour_is_large, small_set, zeros_set}
 use Rattle.int_search.proofs.points.neighbour_point.Goals as goal
 
 -- the numbers of the calls are their words
@@ -29,7 +29,7 @@ returns-then-is_large c =
     let size = c.one_further-x.ensures.size in
     let head = point_head form z (omega arith) some c.requires.point.is in
     let large = c.is_large.ensures.yes (rw c.if-is_large.true (search rules)) in
-    neighbour_wide form first c.one_further-x.result further_entries is_searchable head entry_small (omega (arith, ints))
+    neighbour_is_large form first c.one_further-x.result further_entries head entry_small (omega (arith, ints))
 
 pub returns : goal.returns
 returns c =

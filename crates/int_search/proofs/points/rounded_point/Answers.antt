@@ -8,8 +8,7 @@ use Rattle.int_search.specs.Suffixes.{SearchForm, rest}
 use Rattle.int_search.specs.PlainCount.{rounded}
 use Rattle.int_search.specs.Vectors.{suffix}
 use Rattle.int_search.specs.SearchedForm.{search_form}
-use Rattle.int_search.proofs.FormNumbers.{searchable}
-use Rattle.int_search.proofs.PointLaws.{rounded_next, rounded_is_wide, rounded_first, small_zero, small_set, zeros_start, zeros_set}
+use Rattle.int_search.proofs.PointLaws.{rounded_next, rounded_is_large, rounded_first, small_zero, small_set, zeros_start, zeros_set}
 use Rattle.int_search.proofs.points.rounded_point.Goals as goal
 
 pub loop-i-init : goal.loop-i-init
@@ -38,7 +37,7 @@ returns-then-is_large c =
     let nearest_of_rest : c.nearest_part-x.result ≡ nearest_div (neg_ℤ (rest form (suffix c.loop-i.z (i + 1) n))) (2 ^ 30) = is_nearest ∙ ap (λ v. nearest_div (neg_ℤ v) (2 ^ 30)) c.later_part.ensures.value in
     let is_large_entry = c.is_large.ensures.yes (rw c.if-is_large.true (search rules)) in
     let entry_small = c.nearest_part-x.ensures.size in
-    rounded_is_wide form c.loop-i.z i c.nearest_part-x.result (searchable c.args.form.now c.requires) (omega arith) suffix_is_rounded nearest_of_rest (omega (arith, ints))
+    rounded_is_large form c.loop-i.z i c.nearest_part-x.result (omega arith) suffix_is_rounded nearest_of_rest (omega (arith, ints))
 
 pub loop-i-preserved : goal.loop-i-preserved
 loop-i-preserved c =

@@ -12,8 +12,8 @@ use Rattle.integer_form.specs.Forms.{integers_of}
 use Rattle.integer_form.specs.Kept.{form_of_table, constant_form}
 use Rattle.elimination.specs.Finish.{finish_of, IsFinishOf}
 use Rattle.int_search.specs.Transformed.{transformed_form, IsTransformed}
-use Rattle.int_search.specs.ReducedCounts.{HasCountIn, HasReducedCount}
-use Rattle.int_search.proofs.ReducedLaws.{IsDecorrelated, reduced_can, reduced_found, reduced_visits, reduced_fault, count_as}
+use Rattle.int_search.specs.ReducedCounts.{HasCountIn, HasReducedCount, EndsByItselfIn, ReducedEndsByItself}
+use Rattle.int_search.proofs.ReducedLaws.{IsDecorrelated, reduced_can, reduced_found, reduced_visits, reduced_fault, count_as, reduced_finished, reduced_unfinished, finished_in}
 use Rattle.int_search.proofs.reduced.reduced_best.Goals as goal
 
 -- the map is the one that the reduction of the form leaves
@@ -53,6 +53,27 @@ decorrelated_is f r front u h s m t e = record {
 -- the count in the map at hand
 count : (f : Form) (n : ℕ) (u : Unimodular) → IsReduced (integers_of f) f.d f.l u → HasReducedCount f n → HasCountIn f n u.map
 count f n u r h = count_as f n h.change.map u.map (λ i k a b. (reduced_same (integers_of f) f.d f.l h.change u h.reduced r i k a b).0) h.count
+
+-- the search in the map at hand ends by itself
+ended : (f : Form) (n : ℕ) (u : Unimodular) → IsReduced (integers_of f) f.d f.l u → ReducedEndsByItself f n → EndsByItselfIn f n u.map
+ended f n u r h = finished_in f n h.change.map u.map (λ i k a b. (reduced_same (integers_of f) f.d f.l h.change u h.reduced r i k a b).0) h.finished
+
+pub returns-in_default-clause-end : goal.returns-in_default-clause-end
+returns-in_default-clause-end c =
+    let change : IsReductionOf c.args.form.now c.reduce-change.result =
+    reduction_of c.args.form.now c.reduce-change.result c.requires c.reduce-change.ensures.size c.reduce-change.ensures.reduced in
+    λ finished. c.in_default.ensures.form (ended c.args.form.now c.args.budget c.reduce-change.result change.reduced finished).small
+
+pub returns-in_default-finish-clause-end : goal.returns-in_default-finish-clause-end
+returns-in_default-finish-clause-end c =
+    let change : IsReductionOf c.args.form.now c.reduce-change.result =
+    reduction_of c.args.form.now c.reduce-change.result c.requires c.reduce-change.ensures.size c.reduce-change.ensures.reduced in
+    let form : Form = c.args.form.now in
+    let unimodular : Unimodular = c.reduce-change.result in
+    λ finished.
+    let is_finished : EndsByItselfIn form c.args.budget unimodular.map = ended form c.args.budget unimodular change.reduced finished in
+    let told = c.in_default-finish.ensures.refused in
+    apart (is_finished.factors, constant_form is_finished.g) told.0 (sym (same_steps (integers_of form) unimodular.map form.p c.in-Some.front c.in-Some.ensures.form ∙ is_finished.taken) ∙ told.1.0)
 
 pub returns-in_default-clause-found : goal.returns-in_default-clause-found
 returns-in_default-clause-found c =
@@ -116,4 +137,35 @@ returns-in-Err-clause-found c =
     λ counted.
     let has_count : HasCountIn original c.args.budget unimodular.map = count original c.args.budget unimodular change.reduced counted in
     reduced_fault original c.in-Ok.reduced unimodular c.args.budget _ has_count form
-    (sym has_count.taken ∙ sym (same_steps (integers_of original) unimodular.map original.p c.in-Some.front c.in-Some.ensures.form) ∙ c.in-Ok.ensures.finished.taken) c.in-Err.ensures
+    (sym has_count.taken ∙ sym (same_steps (integers_of original) unimodular.map original.p c.in-Some.front c.in-Some.ensures.form) ∙ c.in-Ok.ensures.finished.taken)
+    (more original c.in-Ok.reduced.columns c.in-Some.front.columns c.requires c.in-Ok.ensures.finished.columns c.in-Some.ensures.form.columns) c.in-Err.ensures
+
+pub returns-in-Ok-search-clause-end : goal.returns-in-Ok-search-clause-end
+returns-in-Ok-search-clause-end c =
+    let change : IsReductionOf c.args.form.now c.reduce-change.result =
+    reduction_of c.args.form.now c.reduce-change.result c.requires c.reduce-change.ensures.size c.reduce-change.ensures.reduced in
+    let form : IsDecorrelated c.args.form.now c.in-Ok.reduced c.reduce-change.result =
+    decorrelated_is c.args.form.now c.in-Ok.reduced c.in-Some.front c.reduce-change.result c.requires change.size c.at.ensures.shape.rows c.in-Some.ensures.form c.in-Ok.ensures.finished in
+    let original : Form = c.args.form.now in
+    let unimodular : Unimodular = c.reduce-change.result in
+    record {
+      change = unimodular;
+      reduced = change.reduced;
+      finished = reduced_finished original c.in-Ok.reduced unimodular c.args.budget c.in-Ok-search.best form
+          (more original c.in-Ok.reduced.columns c.in-Some.front.columns c.requires c.in-Ok.ensures.finished.columns c.in-Some.ensures.form.columns) c.in-Some.ensures.form.small
+          (sym (same_steps (integers_of original) unimodular.map original.p c.in-Some.front c.in-Some.ensures.form) ∙ c.in-Ok.ensures.finished.taken) c.in-Ok-search.ensures;
+    }
+
+pub returns-in-Err-clause-end : goal.returns-in-Err-clause-end
+returns-in-Err-clause-end c =
+    let change : IsReductionOf c.args.form.now c.reduce-change.result =
+    reduction_of c.args.form.now c.reduce-change.result c.requires c.reduce-change.ensures.size c.reduce-change.ensures.reduced in
+    let form : IsDecorrelated c.args.form.now c.in-Ok.reduced c.reduce-change.result =
+    decorrelated_is c.args.form.now c.in-Ok.reduced c.in-Some.front c.reduce-change.result c.requires change.size c.at.ensures.shape.rows c.in-Some.ensures.form c.in-Ok.ensures.finished in
+    let original : Form = c.args.form.now in
+    let unimodular : Unimodular = c.reduce-change.result in
+    λ finished.
+    let is_finished : EndsByItselfIn original c.args.budget unimodular.map = ended original c.args.budget unimodular change.reduced finished in
+    reduced_unfinished original c.in-Ok.reduced unimodular c.args.budget _ is_finished form
+    (more original c.in-Ok.reduced.columns c.in-Some.front.columns c.requires c.in-Ok.ensures.finished.columns c.in-Some.ensures.form.columns)
+    (sym is_finished.taken ∙ sym (same_steps (integers_of original) unimodular.map original.p c.in-Some.front c.in-Some.ensures.form) ∙ c.in-Ok.ensures.finished.taken) c.in-Err.ensures

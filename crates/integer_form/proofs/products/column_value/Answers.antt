@@ -19,22 +19,22 @@ sum_is a b h g =
 
 pub overflow_add-result : goal.overflow_add-result
 overflow_add-result c =
-    let sum_small : unsigned_abs (c.weighed.result +ℤ pos 2 *ℤ c.later_part.result) ≤ 2 ^ 120 = whole c.weighed.result c.later_part.result c.weighed.ensures.size c.later_part.ensures.size in
-    rw (sum_is c.weighed.result c.later_part.result c.weighed.ensures.size c.later_part.ensures.size) (omega (arith, ints))
+    let sum_small : unsigned_abs (c.wide_product.result +ℤ pos 2 *ℤ c.wide_product-2.result) ≤ 2 ^ 120 = whole c.wide_product.result c.wide_product-2.result c.wide_product.ensures.size c.wide_product-2.ensures.size in
+    rw (sum_is c.wide_product.result c.wide_product-2.result c.wide_product.ensures.size c.wide_product-2.ensures.size) (omega (arith, ints))
 
 pub returns-clause-value : goal.returns-clause-value
 returns-clause-value c =
-    let sum_small : unsigned_abs (c.weighed.result +ℤ pos 2 *ℤ c.later_part.result) ≤ 2 ^ 120 = whole c.weighed.result c.later_part.result c.weighed.ensures.size c.later_part.ensures.size in
+    let sum_small : unsigned_abs (c.wide_product.result +ℤ pos 2 *ℤ c.wide_product-2.result) ≤ 2 ^ 120 = whole c.wide_product.result c.wide_product-2.result c.wide_product.ensures.size c.wide_product-2.ensures.size in
     let same_own : to_z w64 (of_z w64 c.args.own) ≡ c.args.own = to_z-of_z w64 c.args.own c.ranges.own in
     let same_x : to_z w64 (of_z w64 c.args.x) ≡ c.args.x = to_z-of_z w64 c.args.x c.ranges.x in
     let same_later : to_z w128 (of_z w128 c.args.later) ≡ c.args.later = to_z-of_z w128 c.args.later c.ranges.later in
-    let square_is : to_z w128 (of_z w128 c.square.result) ≡ c.args.x *ℤ c.args.x = as_w128 c.square.result (omega (arith, c.square.ensures.size)) ∙ c.square.ensures.value ∙ ap (λ z. z *ℤ z) same_x in
-    rw (sum_is c.weighed.result c.later_part.result c.weighed.ensures.size c.later_part.ensures.size)
-    (as_w128 (c.weighed.result +ℤ pos 2 *ℤ c.later_part.result) (omega arith)
-    ∙ ap₂ (λ a b. a +ℤ pos 2 *ℤ b) (c.weighed.ensures.value ∙ ap₂ (λ a b. a *ℤ b) same_own square_is) (c.later_part.ensures.value ∙ ap₂ (λ a b. a *ℤ b) same_x same_later))
+    let square_is : to_z w128 (of_z w128 c.product.result) ≡ c.args.x *ℤ c.args.x = as_w128 c.product.result (omega (arith, c.product.ensures.size)) ∙ c.product.ensures.value ∙ ap (λ z. z *ℤ z) same_x in
+    rw (sum_is c.wide_product.result c.wide_product-2.result c.wide_product.ensures.size c.wide_product-2.ensures.size)
+    (as_w128 (c.wide_product.result +ℤ pos 2 *ℤ c.wide_product-2.result) (omega arith)
+    ∙ ap₂ (λ a b. a +ℤ pos 2 *ℤ b) (c.wide_product.ensures.value ∙ ap₂ (λ a b. a *ℤ b) same_own square_is) (c.wide_product-2.ensures.value ∙ ap₂ (λ a b. a *ℤ b) same_x same_later))
 
 pub returns-clause-size : goal.returns-clause-size
 returns-clause-size c =
-    let sum_small : unsigned_abs (c.weighed.result +ℤ pos 2 *ℤ c.later_part.result) ≤ 2 ^ 120 = whole c.weighed.result c.later_part.result c.weighed.ensures.size c.later_part.ensures.size in
-    rw (sum_is c.weighed.result c.later_part.result c.weighed.ensures.size c.later_part.ensures.size)
-    (rw (as_w128 (c.weighed.result +ℤ pos 2 *ℤ c.later_part.result) (omega arith)) sum_small)
+    let sum_small : unsigned_abs (c.wide_product.result +ℤ pos 2 *ℤ c.wide_product-2.result) ≤ 2 ^ 120 = whole c.wide_product.result c.wide_product-2.result c.wide_product.ensures.size c.wide_product-2.ensures.size in
+    rw (sum_is c.wide_product.result c.wide_product-2.result c.wide_product.ensures.size c.wide_product-2.ensures.size)
+    (rw (as_w128 (c.wide_product.result +ℤ pos 2 *ℤ c.wide_product-2.result) (omega arith)) sum_small)

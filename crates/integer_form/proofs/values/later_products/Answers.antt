@@ -16,7 +16,7 @@ loop-c-preserved c =
     let p : ℕ → ℤ = entry c.args.p.now c.args.r in
     let x : ℕ → ℤ = item c.args.x.now in
     let o : ℤ = to_z w128 c.loop-c.sum-bits in
-    let t : ℤ = c.times-sum.result in
+    let t : ℤ = c.product-sum.result in
     let small : unsigned_abs (entry c.args.p.now c.args.r c.loop-c.c) < 2 ^ 52 = c.requires.entries c.args.r c.loop-c.c in
     let narrow : unsigned_abs (slice_index_or c.args.x.now c.loop-c.c (pos 0)) ≤ 2 ^ 30 = c.requires.numbers c.loop-c.c c.loop-c-test.true in
     let product : unsigned_abs (entry c.args.p.now c.args.r c.loop-c.c *ℤ slice_index_or c.args.x.now c.loop-c.c (pos 0)) ≤ 2 ^ 82 =
@@ -25,7 +25,7 @@ loop-c-preserved c =
     as_w64 c.at.result (omega (arith, subst (λ (z : ℤ). unsigned_abs z < 2 ^ 52) (sym c.at.ensures.value) small)) ∙ c.at.ensures.value in
     let same_number : to_z w64 (of_z w64 (slice_index_or c.args.x.now c.loop-c.c (pos 0))) ≡ slice_index_or c.args.x.now c.loop-c.c (pos 0) =
     as_w64 (slice_index_or c.args.x.now c.loop-c.c (pos 0)) (omega arith) in
-    let product_is : t ≡ p k *ℤ x k = c.times-sum.ensures.value ∙ ap₂ (λ a b. a *ℤ b) same_entry same_number in
+    let product_is : t ≡ p k *ℤ x k = c.product-sum.ensures.value ∙ ap₂ (λ a b. a *ℤ b) same_entry same_number in
     let product_small : unsigned_abs t ≤ 2 ^ 82 = subst (λ (z : ℤ). unsigned_abs z ≤ 2 ^ 82) (sym product_is) product in
     let sum_size_at_most : unsigned_abs (o +ℤ t) ≤ unsigned_abs o + unsigned_abs t = size_add o t in
     let sum_small : unsigned_abs o ≤ k * 2 ^ 82 = c.loop-c.invariant.size in

@@ -1,7 +1,7 @@
 use Rattle.std.proofs.Common.{◌≡◌, ℕ, ◌+◌, ◌-◌, ◌^◌, ℤ, pos, ◌+ℤ◌, ◌-ℤ◌, ◌*ℤ◌, ◌≤ℤ◌, ◌<ℤ◌, arith, to_z, of_z, pow_pos, sym, subst₂}
 use Rattle.std.specs.Int.{w128}
 use Rattle.std.proofs.lemmas.Int.{ints, to_z-of_z}
-use Rattle.rational.specs.Rational.{Rational, InBox, mul_r}
+use Rattle.rational.specs.Rational.{Rational, InBox, ◌*ʳ◌}
 use Rattle.iv_core.specs.Boxes.{least_corner, most_corner}
 use Rattle.whole_math.specs.Rounding.{floor_div, ceil_div}
 use Rattle.whole_math.proofs.Rounding.{floor_le_ceil}
@@ -72,7 +72,7 @@ pub returns-clause-holds : goal.returns-clause-holds
 returns-clause-holds g c =
     let a = c.args.self.now in
     let b = c.args.other.now in
-    subst₂ (λ l h. (x y : Rational) → InBox g.row.K a.lo a.hi x → InBox g.row.A b.lo b.hi y → InBox g.row.B l h (mul_r x y)) (sym (returns-clause-lo g c)) (sym (returns-clause-hi g c))
+    subst₂ (λ l h. (x y : Rational) → InBox g.row.K a.lo a.hi x → InBox g.row.A b.lo b.hi y → InBox g.row.B l h (x *ʳ y)) (sym (returns-clause-lo g c)) (sym (returns-clause-hi g c))
     (mul_holds g.row.K g.row.A g.row.B a.lo a.hi b.lo b.hi c.requires.coarser)
 
 pub returns-clause-width : goal.returns-clause-width

@@ -1,7 +1,7 @@
 use Rattle.std.proofs.Common.{◌≡◌, ℕ, ◌+◌, ◌-◌, ◌^◌, ℤ, pos, ◌+ℤ◌, ◌-ℤ◌, ◌*ℤ◌, ◌≤ℤ◌, ◌<ℤ◌, arith, to_z, of_z, pow_pos, sym, subst₂}
 use Rattle.std.specs.Int.{w128}
 use Rattle.std.proofs.lemmas.Int.{ints, to_z-of_z}
-use Rattle.rational.specs.Rational.{Rational, InBox, mul_r}
+use Rattle.rational.specs.Rational.{Rational, InBox, ◌*ʳ◌}
 use Rattle.iv_core.specs.Boxes.{near_end, far_end}
 use Rattle.whole_math.specs.Rounding.{floor_div, ceil_div}
 use Rattle.whole_math.proofs.Rounding.{floor_le_ceil}
@@ -66,7 +66,7 @@ returns-clause-hi g c =
 pub returns-clause-holds : goal.returns-clause-holds
 returns-clause-holds g c =
     let a = c.args.self.now in
-    subst₂ (λ l h. (x : Rational) → InBox g.row.K a.lo a.hi x → InBox g.row.B l h (mul_r x x)) (sym (returns-clause-lo g c)) (sym (returns-clause-hi g c))
+    subst₂ (λ l h. (x : Rational) → InBox g.row.K a.lo a.hi x → InBox g.row.B l h (x *ʳ x)) (sym (returns-clause-lo g c)) (sym (returns-clause-hi g c))
     (square_holds g.row.K g.row.B a.lo a.hi c.requires.coarser)
 
 pub returns-clause-width : goal.returns-clause-width

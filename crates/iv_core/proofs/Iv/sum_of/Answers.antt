@@ -1,6 +1,6 @@
 use Rattle.std.proofs.Common.{arith, sym, subst₂}
 use Rattle.std.proofs.lemmas.Int.{ints}
-use Rattle.rational.specs.Rational.{Rational, InBox, add_r}
+use Rattle.rational.specs.Rational.{Rational, InBox, ◌+ʳ◌}
 use Rattle.iv_core.proofs.SumLaws.{add_holds}
 use Rattle.iv_core.proofs.Iv.sum_of.Goals as goal
 
@@ -24,7 +24,7 @@ pub returns-clause-holds : goal.returns-clause-holds
 returns-clause-holds g c =
     let a = c.args.self.now in
     let b = c.args.other.now in
-    subst₂ (λ l h. (x y : Rational) → InBox g.row.K a.lo a.hi x → InBox g.row.K b.lo b.hi y → InBox g.row.K l h (add_r x y)) (sym (returns-clause-lo g c)) (sym (returns-clause-hi g c))
+    subst₂ (λ l h. (x y : Rational) → InBox g.row.K a.lo a.hi x → InBox g.row.K b.lo b.hi y → InBox g.row.K l h (x +ʳ y)) (sym (returns-clause-lo g c)) (sym (returns-clause-hi g c))
     (add_holds g.row.K a.lo a.hi b.lo b.hi)
 
 pub returns-clause-width : goal.returns-clause-width

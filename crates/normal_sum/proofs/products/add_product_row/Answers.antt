@@ -18,6 +18,6 @@ returns-else-is_short-clause-added c =
     let value : ℤ = slice_index_or c.args.values.now c.args.row (pos 0) in
     let small : unsigned_abs value ≤ 2 ^ 38 = c.requires.value_size c.args.row c.requires.row_in in
     let as_read : to_z w64 (of_z w64 value) ≡ value = as_w64 value (omega arith) in
-    let product = (rw (to_z-of_z w64 c.args.weight c.ranges.weight, as_read) at c.times.ensures.value) in
-    let as_word : to_z w128 (of_z w128 c.times.result) ≡ c.times.result = as_w128 c.times.result (omega (arith, c.times.ensures.size)) in
+    let product = (rw (to_z-of_z w64 c.args.weight c.ranges.weight, as_read) at c.product.ensures.value) in
+    let as_word : to_z w128 (of_z w128 c.product.result) ≡ c.product.result = as_w128 c.product.result (omega (arith, c.product.ensures.size)) in
     λ j from behind inside. rw (as_word, product) at (c.add_to_row.ensures.added j from behind inside)

@@ -1,7 +1,7 @@
 use Rattle.std.proofs.Common.{◌≡◌, ℕ, ℤ, arith, sym, subst}
 use Rattle.std.proofs.lemmas.Int.{to_z-of_z}
 use Rattle.std.specs.Int.{w64}
-use Rattle.rational.specs.Rational.{sub_r}
+use Rattle.rational.specs.Rational.{◌-ʳ◌}
 use Rattle.iv_core.specs.declared.Iv.{Iv}
 use Rattle.iv_core.specs.Intervals.{Holds}
 use Rattle.orbit_model.specs.Elements.{sent_at}
@@ -13,9 +13,9 @@ pub returns-then-made : goal.returns-then-made
 returns-then-made c =
     let eph = c.args.made.now.eph in
     let same : eph.toc.0 ≡ eph.toe.0 = omega arith in
-    subst (λ (t : ℕ). Holds c.loose.result.held (part (sub_r (sent_at c.args.tag.0 c.args.code) (seconds t)))) (sym same)
-    (subst (λ (b : Iv 60). Holds b (part (sub_r (sent_at c.args.tag.0 c.args.code) (seconds eph.toe.0)))) (sym c.loose.ensures) c.requires.sent)
+    subst (λ (t : ℕ). Holds c.loose.result.held (part (sent_at c.args.tag.0 c.args.code -ʳ seconds t))) (sym same)
+    (subst (λ (b : Iv 60). Holds b (part (sent_at c.args.tag.0 c.args.code -ʳ seconds eph.toe.0))) (sym c.loose.ensures) c.requires.sent)
 
 pub returns-else-made : goal.returns-else-made
-returns-else-made c = subst (λ (k : ℤ). Holds c.time_since.result.held (part (sub_r (sent_at c.args.tag.0 k) (seconds c.args.made.now.eph.toc.0))))
+returns-else-made c = subst (λ (k : ℤ). Holds c.time_since.result.held (part (sent_at c.args.tag.0 k -ʳ seconds c.args.made.now.eph.toc.0)))
     (to_z-of_z w64 c.args.code c.ranges.code) c.time_since.ensures

@@ -3,7 +3,7 @@ use Rattle.std.proofs.lemmas.Int.{to_z-of_z}
 use Rattle.std.specs.Int.{w64}
 use Rattle.whole_math.proofs.Ring.{va, ko, ◌⊕◌, ◌⊗◌, ng}
 use Rattle.whole_math.proofs.Order.{le_pos}
-use Rattle.rational.specs.Rational.{Rational, ◌≈◌, of_whole, of_scale, two_to_minus, add_r, mul_r}
+use Rattle.rational.specs.Rational.{Rational, ◌≈◌, of_whole, of_scale, two_to_minus, ◌+ʳ◌, ◌*ʳ◌}
 use Rattle.rational.proofs.Boxes.{InBox-along}
 use Rattle.rational.proofs.Orders.{equal_r, ◌≐◌}
 use Rattle.rational.proofs.Sizes.{size_mul, size_looser}
@@ -14,7 +14,7 @@ use Rattle.orbit_clock.proofs.FirstBounds.{size_of_decimal}
 use Rattle.orbit_clock.proofs.Values.{holds_own, zero_value}
 use Rattle.orbit_clock.proofs.record.bias_of.Goals as goal
 
-no_share : (a f h : Rational) → f ≈ of_whole (pos 0) → a ≈ add_r a (mul_r f h)
+no_share : (a f h : Rational) → f ≈ of_whole (pos 0) → a ≈ a +ʳ f *ʳ h
 no_share a f h e = equal_r (a ∷ f ∷ h ∷ []) ((va 1 ≐ ko (pos 0)) ∷ []) (ng (va 2) ∷ []) (va 0) (va 0 ⊕ (va 1 ⊗ va 2)) refl (e, tt)
 
 pub returns-then-aging-eq0 : goal.returns-then-aging-eq0
@@ -25,13 +25,13 @@ returns-then-aging-eq0 c = λ share small.
     let held : Holds c.loose.result.held bias = subst (λ (b : Iv 60). Holds b bias) (sym c.loose.ensures) (holds_own 60 c.decimal_box-own.result.held bias c.decimal_box-own.ensures) in
     let mantissa = c.mantissa_of-aging.result in
     let zero : eph.af2.mant ≡ pos 0 = sym c.mantissa_of-aging.ensures ∙ sym (to_z-of_z w64 mantissa (record { sfits = c.mantissa_of-aging.type_inv })) ∙ ap (to_z w64) c.if-aging-eq0.true in
-    InBox-along 60 c.loose.result.held.lo c.loose.result.held.hi bias (add_r bias (mul_r aging share)) (no_share bias aging share (zero_value eph.af2 zero)) held
+    InBox-along 60 c.loose.result.held.lo c.loose.result.held.hi bias (bias +ʳ aging *ʳ share) (no_share bias aging share (zero_value eph.af2 zero)) held
 
 pub returns-else-aging-eq0 : goal.returns-else-aging-eq0
 returns-else-aging-eq0 c = λ share small.
     let eph = c.args.eph.now in
     let bias : Rational = value_of eph.af0 in
     let aging : Rational = value_of eph.af2 in
-    c.widened.ensures bias (mul_r aging share) (holds_own 60 c.decimal_box-own.result.held bias c.decimal_box-own.ensures)
-    (size_looser (mul_r (decimal (pos 1) 12) (two_to_minus 44)) (of_scale 60 (pos 1)) (mul_r aging share) (le_pos _ _ (lit≤ tt))
+    c.widened.ensures bias (aging *ʳ share) (holds_own 60 c.decimal_box-own.result.held bias c.decimal_box-own.ensures)
+    (size_looser (decimal (pos 1) 12 *ʳ two_to_minus 44) (of_scale 60 (pos 1)) (aging *ʳ share) (le_pos _ _ (lit≤ tt))
     (size_mul (decimal (pos 1) 12) (two_to_minus 44) aging share (size_of_decimal 1 12 eph.af2 eph.af2_in) small))

@@ -1,5 +1,5 @@
 use Rattle.std.proofs.Common.{sym, subst}
-use Rattle.rational.specs.Rational.{sub_r, mul_r}
+use Rattle.rational.specs.Rational.{◌-ʳ◌, ◌*ʳ◌}
 use Rattle.iv_core.specs.declared.Iv.{Iv}
 use Rattle.iv_core.specs.Intervals.{Holds}
 use Rattle.orbit_model.specs.Solution.{one}
@@ -10,5 +10,5 @@ pub returns-clause-holds : goal.returns-clause-holds
 returns-clause-holds c = λ e p h k.
     let anomaly = c.args.anomaly.now in
     let cos : Holds c.cosine.result.held p.cos = subst (λ (b : Iv 60). Holds b p.cos) (sym c.cosine.ensures) k.0 in
-    subst (λ (b : Iv 60). Holds b (sub_r one (mul_r e p.cos))) (sym c.new.ensures)
-    (c.difference_of.ensures.holds one (mul_r e p.cos) (one_held c.one.result c.one.ensures.lo c.one.ensures.hi) (c.mul-pull.ensures.holds e p.cos h cos))
+    subst (λ (b : Iv 60). Holds b (one -ʳ e *ʳ p.cos)) (sym c.new.ensures)
+    (c.difference_of.ensures.holds one (e *ʳ p.cos) (one_held c.one.result c.one.ensures.lo c.one.ensures.hi) (c.mul-pull.ensures.holds e p.cos h cos))

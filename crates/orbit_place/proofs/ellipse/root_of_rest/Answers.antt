@@ -1,6 +1,6 @@
 use Rattle.std.proofs.Common.{pos, neg_ℤ, ◌≤ℤ◌, ◌^◌, ◌*◌, arith, sym, subst}
 use Rattle.std.proofs.lemmas.Int.{ints}
-use Rattle.rational.specs.Rational.{of_scale, two_to_minus, mul_r, sub_r, AreWithin}
+use Rattle.rational.specs.Rational.{of_scale, two_to_minus, ◌*ʳ◌, ◌-ʳ◌, AreWithin}
 use Rattle.iv_core.specs.declared.Iv.{Iv}
 use Rattle.iv_core.specs.Intervals.{Holds}
 use Rattle.orbit_model.specs.Solution.{one}
@@ -26,7 +26,7 @@ new-requires c =
     (omega arith, (omega arith, ((low, root_high rest.lo rest.hi root.lo root.hi is_root), root_narrow rest.lo rest.hi root.lo root.hi is_root)))
 
 pub returns-clause-holds : goal.returns-clause-holds
-returns-clause-holds c = λ e w h k. subst (λ (b : Iv 60). Holds b w) (sym c.new.ensures) (c.root_to.ensures.holds (sub_r one (mul_r e e)) w (c.rest_of.ensures.holds e h) k)
+returns-clause-holds c = λ e w h k. subst (λ (b : Iv 60). Holds b w) (sym c.new.ensures) (c.root_to.ensures.holds (one -ʳ e *ʳ e) w (c.rest_of.ensures.holds e h) k)
 
 pub returns-clause-near : goal.returns-clause-near
 returns-clause-near c = λ e h.
@@ -43,5 +43,5 @@ returns-clause-near c = λ e h.
       near_low = c.root_to.ensures.near_low;
       near_high = c.root_to.ensures.near_high;
     } in
-    subst (λ (root_box : Iv 60). AreWithin (two_to_minus 50) (mul_r (of_scale 60 root_box.lo) (of_scale 60 root_box.lo)) (sub_r one (mul_r e e))) (sym c.new.ensures)
-    (root_near rest.lo rest.hi root.lo root.hi (sub_r one (mul_r e e)) root_box (c.rest_of.ensures.holds e h))
+    subst (λ (root_box : Iv 60). AreWithin (two_to_minus 50) (of_scale 60 root_box.lo *ʳ of_scale 60 root_box.lo) (one -ʳ e *ʳ e)) (sym c.new.ensures)
+    (root_near rest.lo rest.hi root.lo root.hi (one -ʳ e *ʳ e) root_box (c.rest_of.ensures.holds e h))

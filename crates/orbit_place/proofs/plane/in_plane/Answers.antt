@@ -1,4 +1,4 @@
-use Rattle.rational.specs.Rational.{add_r, sub_r, mul_r}
+use Rattle.rational.specs.Rational.{◌+ʳ◌, ◌-ʳ◌, ◌*ʳ◌}
 use Rattle.trig_box.specs.AnglePairs.{double}
 use Rattle.orbit_model.specs.Solution.{one, harmonic, turned}
 use Rattle.orbit_place.specs.Rotations.{HoldsBoth}
@@ -24,10 +24,10 @@ returns c =
     pair_along double_.cos double_.sin (double q.latitude_pair) q.twice_pair s.twice_the_argument (c.double-twice.ensures.holds q.latitude_pair (phi world eph sent q h s)) in
     record {
       radius = λ world eph sent q h s.
-          held_along radius (add_r (mul_r q.axis (sub_r one (mul_r eph.ecc q.eccentric_pair.cos))) (harmonic eph.crs eph.crc q.twice_pair)) q.radius
-          (radius_with q.radius (mul_r q.axis (sub_r one (mul_r eph.ecc q.eccentric_pair.cos))) q.radius_change
+          held_along radius (q.axis *ʳ (one -ʳ eph.ecc *ʳ q.eccentric_pair.cos) +ʳ harmonic eph.crs eph.crc q.twice_pair) q.radius
+          (radius_with q.radius (q.axis *ʳ (one -ʳ eph.ecc *ʳ q.eccentric_pair.cos)) q.radius_change
           (harmonic eph.crs eph.crc q.twice_pair) s.corrected_radius s.radius_correction)
-          (c.radius_of-radius.ensures.holds q.axis (sub_r one (mul_r eph.ecc q.eccentric_pair.cos)) (harmonic eph.crs eph.crc q.twice_pair) h.axis
+          (c.radius_of-radius.ensures.holds q.axis (one -ʳ eph.ecc *ʳ q.eccentric_pair.cos) (harmonic eph.crs eph.crc q.twice_pair) h.axis
           (c.on_ellipse-ellipse.ensures.radius eph.ecc q.eccentric_pair h.eccentricity h.anomaly)
           (c.radius_change-correction.ensures.holds eph.crs eph.crc q.twice_pair h.crs h.crc (twice world eph sent q h s)));
       latitude = λ world eph sent q h s.

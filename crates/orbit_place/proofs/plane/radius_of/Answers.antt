@@ -1,9 +1,9 @@
-use Rattle.rational.specs.Rational.{mul_r}
+use Rattle.rational.specs.Rational.{◌*ʳ◌}
 use Rattle.orbit_place.proofs.Radii.{radius_least}
 use Rattle.orbit_place.proofs.plane.radius_of.Goals as goal
 
 pub returns-clause-holds : goal.returns-clause-holds
-returns-clause-holds c = λ x y z h k l. c.add.ensures.holds (mul_r x y) z (c.mul-bare.ensures.holds x y h k) l
+returns-clause-holds c = λ x y z h k l. c.add.ensures.holds (x *ʳ y) z (c.mul-bare.ensures.holds x y h k) l
 
 pub returns-clause-least : goal.returns-clause-least
 returns-clause-least c = radius_least c.args.axis.now.held c.args.share.now.held c.args.change.now.held c.add.result.held c.requires.axis_least

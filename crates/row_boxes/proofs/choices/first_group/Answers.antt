@@ -2,7 +2,7 @@ use Rattle.std.proofs.Common.{◌≡◌, ◌+◌, ◌^◌, ◌-ℤ◌, ◌+ℤ�
 use Rattle.std.proofs.lemmas.Int.{ints, to_z-of_z}
 use Rattle.std.specs.Int.{w64}
 use Rattle.whole_math.specs.Rounding.{IsNearest, floor_div, ceil_div}
-use Rattle.rational.specs.Rational.{of_whole, sub_r, InBox}
+use Rattle.rational.specs.Rational.{of_whole, ◌-ʳ◌, InBox}
 use Rattle.rational.proofs.Boxes.{InBox-along, Near-along}
 use Rattle.orbit_model.specs.SeenPlaces.{range_of}
 use Rattle.obs_rows.specs.Signals.{wavelength}
@@ -32,10 +32,10 @@ pub returns-clause-near : goal.returns-clause-near
 returns-clause-near c = λ p h b r a.
     let prefit = c.prefit_of-prefit.result in
     let chosen_group : ℤ = c.nearest_iota.result in
-    let prefit_within_half : IsWithinHalf (pos 1) (sub_r (less_pseudoranges 2 c.args.amount b r) (of_whole chosen_group)) = within_half (pos 1) prefit.lo prefit.hi chosen_group (less_pseudoranges 2 c.args.amount b r)
+    let prefit_within_half : IsWithinHalf (pos 1) (less_pseudoranges 2 c.args.amount b r -ʳ of_whole chosen_group) = within_half (pos 1) prefit.lo prefit.hi chosen_group (less_pseudoranges 2 c.args.amount b r)
     (half_group prefit.lo prefit.hi chosen_group prefit.narrow (nearest c)) (held c p h b r a) in
     let row_within_half : IsWithinHalf (pos 1) (y_of 2 c.args.amount chosen_group (pos 0) b r) = InBox-along 15 (neg_ℤ (pos (2 ^ 14))) (pos (2 ^ 14) +ℤ prefit_width)
-    (sub_r (less_pseudoranges 2 c.args.amount b r) (of_whole chosen_group)) (y_of 2 c.args.amount chosen_group (pos 0) b r) (y_is 2 c.args.amount chosen_group (pos 0) chosen_group b r (no_shift chosen_group)) prefit_within_half in
+    (less_pseudoranges 2 c.args.amount b r -ʳ of_whole chosen_group) (y_of 2 c.args.amount chosen_group (pos 0) b r) (y_is 2 c.args.amount chosen_group (pos 0) chosen_group b r (no_shift chosen_group)) prefit_within_half in
     subst (λ (z : ℤ). IsWithinHalf (pos 1) (y_of 2 c.args.amount z (pos 0) b r)) (sym (result_is c)) row_within_half
 
 pub returns-clause-allowed : goal.returns-clause-allowed
@@ -52,7 +52,7 @@ returns-clause-allowed c = λ scale p t both.
       centre = centre_of_ends;
       radius = radius_of_ends;
       narrow = y_radius scale prefit.lo prefit.hi chosen_group centre_of_ends radius_of_ends are_ends;
-      holds = λ b r a. Near-along centre_of_ends radius_of_ends (in_row_unit scale (sub_r (less_pseudoranges 2 c.args.amount b r) (of_whole chosen_group))) (y_in_rows scale 2 c.args.amount chosen_group (pos 0) b r)
+      holds = λ b r a. Near-along centre_of_ends radius_of_ends (in_row_unit scale (less_pseudoranges 2 c.args.amount b r -ʳ of_whole chosen_group)) (y_in_rows scale 2 c.args.amount chosen_group (pos 0) b r)
           (y_in_rows_is scale 2 c.args.amount chosen_group (pos 0) chosen_group b r (no_shift chosen_group)) (y_holds scale prefit.lo prefit.hi chosen_group centre_of_ends radius_of_ends (less_pseudoranges 2 c.args.amount b r) are_ends (held c p both b r a));
       meets = y_meets scale prefit.lo prefit.hi chosen_group centre_of_ends radius_of_ends are_ends half_group_holds.0 half_group_holds.1;
     } in

@@ -2,7 +2,7 @@ use Rattle.std.proofs.Common.{◌≡◌, ◌*◌, ◌^◌, ◌-ℤ◌, ◌+ℤ�
 use Rattle.std.proofs.lemmas.Int.{to_z-of_z}
 use Rattle.std.specs.Int.{w64, w128}
 use Rattle.whole_math.specs.Rounding.{IsNearest}
-use Rattle.rational.specs.Rational.{Rational, of_whole, sub_r, InBox}
+use Rattle.rational.specs.Rational.{Rational, of_whole, ◌-ʳ◌, InBox}
 use Rattle.rational.proofs.Boxes.{InBox-along}
 use Rattle.orbit_model.specs.SeenPlaces.{range_of}
 use Rattle.obs_rows.specs.Signals.{wavelength}
@@ -37,8 +37,8 @@ returns-clause-near c = λ p h b r a.
     let k : ℤ = c.nearest_cycle.result in
     let l : ℤ = wavelength signal in
     let q : Rational = less_pseudoranges signal c.args.amount b r in
-    let prefit_within_half : IsWithinHalf l (sub_r q (of_whole (chosen_group +ℤ (l *ℤ k)))) = within_half l prefit.lo prefit.hi (chosen_group +ℤ (l *ℤ k)) q
+    let prefit_within_half : IsWithinHalf l (q -ʳ of_whole (chosen_group +ℤ (l *ℤ k))) = within_half l prefit.lo prefit.hi (chosen_group +ℤ (l *ℤ k)) q
     (half_cycle prefit.lo prefit.hi chosen_group k l (unsigned_abs l * 2 ^ 15) (cycle_units signal c.requires.signal c.requires.phase) prefit.narrow (nearest c)) (held c p h b r a) in
-    let row_within_half : IsWithinHalf l (y_of signal c.args.amount chosen_group k b r) = InBox-along 15 _ _ (sub_r q (of_whole (chosen_group +ℤ (l *ℤ k)))) (y_of signal c.args.amount chosen_group k b r)
+    let row_within_half : IsWithinHalf l (y_of signal c.args.amount chosen_group k b r) = InBox-along 15 _ _ (q -ʳ of_whole (chosen_group +ℤ (l *ℤ k))) (y_of signal c.args.amount chosen_group k b r)
     (y_is signal c.args.amount chosen_group k (chosen_group +ℤ (l *ℤ k)) b r refl) prefit_within_half in
     subst (λ (z : ℤ). IsWithinHalf l (y_of signal c.args.amount chosen_group z b r)) (sym (result_is c)) row_within_half

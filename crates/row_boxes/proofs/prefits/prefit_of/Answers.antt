@@ -1,7 +1,7 @@
 use Rattle.std.proofs.Common.{◌≡◌, ◌*◌, ◌^◌, ◌<◌, ◌-ℤ◌, ℤ, arith, lit≤, unsigned_abs, to_z, of_z, sym, subst}
 use Rattle.std.proofs.lemmas.Int.{to_z-of_z}
 use Rattle.std.specs.Int.{w64, w128}
-use Rattle.rational.specs.Rational.{InBox, sub_r}
+use Rattle.rational.specs.Rational.{InBox, ◌-ʳ◌}
 use Rattle.obs_rows.specs.Signals.{wavelength}
 use Rattle.row_boxes.specs.Terms.{observed, iota_exponent}
 use Rattle.row_boxes.specs.declared.pseudoranges.Pseudorange.{Pseudorange}
@@ -45,11 +45,11 @@ returns-clause-holds c = λ b r i j.
     let observed_held = c.observed_box-held in
     let base : Pseudorange = c.args.base.now in
     let rover : Pseudorange = c.args.rover.now in
-    let held : InBox iota_exponent (observed_held.result.lo -ℤ (rover.hi -ℤ base.lo)) (observed_held.result.hi -ℤ (rover.lo -ℤ base.hi)) (sub_r (observed c.args.signal c.args.amount) (sub_r r b)) =
+    let held : InBox iota_exponent (observed_held.result.lo -ℤ (rover.hi -ℤ base.lo)) (observed_held.result.hi -ℤ (rover.lo -ℤ base.hi)) (observed c.args.signal c.args.amount -ʳ (r -ʳ b)) =
     prefit_holds observed_held.result.lo observed_held.result.hi base.lo base.hi rover.lo rover.hi (observed c.args.signal c.args.amount) b r
     (subst (λ (z : ℤ). InBox iota_exponent observed_held.result.lo observed_held.result.hi (observed c.args.signal z)) (plain_amount c.before) observed_held.ensures.holds) i j in
-    subst (λ (z : ℤ). InBox iota_exponent z (to_z w128 (of_z w128 c.less-2.result)) (sub_r (observed c.args.signal c.args.amount) (sub_r r b))) (sym (lo_is c.before))
-    (subst (λ (z : ℤ). InBox iota_exponent (observed_held.result.lo -ℤ (rover.hi -ℤ base.lo)) z (sub_r (observed c.args.signal c.args.amount) (sub_r r b))) (sym (hi_is c.before)) held)
+    subst (λ (z : ℤ). InBox iota_exponent z (to_z w128 (of_z w128 c.less-2.result)) (observed c.args.signal c.args.amount -ʳ (r -ʳ b))) (sym (lo_is c.before))
+    (subst (λ (z : ℤ). InBox iota_exponent (observed_held.result.lo -ℤ (rover.hi -ℤ base.lo)) z (observed c.args.signal c.args.amount -ʳ (r -ʳ b))) (sym (hi_is c.before)) held)
 
 pub returns-clause-code : goal.returns-clause-code
 returns-clause-code c = λ s a.

@@ -1,7 +1,7 @@
 use Rattle.std.proofs.Common.{◌≡◌, ◌<◌, ◌+ℤ◌, ◌*ℤ◌, ℕ, ℤ, pos, length, arith, to_z, of_z, subst, ap, ◌∙◌}
 use Rattle.std.proofs.lemmas.Int.{to_z-of_z}
 use Rattle.std.specs.Int.{w64}
-use Rattle.rational.specs.Rational.{of_whole, sub_r, InBox}
+use Rattle.rational.specs.Rational.{of_whole, ◌-ʳ◌, InBox}
 use Rattle.rational.proofs.Boxes.{Near-along}
 use Rattle.orbit_model.specs.SeenPlaces.{range_of}
 use Rattle.obs_rows.specs.Signals.{wavelength, band}
@@ -31,6 +31,6 @@ returns-clause-holds c = λ p h base rover a.
     let held : InBox iota_exponent c.prefit_of-prefit.result.lo c.prefit_of-prefit.result.hi (less_pseudoranges signal amount base rover) =
     subst (λ (z : ℤ). InBox iota_exponent c.prefit_of-prefit.result.lo c.prefit_of-prefit.result.hi (less_pseudoranges signal z base rover)) (read_amount c)
     (c.prefit_of-prefit.ensures.holds (pseudorange (range_of base.travel) base.clock) (pseudorange (range_of rover.travel) rover.clock) (h.base_held base a.base_is) (h.rover_held rover a.rover_is)) in
-    Near-along c.y_box.result.centre c.y_box.result.radius (in_row_unit c.args.scale (sub_r (less_pseudoranges signal amount base rover) (of_whole whole)))
+    Near-along c.y_box.result.centre c.y_box.result.radius (in_row_unit c.args.scale (less_pseudoranges signal amount base rover -ʳ of_whole whole))
     (y_in_rows c.args.scale signal amount c.args.group (number_at c.args.shift.now (band signal)) base rover)
     (y_in_rows_is c.args.scale signal amount c.args.group (number_at c.args.shift.now (band signal)) whole base rover (whole_is c)) (c.y_box.ensures.holds (less_pseudoranges signal amount base rover) held)

@@ -16,8 +16,8 @@ returns g c =
     let base = c.args.base.now in
     let rover = c.args.rover.now in
     let nav = c.args.nav.now in
-    files_done work base rover nav g.C.SessionCommand.answers c.args.options.now read.base read.rover read.nav c.answer_files.result c.in_ok-read.ensures.opened c.in_ok-read.ensures.whole
-    (subst (λ (system : System). AreFilesOf system (g.F.Files.text_of files) base rover nav read.base read.rover read.nav) c.of_letter-system.ensures c.in_ok-read.ensures.read)
+    files_done work base rover nav g.C.SessionCommand.answers c.args.options.now read.base read.rover read.nav c.answer_files.result c.in_ok-read.ensures.opened c.in_ok-read.ensures.gives c.in_ok-read.ensures.whole
+    (subst (λ (system : System). AreFilesOf system work.text_of base rover nav read.base read.rover read.nav) c.of_letter-system.ensures c.in_ok-read.ensures.read)
     c.answer_files.ensures
 
 pub returns-in_err-read : goal.returns-in_err-read
@@ -32,6 +32,6 @@ returns-in_err-read g c =
     let why = c.in_err-read.field-0.0 in
     let stopped = c.in_err-read.ensures in
     rw (answered.1, answered.2)
-    (files_stop work base rover nav g.C.SessionCommand.answers c.args.options.now why stopped.opened
-    (subst (λ (system : System). IfEnds why (StopsAtFiles system (g.F.Files.text_of files) base rover nav)) c.of_letter-system.ensures stopped.stopped)
+    (files_stop work base rover nav g.C.SessionCommand.answers c.args.options.now why stopped.opened stopped.gives
+    (subst (λ (system : System). IfEnds why (StopsAtFiles system work.text_of base rover nav)) c.of_letter-system.ensures stopped.stopped)
     stopped.refused stopped.fault stopped.named)

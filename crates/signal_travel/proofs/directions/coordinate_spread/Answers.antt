@@ -1,6 +1,6 @@
 use Rattle.std.proofs.Common.{◌≡◌, ◌^◌, ◌*◌, ℤ, pos, ◌+ℤ◌, ◌-ℤ◌, ◌≤ℤ◌, neg_ℤ, arith}
 use Rattle.std.proofs.lemmas.Int.{ints}
-use Rattle.rational.specs.Rational.{of_whole, add_r, sub_r, mul_r}
+use Rattle.rational.specs.Rational.{of_whole, ◌+ʳ◌, ◌-ʳ◌, ◌*ʳ◌}
 use Rattle.signal_travel.proofs.directions.coordinate_spread.Goals as goal
 
 least : (l z : ℤ) → pos (10000000 * 2 ^ 36) ≤ℤ l → z ≡ l -ℤ pos (33 * 2 ^ 34) → pos (9999991 * 2 ^ 36) ≤ℤ z
@@ -25,5 +25,5 @@ quotient_of-requires-clause-high c = high c.args.range.now.lo c.args.x.now.lo c.
 
 pub returns : goal.returns
 returns c = λ q m r s u hq hr hm up down e.
-    c.spread_of.ensures u (c.quotient_of.ensures.holds (sub_r m (mul_r (of_whole (pos 2)) q)) (add_r r s) u
+    c.spread_of.ensures u (c.quotient_of.ensures.holds (m -ʳ of_whole (pos 2) *ʳ q) (r +ʳ s) u
     (c.move_less_twice.ensures.holds q m hq hm) (c.sum_of_ranges.ensures.holds r s hr up down) e)

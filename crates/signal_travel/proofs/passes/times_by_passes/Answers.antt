@@ -1,13 +1,13 @@
 use Rattle.std.proofs.Common.{◌≡◌, ◌*◌, ℤ, pos, ◌+ℤ◌, ◌-ℤ◌, ◌*ℤ◌, ◌≤ℤ◌, arith}
 use Rattle.std.proofs.lemmas.Int.{ints}
-use Rattle.rational.specs.Rational.{Rational, ◌≤ʳ◌, of_whole, mul_r, InBox}
+use Rattle.rational.specs.Rational.{Rational, ◌≤ʳ◌, of_whole, ◌*ʳ◌, InBox}
 use Rattle.orbit_model.specs.SeenPlaces.{Place, point_of}
 use Rattle.orbit_model.proofs.Seen.{travel_nn, travel_most}
 use Rattle.signal_travel.proofs.Sights.{point_place}
 use Rattle.signal_travel.proofs.Times.{first_time, second_time, third_time}
 use Rattle.signal_travel.proofs.passes.times_by_passes.Goals as goal
 
-any : (l h : ℤ) (t : Rational) → l ≡ pos 0 → h ≡ pos 192153584101141163 → of_whole (pos 0) ≤ʳ t → mul_r (of_whole (pos 6)) t ≤ʳ of_whole (pos 1) → InBox 60 l h t
+any : (l h : ℤ) (t : Rational) → l ≡ pos 0 → h ≡ pos 192153584101141163 → of_whole (pos 0) ≤ʳ t → of_whole (pos 6) *ʳ t ≤ʳ of_whole (pos 1) → InBox 60 l h t
 any l h t el eh a b = go l h t.num (pos t.den) el eh a b
   where
     go : (l h n d : ℤ) → l ≡ pos 0 → h ≡ pos 192153584101141163 → (pos 0 *ℤ d) ≤ℤ (n *ℤ pos 1) → ((pos 6 *ℤ n) *ℤ pos 1) ≤ℤ (pos 1 *ℤ (pos 1 *ℤ d))

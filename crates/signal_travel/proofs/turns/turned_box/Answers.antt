@@ -1,6 +1,6 @@
 use Rattle.std.proofs.Common.{◌≡◌, ◌*◌, ◌^◌, ℤ, pos, ◌+ℤ◌, ◌-ℤ◌, ◌*ℤ◌, ◌≤ℤ◌, neg_ℤ, arith, lit≤}
 use Rattle.std.proofs.lemmas.Int.{ints}
-use Rattle.rational.specs.Rational.{mul_r}
+use Rattle.rational.specs.Rational.{◌*ʳ◌}
 use Rattle.iv_core.specs.declared.Iv.{Iv}
 use Rattle.sized_box.proofs.Bounds.{reached}
 use Rattle.signal_travel.proofs.turns.turned_box.Goals as goal
@@ -29,8 +29,8 @@ difference_of-requires c =
 
 pub returns-clause-holds : goal.returns-clause-holds
 returns-clause-holds c = λ p pair h k. (
-  c.sum_of.ensures.holds (mul_r pair.cos p.x) (mul_r pair.sin p.y) (c.cos_part.ensures.holds pair.cos p.x k.0 h.0) (c.sin_part.ensures.holds pair.sin p.y k.1 h.1),
-  c.difference_of.ensures.holds (mul_r pair.cos p.y) (mul_r pair.sin p.x) (c.cos_part-2.ensures.holds pair.cos p.y k.0 h.1) (c.sin_part-2.ensures.holds pair.sin p.x k.1 h.0),
+  c.sum_of.ensures.holds (pair.cos *ʳ p.x) (pair.sin *ʳ p.y) (c.cos_part.ensures.holds pair.cos p.x k.0 h.0) (c.sin_part.ensures.holds pair.sin p.y k.1 h.1),
+  c.difference_of.ensures.holds (pair.cos *ʳ p.y) (pair.sin *ʳ p.x) (c.cos_part-2.ensures.holds pair.cos p.y k.0 h.1) (c.sin_part-2.ensures.holds pair.sin p.x k.1 h.0),
   h.2,
 )
 

@@ -1,14 +1,14 @@
 use Rattle.std.proofs.Common.{◌^◌, ◌≡◌, ℤ, pos, ◌+ℤ◌, ◌-ℤ◌, ◌*ℤ◌, ◌≤ℤ◌, ◌<ℤ◌, arith, lit<}
 use Rattle.std.proofs.lemmas.Int.{ints}
-use Rattle.rational.specs.Rational.{add_r, mul_r}
+use Rattle.rational.specs.Rational.{◌+ʳ◌, ◌*ʳ◌}
 use Rattle.whole_math.specs.Rounding.{floor_div, ceil_div}
 use Rattle.whole_math.proofs.Rounding.{lt_floor, ceil_lt}
 use Rattle.iv_core.specs.Boxes.{near_end, far_end}
 use Rattle.signal_travel.proofs.vectors.squared_length.Goals as goal
 
 pub returns-clause-holds : goal.returns-clause-holds
-returns-clause-holds c = λ p h. c.sum_of-2.ensures.holds (add_r (mul_r p.x p.x) (mul_r p.y p.y)) (mul_r p.z p.z)
-    (c.sum_of.ensures.holds (mul_r p.x p.x) (mul_r p.y p.y) (c.square_of-x.ensures.holds p.x h.0) (c.square_of-y.ensures.holds p.y h.1))
+returns-clause-holds c = λ p h. c.sum_of-2.ensures.holds (p.x *ʳ p.x +ʳ p.y *ʳ p.y) (p.z *ʳ p.z)
+    (c.sum_of.ensures.holds (p.x *ʳ p.x) (p.y *ʳ p.y) (c.square_of-x.ensures.holds p.x h.0) (c.square_of-y.ensures.holds p.y h.1))
     (c.square_of-z.ensures.holds p.z h.2)
 
 below : (a b c x y z f g h s t : ℤ) → x ≡ f → y ≡ g → z ≡ h → a <ℤ ((f *ℤ pos 9223372036854775808) +ℤ pos 9223372036854775808) →

@@ -1,6 +1,6 @@
 use Rattle.std.proofs.Common.{ℕ, ◌+◌, ◌<◌, List, [], length, get_or, ℤ, All, sym, subst, ap, ◌∙◌, arith}
 use Rattle.std.proofs.lemmas.List.{length_push, get_or_default}
-use Rattle.std.proofs.lemmas.List.Elements.{All-push}
+use Rattle.std.proofs.lemmas.List.Elements.{All-nil, All-push}
 use Rattle.eph_store.specs.declared.ephemeris.Eph.{Eph}
 use Rattle.orbit_clock.specs.Records.{constants_of}
 use Rattle.sim_session.specs.declared.signals.Signals.{Signals}
@@ -13,6 +13,13 @@ use Rattle.sim_session.proofs.observations.observe_all.Goals as goal
 
 pub observe-requires-clause-cycles : goal.observe-requires-clause-cycles
 observe-requires-clause-cycles c = cycles_at c.args.cycles.now c.loop-k.k c.requires.small
+
+pub loop-k-init : goal.loop-k-init
+loop-k-init c = record {
+  count = ap (λ (xs : List Signals). length xs) c.new-sats.ensures.items;
+  each = λ j s l e d. absurd (omega (arith, l));
+  columns = subst (λ (xs : List Signals). All AreInColumns xs) (sym c.new-sats.ensures.items) (All-nil AreInColumns);
+}
 
 pub loop-k-preserved : goal.loop-k-preserved
 loop-k-preserved c =

@@ -4,7 +4,7 @@ use Rattle.orbit_clock.specs.Records.{constants_of}
 use Rattle.sim_session.specs.Observed.{carrier, IsReachedIn}
 use Rattle.sim_session.proofs.SignalSmalls.{small_at, cycles_cast, still_small}
 use Rattle.sim_session.proofs.Smalls.{clock_cast}
-use Rattle.sim_session.proofs.Solutions.{phase_is, code_cast}
+use Rattle.sim_session.proofs.Solutions.{phase_is, code_cast, columns_cast, code_in_columns}
 use Rattle.sim_session.proofs.passes.observe.Goals as goal
 
 pub phase_of-requires-clause-cycles : goal.phase_of-requires-clause-cycles
@@ -42,3 +42,11 @@ returns-clause-observed c =
           c.phase_of-3.result (to_z w64 (of_z w64 c.phase_of-3.result)) refl own (cycles_cast (get_or cycles 2 (pos 0)) (small_at cycles 2 c.requires.cycles))
           (to_z-of_z w64 c.phase_of-3.result (record { sfits = c.phase_of-3.type_inv })) distance_stands c.phase_of-3.ensures.near;
     }
+
+pub returns-clause-columns : goal.returns-clause-columns
+returns-clause-columns c = record {
+  code = code_in_columns c.code_at-code.result c.code_at-code.ensures.low c.code_at-code.ensures.high;
+  l1 = columns_cast c.phase_of.result c.phase_of.ensures.low c.phase_of.ensures.high;
+  l2 = columns_cast c.phase_of-2.result c.phase_of-2.ensures.low c.phase_of-2.ensures.high;
+  l5 = columns_cast c.phase_of-3.result c.phase_of-3.ensures.low c.phase_of-3.ensures.high;
+}

@@ -3,13 +3,15 @@ use Rattle.std.proofs.lemmas.Result.{IfOk-weaker, IfOk-at_ok, IfErr-at_err}
 use Rattle.obs_rows.specs.Pairs.{HasItsArcs}
 use Rattle.obs_rows.specs.Signals.{fine_signals}
 use Rattle.integer_form.specs.declared.front_form.FrontForm.{FrontForm}
-use Rattle.int_search.specs.ReducedCounts.{KeepsBudget}
 use Rattle.track_data.specs.TrackTails.{IsTrackTailOf}
 use Rattle.track_data.specs.declared.tails.TrackTail.{TrackTail}
 use Rattle.track_sum.specs.declared.factors.PairFactors.{PairFactors}
 use Rattle.track_sum.specs.Factors.{AreFactors}
-use Rattle.track_sum.specs.Decided.{IsTrackForm}
-use Rattle.track_form.specs.Decided.{IsFormRefused, IsTrackDecision, IsTrackBestWhereFixed, IsSameDecision}
+use Rattle.int_search.specs.ReducedCounts.{IsSearchEnd}
+use Rattle.int_search.specs.declared.answer.SearchFault.{SearchFault}
+use Rattle.integer_form.specs.declared.faults.Place.TheVariants as Place
+use Rattle.track_sum.specs.Decided.{IsTrackForm, IsSearchedIn}
+use Rattle.track_form.specs.Decided.{IsFormRefused, IsTrackDecision, IsTrackBestWhereFixed, IsSameTail}
 use Rattle.track_form.proofs.Found.{of_slices, over_track, refused_told}
 use Rattle.track_form.proofs.WeakLaws.{refused_fits}
 use Rattle.track_form.proofs.OneDecision.{one_decision}
@@ -73,7 +75,7 @@ pub returns-in-Ok-two_best-clause-decision : goal.returns-in-Ok-two_best-clause-
 returns-in-Ok-two_best-clause-decision c =
     let track = c.args.track.now in
     let is_decision : ℕ → TrackTail → Type 0 = IsTrackDecision track.arcs (fine_signals track.signals) track.pairs c.args.ratio in
-    IfOk-weaker c.decide_best.result (λ x. (n : ℕ) → KeepsBudget c.in-Ok.made.form n c.in-Ok-two_best.best → is_decision n x) (is_decision c.args.budget) (λ x h. h c.args.budget c.in-Ok-two_best.ensures.visits)
+    IfOk-weaker c.decide_best.result (λ x. (n : ℕ) → IsSearchedIn c.in-Ok.made.form n c.in-Ok-two_best.best → is_decision n x) (is_decision c.args.budget) (λ x h. h c.args.budget (c.in-Ok-two_best.ensures.visits, c.in-Ok-two_best.ensures.end))
     c.decide_best.ensures.decision
 
 pub returns-in-Ok-two_best-clause-only : goal.returns-in-Ok-two_best-clause-only
@@ -81,14 +83,14 @@ returns-in-Ok-two_best-clause-only c =
     let track = c.args.track.now in
     let signals = fine_signals track.signals in
     let is_decision : ℕ → TrackTail → Type 0 = IsTrackDecision track.arcs signals track.pairs c.args.ratio in
-    IfOk-weaker c.decide_best.result (λ x. (n : ℕ) → KeepsBudget c.in-Ok.made.form n c.in-Ok-two_best.best → is_decision n x) (λ x. (u : TrackTail) → is_decision c.args.budget u → IsSameDecision u x)
-    (λ x h u is. one_decision track.arcs signals track.pairs c.args.ratio c.args.budget u x is (h c.args.budget c.in-Ok-two_best.ensures.visits)) c.decide_best.ensures.decision
+    IfOk-weaker c.decide_best.result (λ x. (n : ℕ) → IsSearchedIn c.in-Ok.made.form n c.in-Ok-two_best.best → is_decision n x) (λ x. (u : TrackTail) → is_decision c.args.budget u → IsSameTail u x)
+    (λ x h u is. one_decision track.arcs signals track.pairs c.args.ratio c.args.budget u x is (h c.args.budget (c.in-Ok-two_best.ensures.visits, c.in-Ok-two_best.ensures.end))) c.decide_best.ensures.decision
 
 pub returns-in-Ok-two_best-clause-strictly_best : goal.returns-in-Ok-two_best-clause-strictly_best
 returns-in-Ok-two_best-clause-strictly_best c =
     let track = c.args.track.now in
     let is_best : TrackTail → Type 0 = IsTrackBestWhereFixed track.arcs (fine_signals track.signals) track.pairs in
-    IfOk-weaker c.decide_best.result (λ x. (n : ℕ) → KeepsBudget c.in-Ok.made.form n c.in-Ok-two_best.best → is_best x) is_best (λ x h. h c.args.budget c.in-Ok-two_best.ensures.visits)
+    IfOk-weaker c.decide_best.result (λ x. (n : ℕ) → IsSearchedIn c.in-Ok.made.form n c.in-Ok-two_best.best → is_best x) is_best (λ x h. h c.args.budget (c.in-Ok-two_best.ensures.visits, c.in-Ok-two_best.ensures.end))
     c.decide_best.ensures.strictly_best
 
 -- ---- no answer of the search
@@ -100,7 +102,7 @@ returns-in-Err-Spent-clause-decision c =
     over_track (λ ar ts ps. (fs : List FrontForm) × IsTrackForm ar ts ps fs c.in-Ok.made.form) track.arcs c.as_slice-arcs.result.now signals signals track.pairs c.as_slice-pairs.result.now c.as_slice-arcs.ensures
     refl c.as_slice-pairs.ensures
     (IfOk-at_ok (λ m. (fs : List FrontForm) × IsTrackForm c.as_slice-arcs.result.now signals c.as_slice-pairs.result.now fs m.form) c.in-Ok.is c.in_ok-made.ensures.form) in
-    (refl, record { fronts = form_of_track.0; form = c.in-Ok.made.form; of_rows = form_of_track.1; ended = (c.in-Err-Spent.ensures.spent (ap Err c.in-Err-Spent.field-0-is), c.in-Err-Spent.ensures.reduced) })
+    (refl, record { fronts = form_of_track.0; form = c.in-Ok.made.form; of_rows = form_of_track.1; ended = (subst (λ (e : SearchFault). IsSearchEnd c.in-Ok.made.form c.args.budget (Err e)) c.in-Err-Spent.field-0-is c.in-Err-Spent.ensures.end, (c.in-Err-Spent.ensures.spent (ap Err c.in-Err-Spent.field-0-is), c.in-Err-Spent.ensures.reduced)) })
 
 pub returns-clause-decision : goal.returns-clause-decision
 returns-clause-decision c =
@@ -110,4 +112,29 @@ returns-clause-decision c =
     over_track (λ ar ts ps. (fs : List FrontForm) × IsTrackForm ar ts ps fs c.in-Ok.made.form) track.arcs c.as_slice-arcs.result.now signals signals track.pairs c.as_slice-pairs.result.now c.as_slice-arcs.ensures
     refl c.as_slice-pairs.ensures
     (IfOk-at_ok (λ m. (fs : List FrontForm) × IsTrackForm c.as_slice-arcs.result.now signals c.as_slice-pairs.result.now fs m.form) c.in-Ok.is c.in_ok-made.ensures.form) in
-    record { fronts = form_of_track.0; form = c.in-Ok.made.form; of_rows = form_of_track.1; ended = (c.in-Err-Overwidth.ensures.overwidth (ap Err c.in-Err-Overwidth.field-0-is), c.in-Err-Overwidth.ensures.reduced) }
+    record { fronts = form_of_track.0; form = c.in-Ok.made.form; of_rows = form_of_track.1; ended = (subst (λ (e : SearchFault). IsSearchEnd c.in-Ok.made.form c.args.budget (Err e)) c.in-Err-Overwidth.field-0-is c.in-Err-Overwidth.ensures.end, (c.in-Err-Overwidth.ensures.overwidth (ap Err c.in-Err-Overwidth.field-0-is), c.in-Err-Overwidth.ensures.reduced)) }
+
+-- ---- and no other decision
+pub returns-in-Err-Spent-clause-only : goal.returns-in-Err-Spent-clause-only
+returns-in-Err-Spent-clause-only c =
+    let track = c.args.track.now in
+    let signals = fine_signals track.signals in
+    let form_of_track : (fs : List FrontForm) × IsTrackForm track.arcs signals track.pairs fs c.in-Ok.made.form =
+    over_track (λ ar ts ps. (fs : List FrontForm) × IsTrackForm ar ts ps fs c.in-Ok.made.form) track.arcs c.as_slice-arcs.result.now signals signals track.pairs c.as_slice-pairs.result.now c.as_slice-arcs.ensures
+    refl c.as_slice-pairs.ensures
+    (IfOk-at_ok (λ m. (fs : List FrontForm) × IsTrackForm c.as_slice-arcs.result.now signals c.as_slice-pairs.result.now fs m.form) c.in-Ok.is c.in_ok-made.ensures.form) in
+    let decision : IsTrackDecision track.arcs signals track.pairs c.args.ratio c.args.budget (TrackTail.Spent c.args.budget) =
+    (refl, record { fronts = form_of_track.0; form = c.in-Ok.made.form; of_rows = form_of_track.1; ended = (subst (λ (e : SearchFault). IsSearchEnd c.in-Ok.made.form c.args.budget (Err e)) c.in-Err-Spent.field-0-is c.in-Err-Spent.ensures.end, (c.in-Err-Spent.ensures.spent (ap Err c.in-Err-Spent.field-0-is), c.in-Err-Spent.ensures.reduced)) }) in
+    λ u is. one_decision track.arcs signals track.pairs c.args.ratio c.args.budget u (TrackTail.Spent c.args.budget) is decision
+
+pub returns-clause-only : goal.returns-clause-only
+returns-clause-only c =
+    let track = c.args.track.now in
+    let signals = fine_signals track.signals in
+    let form_of_track : (fs : List FrontForm) × IsTrackForm track.arcs signals track.pairs fs c.in-Ok.made.form =
+    over_track (λ ar ts ps. (fs : List FrontForm) × IsTrackForm ar ts ps fs c.in-Ok.made.form) track.arcs c.as_slice-arcs.result.now signals signals track.pairs c.as_slice-pairs.result.now c.as_slice-arcs.ensures
+    refl c.as_slice-pairs.ensures
+    (IfOk-at_ok (λ m. (fs : List FrontForm) × IsTrackForm c.as_slice-arcs.result.now signals c.as_slice-pairs.result.now fs m.form) c.in-Ok.is c.in_ok-made.ensures.form) in
+    let decision : IsTrackDecision track.arcs signals track.pairs c.args.ratio c.args.budget (TrackTail.Overwidth Place.Search) =
+    record { fronts = form_of_track.0; form = c.in-Ok.made.form; of_rows = form_of_track.1; ended = (subst (λ (e : SearchFault). IsSearchEnd c.in-Ok.made.form c.args.budget (Err e)) c.in-Err-Overwidth.field-0-is c.in-Err-Overwidth.ensures.end, (c.in-Err-Overwidth.ensures.overwidth (ap Err c.in-Err-Overwidth.field-0-is), c.in-Err-Overwidth.ensures.reduced)) } in
+    λ u is. one_decision track.arcs signals track.pairs c.args.ratio c.args.budget u (TrackTail.Overwidth Place.Search) is decision

@@ -1,4 +1,4 @@
-use Rattle.std.proofs.Common.{◌≡◌, ◌-◌, ◌^◌, ◌<◌, ℕ, List, [], length, ℤ, pos, ◌<ℤ◌, arith, inl, inr, ap, sym, ◌∙◌, subst, to_z, of_z}
+use Rattle.std.proofs.Common.{◌≡◌, ◌-◌, ◌^◌, ◌<◌, ℕ, List, length, ℤ, pos, ◌<ℤ◌, ◌≤ℤ◌, arith, refl, inl, inr, ap, ◌∙◌, subst, to_z, of_z}
 use Rattle.std.specs.Int.{w128}
 use Rattle.std.proofs.lemmas.Int.{ints}
 use Rattle.quadratic_form.specs.Rows.{value}
@@ -11,8 +11,8 @@ use Rattle.int_search.specs.Orders.{IsRankLess}
 use Rattle.int_search.specs.SearchedForm.{search_form}
 use Rattle.int_search.specs.SearchStates.{search_image, BeginsWith}
 use Rattle.int_search.proofs.FormNumbers.{searchable}
-use Rattle.int_search.proofs.PointLaws.{top_first, top_second, top_small, top_wide, within_top, rounded_length, neighbour_length}
-use Rattle.int_search.proofs.StartLaws.{IsPoint, begins, wide_point, points_differ}
+use Rattle.int_search.proofs.PointLaws.{top_first, top_second, top_small, within_top, rounded_length, neighbour_length}
+use Rattle.int_search.proofs.StartLaws.{IsPoint, begins, start_small, start_top, points_differ}
 use Rattle.int_search.proofs.walk.SearchState.start.Goals as goal
 use Rattle.int_search.proofs.walk.SearchState.start.Goals.{then-p-via-then-p, then-p-via-else-p+then-q}
 
@@ -58,13 +58,20 @@ points form map z w y v p q some z_is w_is y_held v_held p_is q_is p_small q_sma
 pub returns-then-p : goal.returns-then-p
 returns-then-p c =
     let form : SearchForm = search_form c.args.form.now in
+    let im : List ℤ → List ℤ = search_image c.args.form.now c.args.map.now in
+    let first : List ℤ = suffix c.in_ok-z.z 0 form.size in
+    let second : List ℤ = suffix c.in_ok-w.w 0 form.size in
+    let first_within : value form.p first ≤ℤ top form = within_top form (rounded form form.size) first c.in_ok-z.ensures.is (top_first form) in
+    let second_within : value form.p second ≤ℤ top form = within_top form (neighbour form) second c.in_ok-w.ensures.is (top_second form) in
     let first_fits = c.value_at-p.type_inv in
     let second_fits = c.value_at-q.type_inv in
     elim c.then-p.branch [
-      | then-p-via-then-p w ↦ inl (top_wide form (suffix c.in_ok-z.z 0 form.size) (within_top form (rounded form form.size) (suffix c.in_ok-z.z 0 form.size) c.in_ok-z.ensures.is (top_first form))
-          (omega (arith, ints, c.value_at-p.ensures)))
-      | then-p-via-else-p+then-q w ↦ inl (top_wide form (suffix c.in_ok-w.w 0 form.size) (within_top form (neighbour form) (suffix c.in_ok-w.w 0 form.size) c.in_ok-w.ensures.is (top_second form))
-          (omega (arith, ints, c.value_at-q.ensures)))
+      | then-p-via-then-p w ↦
+          let past : pos (2 ^ 62) ≤ℤ value form.p first = omega (arith, ints, c.value_at-p.ensures) in
+          start_top form im first first_within past
+      | then-p-via-else-p+then-q w ↦
+          let past : pos (2 ^ 62) ≤ℤ value form.p second = omega (arith, ints, c.value_at-q.ensures) in
+          start_top form im second second_within past
     ]
 
 pub returns-in_err-y : goal.returns-in_err-y
@@ -72,16 +79,26 @@ returns-in_err-y c =
     let form : SearchForm = search_form c.args.form.now in
     let is_searchable = searchable c.args.form.now c.requires.some in
     let vector : List ℤ = suffix c.in_ok-z.z 0 form.size in
-    rw c.from_residual-in_err-y.ensures (inr (wide_point form (search_image c.args.form.now c.args.map.now) vector is_searchable (ap length c.in_ok-z.ensures.is ∙ rounded_length form form.size)
-    (within_top form (rounded form form.size) vector c.in_ok-z.ensures.is (top_first form)) (inl ([], inl (sym c.in_ok-z.ensures.is))) (image_large c.args.form.now c.args.map.now c.in_ok-z.z c.in_err-y.ensures)))
+    let large : HasLarge (search_image c.args.form.now c.args.map.now vector) = image_large c.args.form.now c.args.map.now c.in_ok-z.z c.in_err-y.ensures in
+    rw c.from_residual-in_err-y.ensures (record { wide = inr (vector, (inl c.in_ok-z.ensures.is, inr large)) })
 
 pub returns-in_err-v : goal.returns-in_err-v
 returns-in_err-v c =
     let form : SearchForm = search_form c.args.form.now in
     let is_searchable = searchable c.args.form.now c.requires.some in
     let vector : List ℤ = suffix c.in_ok-w.w 0 form.size in
-    rw c.from_residual-in_err-v.ensures (inr (wide_point form (search_image c.args.form.now c.args.map.now) vector is_searchable (ap length c.in_ok-w.ensures.is ∙ neighbour_length form is_searchable.some)
-    (within_top form (neighbour form) vector c.in_ok-w.ensures.is (top_second form)) (inl ([], inr (sym c.in_ok-w.ensures.is))) (image_large c.args.form.now c.args.map.now c.in_ok-w.w c.in_err-v.ensures)))
+    let large : HasLarge (search_image c.args.form.now c.args.map.now vector) = image_large c.args.form.now c.args.map.now c.in_ok-w.w c.in_err-v.ensures in
+    rw c.from_residual-in_err-v.ensures (record { wide = inr (vector, (inr c.in_ok-w.ensures.is, inr large)) })
+
+pub returns-in_err-z : goal.returns-in_err-z
+returns-in_err-z c =
+    let form : SearchForm = search_form c.args.form.now in
+    rw c.from_residual.ensures (record { wide = inr (rounded form form.size, (inl refl, inl c.in_err-z.ensures)) })
+
+pub returns-in_err-w : goal.returns-in_err-w
+returns-in_err-w c =
+    let form : SearchForm = search_form c.args.form.now in
+    rw c.from_residual-in_err-w.ensures (record { wide = inr (neighbour form, (inr refl, inl c.in_err-w.ensures)) })
 
 pub unreachable-requires : goal.unreachable-requires
 unreachable-requires c =
@@ -106,7 +123,9 @@ returns-in-Less c =
     c.in_ok-y.ensures c.in_ok-v.ensures c.value_at-p.ensures c.value_at-q.ensures (omega (arith, ints)) (omega (arith, ints)) in
     let begins_with : BeginsWith sought (record { first = c.in_ok-y.y; second = c.in_ok-v.v; p1 = c.value_at-p.result; p2 = c.value_at-q.result }) c.begin.result = rw (first_kept, second_kept) at c.begin.ensures in
     begins sought im (suffix c.in_ok-z.z 0 sought.size) (suffix c.in_ok-w.w 0 sought.size) c.in_ok-y.y c.in_ok-v.v c.value_at-p.result c.value_at-q.result c.begin.result are.first are.second
-    (rank_less form _ _ _ _ c.in_ok-y.y c.in_ok-v.v first_kept second_kept c.in-Less.ensures) are.small begins_with
+    (rank_less form _ _ _ _ c.in_ok-y.y c.in_ok-v.v first_kept second_kept c.in-Less.ensures) are.small (inl (c.in_ok-z.ensures.is, c.in_ok-w.ensures.is))
+    (start_small sought im c.in_ok-z.z c.in_ok-w.w (suffix c.in_ok-z.z 0 sought.size) (suffix c.in_ok-w.w 0 sought.size) c.in_ok-y.y c.in_ok-v.v c.in_ok-z.ensures.is c.in_ok-w.ensures.is c.in_ok-z.ensures.small c.in_ok-w.ensures.small
+    refl refl are.first.held are.second.held are.small) begins_with
 
 pub returns-in-Greater : goal.returns-in-Greater
 returns-in-Greater c =
@@ -123,4 +142,6 @@ returns-in-Greater c =
     let begins_with : BeginsWith sought (record { first = c.in_ok-v.v; second = c.in_ok-y.y; p1 = c.value_at-q.result; p2 = c.value_at-p.result }) c.begin-in-Greater.result =
     rw (first_kept, second_kept) at c.begin-in-Greater.ensures in
     begins sought im (suffix c.in_ok-w.w 0 sought.size) (suffix c.in_ok-z.z 0 sought.size) c.in_ok-v.v c.in_ok-y.y c.value_at-q.result c.value_at-p.result c.begin-in-Greater.result are.second are.first
-    (rank_less form _ _ _ _ c.in_ok-v.v c.in_ok-y.y second_kept first_kept c.in-Greater.ensures) are.small begins_with
+    (rank_less form _ _ _ _ c.in_ok-v.v c.in_ok-y.y second_kept first_kept c.in-Greater.ensures) are.small (inr (c.in_ok-w.ensures.is, c.in_ok-z.ensures.is))
+    (start_small sought im c.in_ok-z.z c.in_ok-w.w (suffix c.in_ok-z.z 0 sought.size) (suffix c.in_ok-w.w 0 sought.size) c.in_ok-y.y c.in_ok-v.v c.in_ok-z.ensures.is c.in_ok-w.ensures.is c.in_ok-z.ensures.small c.in_ok-w.ensures.small
+    refl refl are.first.held are.second.held are.small) begins_with

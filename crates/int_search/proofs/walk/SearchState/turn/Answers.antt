@@ -1,9 +1,9 @@
-use Rattle.std.proofs.Common.{rules, ◌≡◌, ◌<◌, ◌+◌, ◌-◌, ◌*◌, ℕ, List, length, drop, ℤ, arith, inl, inr, ap, sym, ◌∙◌, subst}
+use Rattle.std.proofs.Common.{rules, ◌≡◌, ◌<◌, ◌+◌, ◌-◌, ◌*◌, ℕ, List, length, drop, ℤ, arith, ap, sym, ◌∙◌, subst}
 use Rattle.std.proofs.lemmas.Int.{ints}
 use Rattle.int_search.specs.Suffixes.{SearchForm}
-use Rattle.int_search.specs.PlainCount.{IsOver}
 use Rattle.int_search.specs.declared.stack.Level.{Level}
-use Rattle.int_search.proofs.VisitLaws.{wide_image_more}
+use Rattle.int_search.specs.VisitedSuffixes.{IsOverBudget}
+use Rattle.int_search.proofs.TraceLaws.{stopped_more}
 use Rattle.int_search.specs.SearchedForm.{search_form}
 use Rattle.int_search.specs.SearchStates.{search_image, IsWalk, Visits}
 use Rattle.int_search.specs.declared.walk.SearchState.{SearchState}
@@ -18,7 +18,7 @@ returns-then-len-eq0 c = walk_end (search_form c.args.form.now) (search_image c.
     (sym c.len.ensures ∙ c.if-len-eq0.true) c.requires.visits
 
 pub returns-then-self-budget : goal.returns-then-self-budget
-returns-then-self-budget c = subst (λ (m : ℕ). IsOver (search_form c.args.form.now) m) c.if-self-budget.true
+returns-then-self-budget c = subst (λ (m : ℕ). IsOverBudget (search_form c.args.form.now) (search_image c.args.form.now c.args.map.now) m) c.if-self-budget.true
     (walk_over (search_form c.args.form.now) (search_image c.args.form.now c.args.map.now) c.args.self.now c.in-Some.reach c.requires.walk c.in-Some.ensures)
 
 pub returns-then-is_large : goal.returns-then-is_large
@@ -27,8 +27,7 @@ returns-then-is_large c =
     let is_large_entry = c.is_large.ensures.yes (rw c.if-is_large.true (search rules)) in
     let spent = c.if-self-budget.false in
     let visits = c.requires.visits in
-    inl (walk_wide (search_form c.args.form.now) (search_image c.args.form.now c.args.map.now) c.args.self.now c.in-Some.reach c.args.budget c.requires.walk c.in-Some.ensures (omega arith)
-    (omega (arith, ints)))
+    walk_wide (search_form c.args.form.now) (search_image c.args.form.now c.args.map.now) c.args.self.now c.in-Some.reach c.args.budget c.requires.walk c.in-Some.ensures (omega arith) (omega (arith, ints))
 
 pub visit-requires-clause-small : goal.visit-requires-clause-small
 visit-requires-clause-small c =
@@ -65,4 +64,4 @@ pub returns-else-visit : goal.returns-else-visit
 returns-else-visit c =
     let spent = c.if-self-budget.false in
     let visits = c.requires.visits in
-    inr (wide_image_more (search_form c.args.form.now) (search_image c.args.form.now c.args.map.now) (c.args.self.now.visits + 1) c.args.budget (omega arith) c.if-visit.ensures)
+    stopped_more (search_form c.args.form.now) (search_image c.args.form.now c.args.map.now) (c.args.self.now.visits + 1) c.args.budget (omega arith) c.if-visit.ensures

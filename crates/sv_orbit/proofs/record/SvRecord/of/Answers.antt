@@ -6,7 +6,7 @@ use Rattle.trig_box.specs.AnglePairs.{Pair}
 use Rattle.orbit_model.specs.Elements.{earth_rate}
 use Rattle.orbit_model.specs.Solution.{IsPairOf5}
 use Rattle.orbit_place.specs.Rotations.{HoldsBoth}
-use Rattle.rational.specs.Rational.{Rational, ◌≈◌, of_whole, sub_r, mul_r, times}
+use Rattle.rational.specs.Rational.{Rational, ◌≈◌, of_whole, ◌-ʳ◌, ◌*ʳ◌, times}
 use Rattle.eph_store.specs.declared.ephemeris.Eph.{Eph}
 use Rattle.eph_store.specs.Decimals.{value_of}
 use Rattle.orbit_clock.proofs.Values.{holds_own}
@@ -18,16 +18,16 @@ invariant_of-result c =
     let same_elements : c.of-clock.result.eph ≡ eph = c.of-clock.ensures.eph in
     record {
       eccentricity_in = subst (λ (b : Iv 60). Holds b (value_of c.of-clock.result.eph.ecc)) (sym c.of.ensures) c.of-clock.result.eccentricity_in;
-      axis_in = subst (λ (f : Eph). (x : Rational) → x ≈ mul_r (value_of f.root_a) (value_of f.root_a) → Holds c.axis.result.held x) (sym same_elements) c.axis.ensures.holds;
+      axis_in = subst (λ (f : Eph). (x : Rational) → x ≈ value_of f.root_a *ʳ value_of f.root_a → Holds c.axis.result.held x) (sym same_elements) c.axis.ensures.holds;
       axis_least = c.axis.ensures.least;
       perigee_in = subst (λ (f : Eph). (p : Pair) → IsPairOf5 (value_of f.peri) p → HoldsBoth c.perigee.result.cos c.perigee.result.sin p) (sym same_elements) c.perigee.ensures;
       inclination_in = subst (λ (f : Eph). Holds c.decimal_box.result.held (value_of f.incl)) (sym same_elements) (holds_own 56 c.decimal_box.result.held (value_of eph.incl) c.decimal_box.ensures);
       node_in = subst (λ (f : Eph). Holds c.decimal_box-2.result.held (value_of f.node)) (sym same_elements) (holds_own 56 c.decimal_box-2.result.held (value_of eph.node) c.decimal_box-2.ensures);
       inclination_rate_in = subst (λ (f : Eph). Holds c.decimal_box-3.result.held (times (10 ^ 4) (value_of f.incl_rate))) (sym same_elements)
           (c.decimal_box-3.ensures.holds (times (10 ^ 4) (value_of eph.incl_rate)) refl);
-      node_rate_in = subst (λ (f : Eph). Holds c.relative_rate.result.held (sub_r (times (10 ^ 4) (value_of f.node_rate)) (times (10 ^ 4) earth_rate))) (sym same_elements)
+      node_rate_in = subst (λ (f : Eph). Holds c.relative_rate.result.held (times (10 ^ 4) (value_of f.node_rate) -ʳ times (10 ^ 4) earth_rate)) (sym same_elements)
           (c.relative_rate.ensures (times (10 ^ 4) (value_of eph.node_rate)) (c.decimal_box-4.ensures.holds (times (10 ^ 4) (value_of eph.node_rate)) refl));
-      earth_turn_in = subst (λ (f : Eph). Holds c.earth_turn.result.held (mul_r earth_rate (of_whole (pos f.toe_second)))) (sym same_elements) c.earth_turn.ensures;
+      earth_turn_in = subst (λ (f : Eph). Holds c.earth_turn.result.held (earth_rate *ʳ of_whole (pos f.toe_second))) (sym same_elements) c.earth_turn.ensures;
       cuc_in = subst (λ (f : Eph). Holds c.decimal_box-5.result.held (value_of f.cuc)) (sym same_elements) (holds_own 60 c.decimal_box-5.result.held (value_of eph.cuc) c.decimal_box-5.ensures);
       cus_in = subst (λ (f : Eph). Holds c.decimal_box-6.result.held (value_of f.cus)) (sym same_elements) (holds_own 60 c.decimal_box-6.result.held (value_of eph.cus) c.decimal_box-6.ensures);
       cic_in = subst (λ (f : Eph). Holds c.decimal_box-7.result.held (value_of f.cic)) (sym same_elements) (holds_own 60 c.decimal_box-7.result.held (value_of eph.cic) c.decimal_box-7.ensures);

@@ -1,0 +1,12 @@
+pub mod Lists
+pub mod Changes
+pub mod Corners
+pub mod Curvatures
+pub mod Nearness
+pub mod Blocks
+pub mod Wholes
+pub mod Rationals
+pub mod Sessions
+pub mod Words
+pub mod SlopeParts
+pub mod LeastReach

@@ -1,0 +1,3 @@
+pub mod Curvatures
+pub mod Reaches
+pub mod VectorBounds
