@@ -6,4 +6,7 @@
 # (k - 1)*PER + 1 on. Submit from the folder of the files; RECIPES names the folder of `one` where it isn't recipes/.
 k=${SLURM_ARRAY_TASK_ID:?submit with --array}; per=${2:-1}
 [ -r "$1" ] || { echo "no list of names: $1" >&2; exit 2; }
-sed -n "$(((k - 1) * per + 1)),$((k * per))p" "$1" | xargs -r -n 1 "${RECIPES:-recipes}/one"
+for n in "$k" "$per"; do
+  case $n in *[!0-9]* | 0*) echo 'array.sbatch NAMES PER: PER is a whole number from 1 on' >&2; exit 2;; esac
+done
+sed -n "$(((k - 1) * per + 1)),$((k * per))p" <"$1" | xargs -r -d '\n' -n 1 "${RECIPES:-recipes}/one"
