@@ -1,0 +1,77 @@
+"""Files that are whole or as they were: a kill, a full disk or a second process leaves no half of one."""
+from __future__ import annotations
+
+import contextlib
+import fcntl
+import os
+import tempfile
+from typing import Iterator, Optional, Union
+
+from .certificate import MOST_BYTES
+from .errors import SurveyError
+from .packed import why_packed
+
+Name = Union[str, "os.PathLike[str]"]
+
+
+def read(name: Name) -> bytes:
+    """The bytes of a file, read once. SurveyError where it has more than 64 MiB or is packed, OSError where it can't be read."""
+    with open(name, "rb") as file:
+        data = file.read(MOST_BYTES + 1)
+    if len(data) > MOST_BYTES:
+        raise SurveyError(f"{os.fspath(name)}: file too large")
+    if packed := why_packed(data):
+        raise SurveyError(f"{os.fspath(name)}: {packed}")
+    return data
+
+
+def replace(name: Name, data: bytes, part: Optional[Name] = None) -> None:
+    """Puts these bytes in the place of a file: written beside it, flushed to the disk, and renamed. The old file stays until
+    the new one is whole. OSError where that fails; then nothing is left behind. A kill may leave the half-written file: it
+    has a name of its own, or `part`, which the next call writes anew (for a caller that holds a lock)."""
+    name = os.fspath(name)
+    folder = os.path.dirname(os.path.abspath(name))
+    if part is None:
+        handle, written = tempfile.mkstemp(dir=folder, prefix=".baseline-survey-", suffix=".part")
+    else:
+        written = os.fspath(part)
+        handle = os.open(written, os.O_WRONLY | os.O_CREAT | os.O_TRUNC | os.O_NOFOLLOW, 0o666)
+    try:
+        with os.fdopen(handle, "wb") as file:
+            file.write(data)
+            file.flush()
+            os.fchmod(file.fileno(), _mode(name))
+            os.fsync(file.fileno())
+        os.replace(written, name)
+    except BaseException:
+        with contextlib.suppress(OSError):
+            os.unlink(written)
+        raise
+    _sync_folder(folder)
+
+
+def _mode(name: str) -> int:
+    """The rights of the file that is replaced, else those that a new file gets."""
+    with contextlib.suppress(OSError):
+        return os.stat(name).st_mode & 0o777
+    mask = os.umask(0)
+    os.umask(mask)
+    return 0o666 & ~mask
+
+
+def _sync_folder(folder: str) -> None:
+    """Flushes the rename, where the file system can."""
+    with contextlib.suppress(OSError):
+        handle = os.open(folder, os.O_RDONLY)
+        try:
+            os.fsync(handle)
+        finally:
+            os.close(handle)
+
+
+@contextlib.contextmanager
+def locked(name: Name) -> Iterator[None]:
+    """Holds the lock of a file: a second process waits. The kernel frees it where this one is killed."""
+    with open(os.fspath(name) + ".lock", "w", encoding="ascii") as lock:
+        fcntl.flock(lock, fcntl.LOCK_EX)
+        yield
