@@ -1,0 +1,140 @@
+// The page: takes a file, hands it to the worker, shows what comes.
+import {drawAgain, forgetPictures, fromPaper, toPaper} from './drawn.mjs';
+import {cardsOf, list, table} from './cards.mjs';
+import {element, shownName} from './dom.mjs';
+import {headline} from './words.mjs';
+
+/** @typedef {import('./worker.mjs').Answer} Answer */
+
+/** @param {string} id */
+const byId = id => /** @type {HTMLElement} */ (document.getElementById(id));
+
+/** Seconds after which the page says that the text makes it long. */
+const LONG = 60;
+const LONG_WORDS = '. A text may name a search of many minutes: stop it if you don\u2019t trust it';
+
+/** @type {Worker | null} */
+let worker = null;
+let began = 0;
+
+/**
+ * The worker's program, from the page's own text. A page of trusted types takes an address of a program from a
+ * policy alone.
+ */
+function workerAddress() {
+  const address = URL.createObjectURL(new Blob([byId('worker').textContent ?? ''], {type: 'text/javascript'}));
+  const types = /** @type {any} */ (window).trustedTypes;
+  return types ? types.createPolicy('worker', {createScriptURL: () => address}).createScriptURL('') : address;
+}
+const address = workerAddress();
+
+/** @param {File} file */
+function check(file) {
+  stop();
+  byId('answer').replaceChildren();
+  forgetPictures();
+  worker = new Worker(address);
+  began = Date.now();
+  byId('busy').hidden = false;
+  report('starting', 0, file);
+  worker.onmessage = ({data}) => {
+    if (!data.view) return report(data.step, data.part, file);
+    stop();
+    show(file, data);
+  };
+  worker.onerror = event => {
+    event.preventDefault();
+    stop();
+    const why = event.message || 'the browser gave no reason; it may be out of memory';
+    say('bad', 'This page failed', `Nothing was decided: ${why}.`);
+  };
+  worker.postMessage(file);
+}
+
+/**
+ * @param {string} step
+ * @param {number} part
+ * @param {File} file
+ */
+function report(step, part, file) {
+  const seconds = Math.round((Date.now() - began) / 1000), taken = seconds > 2 ? `, ${seconds} s` : '';
+  byId('step').textContent = `${shownName(file.name)}: ${step}${taken}${seconds > LONG ? LONG_WORDS : ''}`;
+  const bar = /** @type {HTMLProgressElement} */ (byId('bar'));
+  if (part > 0) bar.value = part;
+  else bar.removeAttribute('value');
+}
+
+function stop() {
+  if (worker) worker.terminate();
+  worker = null;
+  byId('busy').hidden = true;
+}
+
+/**
+ * Puts a verdict on the page and takes the reader there.
+ * @param {string} mood
+ * @param {string} title
+ * @param {string} text
+ * @param {...(Node | string)} more
+ */
+function say(mood, title, text, ...more) {
+  const properties = {className: `card verdict ${mood}`, id: 'verdict', tabIndex: '-1', 'aria-label': 'Verdict'};
+  const head = element('section', properties, element('h2', {textContent: title}), element('p', {textContent: text}),
+    ...more);
+  byId('answer').replaceChildren(head);
+  head.focus({preventScroll: true});
+}
+
+/**
+ * @param {File} file
+ * @param {Answer} answer
+ */
+function show(file, {view, sum, seconds}) {
+  const {mood, title, text} = headline(view), {session, words, hint} = view, name = shownName(file.name);
+  const notes = session?.notes.length ? [list(session.notes.map(note => `note: ${note}`), 'notes')] : [];
+  const hints = hint ? [element('p', {className: 'hint', textContent: hint})] : [];
+  const checked = `checked on ${today()} in ${seconds.toFixed(1)} s`;
+  const facts = [['answer of check', words], ['file', `${name}, ${file.size} bytes, ${checked}`]];
+  say(mood, title, text, ...notes, ...hints, table(sum ? [...facts, ['SHA-256', sum]] : facts, 'facts'));
+  if (session) byId('answer').append(...cardsOf(session, view.kind === 'certified'));
+  document.title = `${title} \u2013 ${name}`;
+  drawAgain();
+}
+
+function today() {
+  const now = new Date(), parts = [now.getFullYear(), now.getMonth() + 1, now.getDate()];
+  return parts.map(part => String(part).padStart(2, '0')).join('-');
+}
+
+const input = /** @type {HTMLInputElement} */ (byId('file'));
+input.addEventListener('change', () => {
+  const file = input.files?.[0];
+  if (file) check(file);
+  input.value = '';
+});
+byId('stop').addEventListener('click', () => {
+  stop();
+  say('look', 'Stopped: nothing was decided',
+    'You have stopped the check. The text may be true or false; the program decides it faster.');
+});
+addEventListener('keydown', event => {
+  if (event.key === 'Escape' && worker) byId('stop').click();
+});
+byId('print').addEventListener('click', () => print());
+for (const kind of ['dragover', 'dragleave', 'drop']) {
+  addEventListener(kind, event => {
+    event.preventDefault();
+    byId('drop').classList.toggle('over', kind === 'dragover');
+    const file = kind === 'drop' ? /** @type {DragEvent} */ (event).dataTransfer?.files[0] : undefined;
+    if (file) check(file);
+  });
+}
+addEventListener('beforeprint', () => toPaper(byId('page')));
+addEventListener('afterprint', fromPaper);
+let width = innerWidth, waiting = 0;
+addEventListener('resize', () => {
+  if (innerWidth === width) return;
+  width = innerWidth;
+  clearTimeout(waiting);
+  waiting = setTimeout(drawAgain, 120);
+});
