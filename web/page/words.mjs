@@ -120,14 +120,13 @@ export function proved(session) {
 }
 
 /**
- * How near the least-squares vector is, where that is known of each.
+ * How near the least-squares vector is. Of a track's places no law says it.
  * @param {Session} session
  */
 function nearest({isTrack, places}) {
-  if (places.some(place => place.bound === '')) return [];
+  if (isTrack || places.some(place => place.bound === '')) return [];
   const far = greatest(places.map(place => Number(place.bound))).toFixed(2);
-  const each = isTrack ? 'Each printed place' : 'The printed vector';
-  return [`${each}, before it is rounded to 0.1 mm, is within ${far} mm of the least-squares one in each of X, Y and `
+  return [`The printed vector, before it is rounded to 0.1 mm, is within ${far} mm of the least-squares one in each of X, Y and `
     + 'Z (in space up to 1.7 times as far): with these integers and weights, without an atmosphere, for any '
     + 'observations in the printed bounds. This isn\u2019t an accuracy.'];
 }

@@ -149,7 +149,7 @@ describe('the page in a browser', {skip, timeout: 900_000}, () => {
     const {page, title, words} = await shown(put('few.track', text));
     assert.equal(title, 'Certified');
     assert.equal(await page.value('document.querySelectorAll(".places tbody tr").length'), 40);
-    has(words, ['Each printed place', '0.02 mm', 'All 40 places in metres']);
+    has(words, ['All 40 places in metres']);
     isClean(page);
   });
   it('at 360 pixels nothing is wider than the window', async () => {
