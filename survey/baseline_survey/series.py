@@ -2,8 +2,8 @@
 
 The rows stand in a log, a table that is replaced whole: after a kill the old one or the new one is there, and the next run
 does what is missing. A session is known by its certificate's name, so nothing is doubled. A file whose size and time are
-those of its row isn't read again, so a year of sessions costs no more than a day; a certificate that was made again replaces
-its row. A decline is a row without a vector, a gap. What is an alarm, `alarm` says.
+those of its row isn't read again, so a run reads what is new; a certificate that was made again replaces its row. A decline
+is a row without a vector, a gap. What is an alarm, `alarm` says.
 """
 from __future__ import annotations
 
