@@ -1,11 +1,7 @@
 pub mod Completes
 pub mod Says
 pub mod Files
-pub mod FormerSays
-pub mod FormerEnds
-pub mod FormerLaws
 pub mod CallLaws
-pub mod FormerViews
 pub mod Agreements
 pub mod PrintedVectors
 pub mod PrintedArcs

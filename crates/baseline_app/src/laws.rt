@@ -1,5 +1,4 @@
-//! What `run` said before its clauses were fewer, what the commands of `sim` have in common, and how `fix` and `check` agree, as
-//! the contracts of functions that do nothing.
+//! What the commands of `sim` have in common, and how `fix` and `check` agree, as the contracts of functions that do nothing.
 ghost use Rattle.std.specs.Prelude.{◌≡◌, List, ℕ, Bool, Some, codes};
 ghost use Rattle.std.specs.declared.option.Option.{Option};
 ghost use Rattle.command_words.specs.declared.sims.File.TheVariants.{Base, Rover, Nav};
@@ -20,25 +19,12 @@ ghost use Rattle.job_answers.specs.declared.status.Status.{Status};
 ghost use Rattle.job_answers.specs.declared.status.Status.TheVariants.{Done};
 ghost use Rattle.job_answers.specs.TextJobs.{SaysOfText};
 ghost use Rattle.job_answers.specs.Delivered.{SinkChange};
-ghost use Rattle.job_answers.specs.Works.{file_work};
 ghost use Rattle.sim_jobs.specs.SimRuns.{SaysMade};
 ghost use Rattle.sim_session.specs.Texts.{tracking_of};
 ghost use Rattle.sim_jobs.specs.SameWords.{DifferInSignals};
 ghost use Rattle.sim_jobs.specs.SimRunJobs.{AreMadeFiles};
 ghost use Rattle.sim_jobs.specs.SimRunSays.{SaysMatch};
-ghost use Rattle.baseline_app.specs.Former.{told_work, held_sink, SaysNow, SaidBefore};
 ghost use Rattle.baseline_app.specs.Agreements.{PrintsCertified, HasMoreBudget, HasMoreTrackBudget};
-
-use line_source::Files;
-
-/// Each clause that `run` had for a command and for the files follows from those that it has now: whatever the words, the
-/// files before and after, the status and the sinks. It holds of the bytes that calls gave and took (`called`), and of those that
-/// files and sinks report (`reported`), which were all that it spoke of.
-pub fn former_law<F: Files>(before: &F, after: &F)
-    ensures called { (words : List (List ℕ)) (result : Status) (out err : SinkChange) → SaysNow words (file_work F.Files before.now after.now) result out err → SaidBefore words (file_work F.Files before.now after.now) result out err }
-    ensures reported { (words : List (List ℕ)) (result : Status) (out err : SinkChange) → SaysNow words (file_work F.Files before.now after.now) result out err
-        → SaidBefore words (told_work (file_work F.Files before.now after.now)) result (held_sink out) (held_sink err) }
-{}
 
 /// The texts that `sim base`, `sim rover` and `sim nav` have written of the same words are a session of which `sim run` speaks.
 /// `sim run` of these words has processed this navigation file, byte for byte, and observation files that differ from these in

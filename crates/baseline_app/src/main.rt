@@ -37,21 +37,22 @@
 //! | `sim` | a file of a session of the seed | |
 //! | `sim run` | the four lines about a session that is fixed, of which holds what `fix` says of a fix; `match yes` exactly where its integers are the truth's | the four lines about one that isn't, of which holds what `fix` says of a decline |
 //!
-//! What `run` said in clauses of earlier forms follows from these (`former_law` of `laws`), and what the commands of `sim`
-//! have in common (`one_session_law`). A text has one verdict (`one_verdict_law`), what `fix` or `track` prints as fixed is
-//! certified (`checked_fix_law`), and a greater budget keeps that (`greater_budget_law`).
+//! From these follows what the commands of `sim` have in common (`one_session_law`). A text has one verdict
+//! (`one_verdict_law`), what `fix` or `track` prints as fixed is certified (`checked_fix_law`), and a greater budget keeps that
+//! (`greater_budget_law`). The printed vector is near the least-squares vector (`near_vector_law`), and the printed arcs and
+//! datums stand in their order (`arc_order_law`).
 //!
 //! # How a command is added
 //!
 //! A command has a variant of `Job` with its words (crate command_words), and in a crate of commands a struct with one
 //! method: a `TextCommand` on one file, as `Orbit` of file_jobs, or a `SessionCommand` on the three of a session, as `Fix`
 //! of session_jobs, with what it answers in specs/. Here it has cases of `JobEnds`, `IsReadable` and `SaysOfJob`, and on
-//! three files of `IsLineOf` (specs/Jobs.antt), of the three lemmas over them (proofs/Completes.antt, proofs/Says.antt), of
-//! the older forms (specs/Former.antt, proofs/FormerEnds.antt), and an arm in `do_job` with its answer. What is said of
-//! statuses, sinks, files, faults and completeness (specs/Runs.antt) stays as it is. In command_words: a variant of
-//! `CommandName` (`src/command_name.rt`) with its name and its options, specs/Words.antt, specs/Split.antt, an arm in
-//! `src/jobs.rt`, and cases in proofs/, above all in OneJob.antt, which tells each two jobs apart. Its usage line stands in
-//! job_answers (`src/stop.rt`, specs/Texts.antt), its words and texts in docs/FORMATS.md, docs/GUIDE.md and README.
+//! three files of `IsLineOf` (specs/Jobs.antt), of the three lemmas over them (proofs/Completes.antt, proofs/Says.antt), and
+//! an arm in `do_job` with its answer. What is said of statuses, sinks, files, faults and completeness (specs/Runs.antt)
+//! stays as it is. In command_words: a variant of `CommandName` (`src/command_name.rt`) with its name and its options,
+//! specs/Words.antt, specs/Split.antt, an arm in `src/jobs.rt`, and cases in proofs/, above all in OneJob.antt, which tells
+//! each two jobs apart. Its usage line stands in job_answers (`src/stop.rt`, specs/Texts.antt), its words and texts in
+//! docs/FORMATS.md, docs/GUIDE.md and README.
 #![tactic(auto)]
 
 #[cfg(test)]
