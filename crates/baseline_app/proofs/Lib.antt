@@ -4,4 +4,5 @@ pub mod Files
 pub mod CallLaws
 pub mod Agreements
 pub mod PrintedVectors
+pub mod PrintedTracks
 pub mod PrintedArcs

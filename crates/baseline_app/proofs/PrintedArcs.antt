@@ -1,11 +1,11 @@
 -- The arcs of a printed text stand in order, and its datums are the arcs that begin after all earlier ones.
-use Rattle.std.proofs.Common.{◌≡◌, ℕ, ◌<◌, ◌≤◌, inl, inr, true, List, [], ◌∷◌, filter, AllPairs, Option, Some, IsTrue, arith, refl, sym, ap, ◌∙◌, subst, ⊎_elim}
-use Rattle.std.specs.Prelude.{◌↔◌, slice_get}
+use Rattle.std.proofs.Common.{◌≡◌, ℕ, ◌<◌, ◌≤◌, inl, inr, List, [], ◌∷◌, filter, Option, Some, arith, refl, ap, ◌∙◌, subst, ⊎_elim}
+use Rattle.std.specs.Prelude.{slice_get}
 use Rattle.std.proofs.lemmas.Bool.{cases_lt}
 use Rattle.std.proofs.lemmas.List.Kept.{AllPairs-filter}
 use Rattle.obs_rows.specs.declared.arcs.Arc.{Arc}
 use Rattle.obs_rows.specs.declared.used.UsedPair.{UsedPair}
-use Rattle.slip_arcs.specs.Runs.{Run, Precedes, is_long, run_of, AreKept}
+use Rattle.slip_arcs.specs.Runs.{Precedes, is_long, run_of, AreKept}
 use Rattle.slip_arcs.specs.Linked.{HaveDatums, IsFirstLinked}
 use Rattle.slip_arcs.proofs.Kept.{kept_at, kept_each, precedes_at}
 use Rattle.slip_arcs.proofs.Chains.{AreRising, IsFresh, share_first, chain_stays}

@@ -1,5 +1,5 @@
 -- The vector of what is certified is near the least-squares vector.
-use Rattle.std.proofs.Common.{◌≡◌, ◌^◌, inl, inr, true, ℕ, ℤ, pos, ◌*ℤ◌, List, [], length, Option, Some, refl, sym, ap, ◌∙◌, subst}
+use Rattle.std.proofs.Common.{◌≡◌, ◌^◌, inl, inr, true, ℕ, ℤ, pos, ◌*ℤ◌, List, length, Option, sym, ap, ◌∙◌, subst}
 use Rattle.obs_rows.specs.declared.sessions.Session.{Session}
 use Rattle.obs_rows.specs.Signals.{fine_signals}
 use Rattle.obs_rows.specs.Integers.{integer_count}
@@ -10,7 +10,6 @@ use Rattle.fix_decide.specs.Bounds.{StaysAtMost}
 use Rattle.fix_decide.specs.Decisions.{IsFormOf, first_of}
 use Rattle.fix_decide.proofs.SessionForms.{integers_are, first_length}
 use Rattle.fix_decide.proofs.UpperLaws.{top_stays_at_most}
-use Rattle.cert_data.specs.declared.certs.Cert.{Cert}
 use Rattle.cert_data.specs.declared.tails.Tail.{Tail}
 use Rattle.cert_data.specs.declared.tails.Tail.TheVariants.{Fixed, Unseparated, Weak, Overwidth, Unsettled, Spent}
 use Rattle.cert_data.specs.declared.verdicts.Verdict.TheVariants.{Certified}
@@ -19,9 +18,8 @@ use Rattle.cert_check.specs.Settled.{AreFound, IsDecision, tail_of}
 use Rattle.cert_check.specs.RowDecisions.{IsRowDecision}
 use Rattle.cert_check.specs.SameTails.{AreSameNumbers}
 use Rattle.cert_check.specs.Verdicts.{IsSaidOf, IsVerdictOf}
-use Rattle.vector_bound.specs.VectorBounds.{IsSessionBound, IsInHundredths, move_units, hundredths_of_mm}
+use Rattle.vector_bound.specs.VectorBounds.{move_units, hundredths_of_mm}
 use Rattle.vector_bound.proofs.Sessions.{near_for_rows, wider_distance, rounded_hundredths}
-use Rattle.cert_spelling.specs.Lengths.{IsWhole}
 use Rattle.cert_data.specs.declared.outcomes.Answer.{Answer}
 use Rattle.outcome_report.specs.OutcomeText.{answer_text, IsWholeAnswer, is_fixed}
 use Rattle.run_options.specs.declared.options.Options.{Options}

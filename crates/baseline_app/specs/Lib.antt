@@ -3,4 +3,5 @@ pub mod Runs
 pub mod Calls
 pub mod Agreements
 pub mod PrintedVectors
+pub mod PrintedTracks
 pub mod PrintedArcs

@@ -1,6 +1,10 @@
-//! Certificates that are read, written, lifted and shown. There is nothing here but tests.
+//! Certificates that are read, written, lifted, shown and bounded. There is nothing here but tests.
 #![tactic(auto)]
 
+#[cfg(test)]
+mod bound_tests;
+#[cfg(test)]
+mod bound_texts;
 #[cfg(test)]
 mod cert_lines_tests;
 #[cfg(test)]
@@ -9,6 +13,8 @@ mod cert_text_tests;
 mod cert_words_tests;
 #[cfg(test)]
 mod old_cert_tests;
+#[cfg(test)]
+mod real_text;
 #[cfg(test)]
 mod report_tests;
 #[cfg(test)]

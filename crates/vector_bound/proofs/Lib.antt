@@ -10,3 +10,6 @@ pub mod Sessions
 pub mod Words
 pub mod SlopeParts
 pub mod LeastReach
+pub mod Hundredths
+pub mod PairLaws
+pub mod GreatestBounds

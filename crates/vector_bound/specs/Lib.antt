@@ -1,3 +1,4 @@
 pub mod Curvatures
 pub mod Reaches
 pub mod VectorBounds
+pub mod PairBounds

@@ -68,7 +68,8 @@ fn own_kept(normal: &Normal, h: u32, column: usize) -> Option<i128>
     ensures value { IfSome result (λ a. a ≡ kept_own normal.now h column) }
     ensures from { IfSome result (λ a. pos 1 ≤ℤ a) }
     ensures size { IfSome result (λ a. unsigned_abs a ≤ 2 ^ 40) }
-    ensures none { IsNone result → FitsMatrix normal.now h → pos 1 ≤ℤ kept_own normal.now h column → ⊥ }
+    ensures none { IsNone result → FitsMatrix normal.now h →
+        pos 1 ≤ℤ kept_own normal.now h column → ⊥ }
 {
     let own = own_of(normal, h, column)?;
     if own < 1 || own > MOST_KEPT {
@@ -179,7 +180,8 @@ pub(crate) fn curvature(normal: &Normal, h: u32) -> Option<i128>
     requires few { h ≤ 80 }
     ensures curved { IfSome result (λ mu. IsCurvature normal.now h mu) }
     ensures to { IfSome result (λ mu. mu ≤ℤ pos (2 ^ 40)) }
-    ensures none { IsNone result → FitsMatrix normal.now h → (mu : ℤ) → IsCurvature normal.now h mu → ⊥ }
+    ensures none { IsNone result → FitsMatrix normal.now h →
+        (mu : ℤ) → IsCurvature normal.now h mu → ⊥ }
 {
     let a = own_kept(normal, h, 0)?;
     let b = own_kept(normal, h, 1)?;

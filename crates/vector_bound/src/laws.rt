@@ -11,6 +11,8 @@ ghost use Rattle.vector_bound.specs.VectorBounds.{KeepsNear, IsVectorBound, move
 /// For all data in the boxes, every rational baseline whose sum of squares with the integers is at most that of the move
 /// lies within x of the move in each coordinate, in 2^-5 ι: so the least-squares baseline of those data does.
 pub fn vector_law()
-    ensures { (arcs : List Arc) (ss : List ℕ) (pairs : List PairRows) (n : Normal) (h : ℕ) (z m : List ℤ) (t x : ℤ) → length z ≡ integer_count arcs ss → IsNormalOf arcs ss pairs n →
-        StaysAtMost arcs ss pairs z m (pos (2 ^ h) *ℤ t) → IsVectorBound n h z m t x → KeepsNear arcs ss pairs z m (move_units x) }
+    ensures { (arcs : List Arc) (ss : List ℕ) (pairs : List PairRows) (n : Normal) (h : ℕ)
+        (z m : List ℤ) (t x : ℤ) → length z ≡ integer_count arcs ss → IsNormalOf arcs ss pairs n →
+        StaysAtMost arcs ss pairs z m (pos (2 ^ h) *ℤ t) → IsVectorBound n h z m t x →
+        KeepsNear arcs ss pairs z m (move_units x) }
 {}

@@ -67,7 +67,8 @@ fn narrower(mu: i128, l: i128, k: i128, range: Range) -> Range
     requires sizes { AreInSize mu l k }
     requires range { IsRange mu l k range }
     ensures range { IsRange mu l k result }
-    ensures half { (w : ℕ) → 1 ≤ w → range.high ≤ℤ (range.low +ℤ pos (2 * w)) → result.high ≤ℤ (result.low +ℤ pos w) }
+    ensures half { (w : ℕ) → 1 ≤ w → range.high ≤ℤ (range.low +ℤ pos (2 * w)) →
+        result.high ≤ℤ (result.low +ℤ pos w) }
 {
     if range.high - range.low <= 1 {
         return range;

@@ -1,5 +1,6 @@
 //! What the data and the share of the sum of squares add.
-ghost use Rattle.std.specs.Prelude.{◌≡◌, ◌+◌, ◌*◌, ◌^◌, ◌<◌, ◌≤◌, length, All, pos, ◌+ℤ◌, ◌*ℤ◌, ◌<ℤ◌, ◌≤ℤ◌, unsigned_abs, slice_index_or, IfSome, IsNone};
+ghost use Rattle.std.specs.Prelude.{◌≡◌, ◌+◌, ◌*◌, ◌^◌, ◌<◌, ◌≤◌, length, All, pos, ◌+ℤ◌, ◌*ℤ◌, ◌<ℤ◌, ◌≤ℤ◌};
+ghost use Rattle.std.specs.Prelude.{unsigned_abs, slice_index_or, IfSome, IsNone};
 ghost use Rattle.whole_math.specs.Rounding.{ceil_div};
 ghost use Rattle.obs_rows.specs.Ranges.{IsBelow};
 ghost use Rattle.vector_bound.specs.VectorBounds.{slack, FitsSlack};
@@ -49,10 +50,12 @@ fn radius_of(normal: &Normal, column: usize) -> i128
 fn radius_square(normal: &Normal, column: usize, m: i64) -> Option<i128>
     requires column { column < 4 }
     requires size { unsigned_abs m ≤ 2 ^ 46 }
-    ensures value { IfSome result (λ s. s ≡ slice_index_or normal.now.r column (pos 0) *ℤ (m *ℤ m)) }
+    ensures value { IfSome result (λ s.
+        s ≡ slice_index_or normal.now.r column (pos 0) *ℤ (m *ℤ m)) }
     ensures from { IfSome result (λ s. pos 0 ≤ℤ s) }
     ensures to { IfSome result (λ s. s ≤ℤ pos (2 ^ 118)) }
-    ensures none { IsNone result → (slice_index_or normal.now.r column (pos 0) *ℤ (m *ℤ m)) ≤ℤ pos (2 ^ 118) → ⊥ }
+    ensures none { IsNone result →
+        (slice_index_or normal.now.r column (pos 0) *ℤ (m *ℤ m)) ≤ℤ pos (2 ^ 118) → ⊥ }
 {
     times_square(radius_of(normal, column), m)
 }
@@ -83,7 +86,8 @@ fn slack_of(squares: i128, h: u32, top: i128) -> Option<i128>
     ensures value { IfSome result (λ k. k ≡ ceil_div squares (2 ^ h) +ℤ (top *ℤ pos 16)) }
     ensures from { IfSome result (λ k. pos 0 ≤ℤ k) }
     ensures to { IfSome result (λ k. k ≤ℤ pos (2 ^ 126)) }
-    ensures none { IsNone result → pos 0 ≤ℤ (ceil_div squares (2 ^ h) +ℤ (top *ℤ pos 16)) → (ceil_div squares (2 ^ h) +ℤ (top *ℤ pos 16)) ≤ℤ pos (2 ^ 126) → ⊥ }
+    ensures none { IsNone result → pos 0 ≤ℤ (ceil_div squares (2 ^ h) +ℤ (top *ℤ pos 16)) →
+        (ceil_div squares (2 ^ h) +ℤ (top *ℤ pos 16)) ≤ℤ pos (2 ^ 126) → ⊥ }
 {
     let whole = plus_times(ceil_shift(squares, h), top, 16)?;
     if whole < 0 || whole > MOST_SLACK {
@@ -99,7 +103,8 @@ pub(crate) fn slack(normal: &Normal, h: u32, moved: &[i64; 3], top: i128) -> Opt
     ensures value { IfSome result (λ k. k ≡ slack normal.now h moved.now top) }
     ensures from { IfSome result (λ k. pos 0 ≤ℤ k) }
     ensures to { IfSome result (λ k. k ≤ℤ pos (2 ^ 126)) }
-    ensures none { IsNone result → FitsSlack normal.now h moved.now top → pos 0 ≤ℤ slack normal.now h moved.now top → ⊥ }
+    ensures none { IsNone result → FitsSlack normal.now h moved.now top →
+        pos 0 ≤ℤ slack normal.now h moved.now top → ⊥ }
 {
     let first = radius_square(normal, 0, moved[0])?;
     let second = radius_square(normal, 1, moved[1])?;

@@ -1,5 +1,6 @@
 //! How steep the sum of squares at the centres is at the move, and what the data add.
-ghost use Rattle.std.specs.Prelude.{◌≡◌, ◌+◌, ◌*◌, ◌^◌, ◌<◌, ◌≤◌, length, All, pos, ◌+ℤ◌, ◌*ℤ◌, ◌<ℤ◌, ◌≤ℤ◌, ℕ, ℤ, List, unsigned_abs, FitsSigned, IfSome, IsNone};
+ghost use Rattle.std.specs.Prelude.{◌≡◌, ◌+◌, ◌*◌, ◌^◌, ◌<◌, ◌≤◌, length, All, pos, ◌+ℤ◌, ◌*ℤ◌, ◌<ℤ◌, ◌≤ℤ◌};
+ghost use Rattle.std.specs.Prelude.{ℕ, ℤ, List, unsigned_abs, FitsSigned, IfSome, IsNone};
 ghost use Rattle.std.specs.Int.{w128};
 ghost use Rattle.whole_math.specs.Rounding.{ceil_div};
 ghost use Rattle.whole_math.specs.Vectors.{dot};
@@ -38,9 +39,11 @@ fn integer_part(normal: &Normal, z: &[i64], j: usize) -> Option<i128>
     requires columns { normal.now.columns ≡ 4 + length z.now }
     requires row { j < 3 }
     requires z_size { All (IsBelow (2 ^ 30)) z.now }
-    ensures value { IfSome result (λ s. s ≡ dot (list_from (entry normal.now.c j) 3 (length z.now)) z.now) }
+    ensures value { IfSome result (λ s.
+        s ≡ dot (list_from (entry normal.now.c j) 3 (length z.now)) z.now) }
     ensures fits { IfSome result (λ s. FitsSigned w128 s) }
-    ensures small { (m : List ℤ) → FitsTerms normal.now z.now m j → IfSome result (λ s. unsigned_abs s ≤ 60 * 2 ^ 96) }
+    ensures small { (m : List ℤ) → FitsTerms normal.now z.now m j →
+        IfSome result (λ s. unsigned_abs s ≤ 60 * 2 ^ 96) }
     ensures none { IsNone result → (m : List ℤ) → FitsTerms normal.now z.now m j → ⊥ }
 {
     let mut sum = 0;
@@ -57,7 +60,8 @@ fn plus_term(normal: &Normal, j: usize, k: usize, sum: i128, by: i64) -> Option<
     requires by_size { unsigned_abs by ≤ 2 ^ 46 }
     ensures value { IfSome result (λ s. s ≡ sum +ℤ (entry normal.now.c j k *ℤ by)) }
     ensures fits { IfSome result (λ s. FitsSigned w128 s) }
-    ensures none { IsNone result → unsigned_abs sum ≤ 2 ^ 120 → unsigned_abs (entry normal.now.c j k *ℤ by) ≤ 2 ^ 118 → ⊥ }
+    ensures none { IsNone result → unsigned_abs sum ≤ 2 ^ 120 →
+        unsigned_abs (entry normal.now.c j k *ℤ by) ≤ 2 ^ 118 → ⊥ }
 {
     plus_times(sum, normal.c.at(j, k), by)
 }
@@ -76,9 +80,12 @@ fn later_part(normal: &Normal, z: &[i64], j: usize) -> Option<i128>
     requires columns { normal.now.columns ≡ 4 + length z.now }
     requires row { j < 3 }
     requires z_size { All (IsBelow (2 ^ 30)) z.now }
-    ensures value { IfSome result (λ s. s ≡ (dot (list_from (entry normal.now.c j) 3 (length z.now)) z.now +ℤ (entry normal.now.c j (3 + length z.now) *ℤ pos 1)) *ℤ pos (2 ^ 16)) }
+    ensures value { IfSome result (λ s.
+        s ≡ (dot (list_from (entry normal.now.c j) 3 (length z.now)) z.now
+        +ℤ (entry normal.now.c j (3 + length z.now) *ℤ pos 1)) *ℤ pos (2 ^ 16)) }
     ensures fits { IfSome result (λ s. FitsSigned w128 s) }
-    ensures small { (m : List ℤ) → FitsTerms normal.now z.now m j → IfSome result (λ s. unsigned_abs s ≤ 2 ^ 118) }
+    ensures small { (m : List ℤ) → FitsTerms normal.now z.now m j →
+        IfSome result (λ s. unsigned_abs s ≤ 2 ^ 118) }
     ensures none { IsNone result → (m : List ℤ) → FitsTerms normal.now z.now m j → ⊥ }
 {
     let integers = integer_part(normal, z, j)?;
@@ -94,7 +101,8 @@ fn slope(normal: &Normal, z: &[i64], moved: &[i64; 3], j: usize) -> Option<i128>
     requires moved_size { All (IsBelow (2 ^ 46)) moved.now }
     ensures value { IfSome result (λ s. s ≡ slope normal.now z.now moved.now j) }
     ensures fits { IfSome result (λ s. FitsSigned w128 s) }
-    ensures small { FitsTerms normal.now z.now moved.now j → IfSome result (λ s. unsigned_abs s ≤ 2 ^ 120) }
+    ensures small { FitsTerms normal.now z.now moved.now j →
+        IfSome result (λ s. unsigned_abs s ≤ 2 ^ 120) }
     ensures none { IsNone result → FitsTerms normal.now z.now moved.now j → ⊥ }
 {
     let later = later_part(normal, z, j)?;
