@@ -56,13 +56,35 @@
 #![tactic(auto)]
 
 #[cfg(test)]
+mod certificate_tests;
+#[cfg(test)]
 mod failing_tests;
 #[cfg(test)]
 mod fault_order_tests;
+#[cfg(test)]
+mod file_rows;
 mod laws;
+#[cfg(test)]
+mod long_tests;
+#[cfg(test)]
+mod old_certificate;
+#[cfg(test)]
+mod old_certificate_end;
 mod printed_laws;
 #[cfg(test)]
+mod row_tests;
+#[cfg(test)]
+mod rows;
+#[cfg(test)]
+mod session_rows;
+#[cfg(test)]
+mod session_tests;
+#[cfg(test)]
+mod session_texts;
+#[cfg(test)]
 mod tests;
+#[cfg(test)]
+mod text_rows;
 mod top;
 
 use line_source::{HostFiles, HostSink};

@@ -147,7 +147,7 @@ pub(crate) fn expect_cases(rt: &impl Abort, alloc: Global, cases: &[Case]) -> Re
 #[test]
 fn wrong_words_open_no_file(rt: HostRuntime) -> Result<(), Fail> {
     let alloc = rt.alloc();
-    let rows = [["zero", "F", "F"].as_slice(), &["zero"]];
+    let rows = [["zero", "F", "F"].as_slice(), &["zero"], &["fix", "a", "b"]];
     for row in rows {
         let mut files = files_of(alloc, "F", b"", vec![in alloc; 0]?)?;
         let ran = run_over(

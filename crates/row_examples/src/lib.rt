@@ -1,4 +1,4 @@
-//! The rows of whole sessions, against an independent model, and a certificate that is made of them. There is nothing here but tests.
+//! The rows of whole sessions, against an independent model, and a certificate and a track that are made of them. There is nothing here but tests.
 #![tactic(auto)]
 
 #[cfg(test)]
@@ -11,3 +11,5 @@ mod expected_bands;
 mod files;
 #[cfg(test)]
 mod tests;
+#[cfg(test)]
+mod track_tests;

@@ -13,3 +13,5 @@ mod command_words_tests;
 mod job_answers_tests;
 #[cfg(test)]
 mod outcome_report_tests;
+#[cfg(test)]
+mod report_text_tests;
