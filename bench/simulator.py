@@ -18,7 +18,9 @@ ROOT = os.path.dirname(os.path.dirname(os.path.abspath(__file__)))
 NAV = os.path.join(ROOT, "examples", "geonet.nav")
 BASE = (-3978242.4348, 3382841.1715, 3649902.7667)
 LIGHT, MU, TURN, RELATIVITY = 299792458.0, 3.986005e14, 7.2921151467e-5, -4.442807633e-10
-L1, L2 = 1575.42e6, 1227.60e6
+L1, L2, L5 = 1575.42e6, 1227.60e6, 1176.45e6
+# The frequencies of a set of bands, and the types of observations in its header.
+BANDS = {"12": ((L1, L2), "G    4 C1C L1C C2W L2W"), "125": ((L1, L2, L5), "G    6 C1C L1C C2W L2W C5Q L5Q")}
 AXIS, FLAT = 6378137.0, 1 / 298.257223563
 SQUARED = FLAT * (2 - FLAT)
 SHELL = 6371 / (6371 + 350)
@@ -85,6 +87,16 @@ def cartesian(lat, lon, height):
             (normal * (1 - SQUARED) + height) * math.sin(lat))
 
 
+def clock_of(seconds):
+    """Hour, minute and second of the day."""
+    return seconds // 3600, seconds % 3600 // 60, seconds % 60
+
+
+def hour_of(seed, seconds):
+    """Another hour of the day, and so another sky, for each seed; a session of this many seconds ends within the day."""
+    return min(7 * seed % 24, 24 - math.ceil(seconds / 3600))
+
+
 class Receiver:
     """A receiver at a place, its clock in seconds, and the air over it: the zenith delay at the height 0 in metres, the pressure there
     in hPa, and the height in metres in which the wet part of the delay falls to 1/e."""
@@ -131,11 +143,12 @@ class Receiver:
 
 
 class Session:
-    """Both receivers and the files of their session; `off` is how far the base's header is from the truth, in metres."""
+    """Both receivers and the files of their session, which begins at an hour of the day; `off` is how far the headers are from the
+    truth, in metres."""
 
-    tecu = 20.0
+    tecu, bands = 20.0, "12"
 
-    def __init__(self, km, height, epochs, step, seed, off=0.0, tecu=tecu):
+    def __init__(self, km, height, epochs, step, seed, off=0.0, tecu=tecu, bands=bands, hour=0):
         self.random, self.tecu = random.Random(seed), tecu
         (lat, lon, h), bearing, arc = geodetic(BASE), self.random.uniform(0, 2 * math.pi), km / 6371
         to = math.asin(math.sin(lat) * math.cos(arc) + math.cos(lat) * math.sin(arc) * math.cos(bearing))
@@ -146,8 +159,10 @@ class Session:
         self.base, self.rover = (Receiver(place, zenith + self.random.gauss(0, sigma), self.random.uniform(-1e-4, 1e-4), pressure, scale)
                                  for place, sigma in ((BASE, 0.0), (rover, 0.00015 * km)))
         self.truth = [a - b for a, b in zip(rover, BASE)]
-        self.epochs, self.step, self.off = epochs, step, off
-        # of each receiver the whole cycles of each satellite on L1 and L2
+        self.epochs, self.step, self.off, self.bands = epochs, step, off, bands
+        # in seconds after midnight
+        self.begin = 3600 * hour
+        # of each receiver the whole cycles of each satellite on each band
         self.cycles = {self.base: {}, self.rover: {}}
 
     def usable(self, records, t):
@@ -167,36 +182,46 @@ class Session:
         rough = 1 / math.sqrt(math.sin(max(elevation, 0.2)))
         rho = distance + receiver.troposphere(elevation) + LIGHT * (receiver.clock - clock)
         bent = receiver.electrons(elevation, azimuth, self.base, self.tecu)
-        n = self.cycles[receiver].setdefault(number, (self.random.randint(-10**6, 10**6), self.random.randint(-10**6, 10**6)))
+        frequencies, _ = BANDS[self.bands]
+        n = self.cycles[receiver].setdefault(number, tuple(self.random.randint(-10**6, 10**6) for _ in frequencies))
         values = []
-        for f, whole in zip((L1, L2), n):
+        for f, whole in zip(frequencies, n):
             code = rho + bent / f**2 + self.random.gauss(0, 0.3 * rough)
             phase = (rho - bent / f**2 + self.random.gauss(0, 0.003 * rough)) * f / LIGHT + whole
             values += [f"{code:14.3f}  ", f"{phase:14.3f}  "]
         return [f"G{number:02d}" + "".join(values)]
 
+    def header_place(self, receiver):
+        """Where the header says that a receiver stands."""
+        return [x + self.off / math.sqrt(3) for x in receiver.place]
+
     def write(self, receiver, name, records):
-        at = [x + self.off / math.sqrt(3) for x in receiver.place]
+        """Writes the file of a receiver."""
+        _, types = BANDS[self.bands]
+        hour, minute, second = clock_of(self.begin)
         lines = [f"{content:<60}{label}" for content, label in (
             ("     3.04           OBSERVATION DATA    G", "RINEX VERSION / TYPE"),
-            ("".join(f"{x:14.4f}" for x in at), "APPROX POSITION XYZ"), ("G    4 C1C L1C C2W L2W", "SYS / # / OBS TYPES"),
-            ("  2005     4     2     0     0    0.0000000     GPS", "TIME OF FIRST OBS"), ("", "END OF HEADER"))]
+            ("".join(f"{x:14.4f}" for x in self.header_place(receiver)), "APPROX POSITION XYZ"), (types, "SYS / # / OBS TYPES"),
+            (f"  2005     4     2{hour:6d}{minute:6d}{second:13.7f}     GPS", "TIME OF FIRST OBS"), ("", "END OF HEADER"))]
         for epoch in range(self.epochs):
-            s = epoch * self.step
+            s = self.begin + epoch * self.step
+            hour, minute, second = clock_of(s)
             seen = [line for number, v in self.usable(records, START + s) for line in self.observed(receiver, number, v, START + s)]
-            lines += [f"> 2005 04 02 {s // 3600:02d} {s % 3600 // 60:02d} {s % 60:10.7f}  0{len(seen):3d}", *seen]
+            lines += [f"> 2005 04 02 {hour:02d} {minute:02d} {second:10.7f}  0{len(seen):3d}", *seen]
         with open(name, "w", encoding="ascii") as file:
             file.writelines(line + "\n" for line in lines)
 
     def has_right_integers(self, certificate):
-        """Whether each free arc's cycles against the datum's are those of the session, on both bands."""
-        arcs = [line.split()[1:] for line in certificate.splitlines() if line.startswith("arc ")]
-        z1 = iter(map(int, next(line for line in certificate.splitlines() if line.startswith("z1 ")).split()[1:]))
+        """Whether each free arc's cycles against the datum's are those of the session, on each band of the certificate."""
+        lines = [line.split() for line in certificate.splitlines()]
+        bands = [self.bands.index(digit) for digit in next(words[1] for words in lines if words[0] == "signals")]
+        arcs = [words[1:] for words in lines if words[0] == "arc"]
+        z1 = iter(map(int, next(words[1:] for words in lines if words[0] == "z1")))
         sats, told = [int(arc[0]) for arc in arcs], []
         for _, _, _, kind, *shifts in arcs:
             told.append([int(shift) + (next(z1) if kind == "free" else 0) for shift in shifts])
-        true = [[b - a for a, b in zip(self.cycles[self.base][sat], self.cycles[self.rover][sat])] for sat in sats]
+        cycles = [(self.cycles[self.base][sat], self.cycles[self.rover][sat]) for sat in sats]
+        true = [[rover[k] - base[k] for k in bands] for base, rover in cycles]
         datum = next(at for at, arc in enumerate(arcs) if arc[3] == "datum")
-        return all(told[at][k] - told[datum][k] == true[at][k] - true[datum][k] for at in range(len(arcs)) for k in (0, 1))
-
-
+        return all(here - there == own - other for one, right in zip(told, true)
+                   for here, there, own, other in zip(one, told[datum], right, true[datum]))

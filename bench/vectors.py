@@ -1,44 +1,51 @@
 """How far vectors are from the truth: `bench/atmosphere vectors`.
 
-Simulated sessions of 1 to 20 km, 0 to 1,000 m of height, a quarter of an hour and an hour, with 0, 5, 20 and 40 TECU. Sessions that
-`fix` mostly declines for their height are corrected first (`baseline-survey correct` of both files, whose headers hold the true
-places). Each cell has the medians of the distance to the truth in mm, one for each number of TECU; where not all were fixed, how
-many were stands after it.
+Simulated sessions of 1 to 20 km, 0 to 1,000 m of height, a quarter of an hour and an hour, with 0, 5, 20 and 40 TECU, each seed at another
+hour of the day. Hours have `--arc 30`, as the guide advises. Sessions that `fix` mostly declines for their height are corrected first
+(`baseline-survey correct` of both files, whose headers hold the true places). Each cell has the medians of the distance to the truth in mm,
+one for each number of TECU; where not all were fixed, how many were stands after it.
 
 Of RTKLIB there are the vectors of rnx2rtkp (static, L1 and L2, continuous, the elevation mask of `fix`) with its defaults, the
 broadcast ionosphere and Saastamoinen; with `est-stec`, which estimates the ionosphere; and with `est-ztd`, which estimates the
 troposphere too.
 
-The rule by which `adjust` takes a combination is fitted to the sessions of odd seeds, and tried on those of even ones; and both.
+Sessions of two and of five minutes are made beside them: to those and to the level ones of up to 10 km bench/fit_rule fits the rule by
+which `adjust` takes a combination.
 """
+import concurrent.futures
+import dataclasses
 import functools
 import itertools
 import json
 import math
 import os
+import shutil
 import statistics
 import subprocess
 import sys
-from collections import namedtuple
+import tempfile
+from dataclasses import dataclass
+from typing import Optional
+
+# each session has a processor of its own
+os.environ.setdefault("OPENBLAS_NUM_THREADS", "1")
 
 import marks
-from simulator import BASE, NAV, ROOT
+from simulated import Bench, apart, vector_of
+from simulator import BASE, NAV, ROOT, hour_of
 
 sys.path.insert(0, os.path.join(ROOT, "survey"))
 
 from baseline_survey import orbits, rinex  # noqa: E402
 from baseline_survey.adjust import Settings, adjust  # noqa: E402
 from baseline_survey.certificate import read_fixed  # noqa: E402
-from baseline_survey.combination import BY_RULE, COMBINATIONS, FREE_FROM  # noqa: E402
+from baseline_survey.combination import BY_RULE, COMBINATIONS, chosen  # noqa: E402
 from baseline_survey.integers import real_integers  # noqa: E402
 
+SCRIPT = "bench/atmosphere"
 TECU = (0, 5, 20, 40)
-Kind = namedtuple("Kind", "name km height epochs is_corrected", defaults=(False,))
-KINDS = [Kind(name, km, height, epochs, height > 200)
-         for epochs in (30, 120)
-         for name, km, height in (("1 km", 1, 0), ("3 km", 3, 0), ("5 km", 5, 0), ("10 km", 10, 0), ("20 km", 20, 0), ("5 km, 100 m", 5, 100),
-                                  ("5 km, 300 m, corrected", 5, 300), ("5 km, 1,000 m, corrected", 5, 1000))]
-SHORT = [Kind(f"{km} km", km, 0, epochs) for epochs in (5, 10) for km in (1, 3, 5, 10)]
+STEP = 30
+FIX, ADJUST = "`fix`", "`adjust`"
 OURS = {f"`{it}`": it for it in COMBINATIONS}
 THEIRS = {"RTKLIB": ("brdc", "saas"), "`est-stec`": ("est-stec", "saas"), "`est-ztd`": ("est-stec", "est-ztd")}
 CONFIGURATION = """pos1-posmode=static
@@ -55,9 +62,63 @@ out-timesys=gpst
 """
 
 
-def apart(vector, truth):
-    """The distance in mm."""
-    return 1000 * math.dist([float(it) for it in vector], truth)
+@dataclass(frozen=True)
+class Kind:
+    """A kind of sessions: how long in space, height and time, and how it is treated."""
+    km: int
+    height: int
+    epochs: int
+    is_corrected: bool = False
+    options: str = ""
+
+    @property
+    def name(self):
+        height = f", {self.height:,} m" if self.height else ""
+        return f"{self.km} km{height}{', corrected' if self.is_corrected else ''}"
+
+    @property
+    def length_m(self):
+        return 1000 * self.km
+
+    @property
+    def seconds(self):
+        return STEP * (self.epochs - 1)
+
+
+@dataclass(frozen=True)
+class Found:
+    """What came of a session: how far the vector of each way is from the truth in mm, where it gave one; of a fixed one whether its
+    integers are wrong, whether `adjust` says `look` of them, and by how many millionths the vector of `fix` is too long. `is_alone` says
+    that RTKLIB wasn't asked."""
+    kind: Kind
+    tecu: int
+    seed: int
+    errors: dict
+    is_wrong: bool = False
+    is_far: bool = False
+    ppm: Optional[float] = None
+    is_alone: bool = False
+
+    @property
+    def key(self):
+        return self.kind, self.tecu, self.seed
+
+    @property
+    def is_fixed(self):
+        return FIX in self.errors
+
+    def error(self, way):
+        """The error of a way, or None. `adjust` takes one of two by its rule."""
+        return self.errors.get(f"`{chosen(BY_RULE, self.kind.length_m, self.kind.seconds).combination}`" if way == ADJUST else way)
+
+
+SHAPES = [*((km, 0, False) for km in (1, 2, 3, 5, 10, 20)), (5, 100, False), (5, 300, True), (5, 1000, True)]
+QUARTERS = [Kind(km, height, 30, is_corrected) for km, height, is_corrected in SHAPES]
+HOURS = [Kind(km, height, 120, is_corrected, "--arc 30") for km, height, is_corrected in SHAPES]
+SHORT = [Kind(km, 0, epochs) for epochs in (5, 10) for km in (1, 2, 3, 5, 10)]
+
+
+# ---- a session
 
 
 def theirs(bench, session, models):
@@ -65,45 +126,88 @@ def theirs(bench, session, models):
     conf = os.path.join(bench.folder, "conf")
     with open(conf, "w", encoding="ascii") as file:
         file.write(CONFIGURATION.format(*models))
-    words = ["-k", conf, "-e", "-r", *map(str, BASE), bench.rover, bench.base, NAV]
-    last = subprocess.run([bench.other, *words], capture_output=True, text=True).stdout.splitlines()[-1].split()
+    words = ["rnx2rtkp", "-k", conf, "-e", "-r", *map(str, BASE), bench.rover, bench.base, NAV]
+    last = subprocess.run(words, capture_output=True, text=True).stdout.splitlines()[-1].split()
     return apart([float(x) - b for x, b in zip(last[2:5], BASE)], session.truth) if last[5] == "1" else None
 
 
-def corrected(bench, navigation):
+@functools.lru_cache(maxsize=None)
+def navigation():
+    return orbits.read_navigation(NAV)
+
+
+def corrected(bench):
     """Takes the modelled troposphere off both files."""
     for name in (bench.base, bench.rover):
         with open(name, "rb") as file:
-            new, _ = rinex.correct(file.read(), navigation)
+            new, _ = rinex.correct(file.read(), navigation())
         with open(name, "wb") as file:
             file.write(new)
 
 
-def errors_of(bench, kind, tecu, seed, navigation):
-    """The distances to the truth of one session by each way in mm, None where it isn't fixed; and what else is counted."""
-    session = bench.make(kind.km, kind.height, kind.epochs, 30, seed, tecu=tecu)
-    found = {name: theirs(bench, session, models) if bench.other and kind.epochs >= 30 else None for name, models in THEIRS.items()}
+def found_by(bench, kind, tecu, seed, is_alone):
+    """What comes of a session."""
+    session = bench.make(kind.km, kind.height, kind.epochs, STEP, seed, tecu=tecu, hour=hour_of(seed, kind.seconds))
+    beside = {} if is_alone or kind in SHORT or not shutil.which("rnx2rtkp") else THEIRS
+    errors = {name: error for name, models in beside.items() if (error := theirs(bench, session, models)) is not None}
     if kind.is_corrected:
-        corrected(bench, navigation)
-    ran = bench.run()
-    found.update({"kind": kind._asdict(), "tecu": tecu, "seed": seed, "wrong": False, "`fix`": None, **dict.fromkeys(OURS)})
-    if ran.returncode == 0:
-        cert = read_fixed(ran.stdout.encode("ascii"))
-        found["wrong"] = not session.has_right_integers(ran.stdout)
-        found["`fix`"] = apart(cert.vector_m(), session.truth)
-        found["ppm"] = 1e6 * (math.hypot(*cert.vector_m()) / math.hypot(*session.truth) - 1)
-        for name, combination in OURS.items():
-            settings = Settings(combination=combination, troposphere=not kind.is_corrected)
-            found[name] = apart(adjust(cert, settings).vector_m, session.truth)
-        default = adjust(cert, Settings(combination=BY_RULE, troposphere=not kind.is_corrected)).settings
-        found["far"] = any(it.is_far for it in real_integers(cert, default))
-    return found
+        corrected(bench)
+    ran = bench.run(*kind.options.split())
+    if ran.returncode:
+        return Found(kind, tecu, seed, errors, is_alone=is_alone)
+    cert, air = read_fixed(ran.stdout.encode("ascii")), Settings(troposphere=not kind.is_corrected)
+    errors[FIX] = apart(vector_of(ran.stderr), session.truth)
+    for name, combination in OURS.items():
+        errors[name] = apart(adjust(cert, dataclasses.replace(air, combination=combination)).vector_m, session.truth)
+    taken = dataclasses.replace(air, combination=chosen(BY_RULE, kind.length_m, kind.seconds).combination)
+    return Found(kind, tecu, seed, errors, is_wrong=not session.has_right_integers(ran.stdout),
+                 is_far=any(it.is_far for it in real_integers(cert, taken)),
+                 ppm=1e6 * (math.hypot(*cert.vector_m()) / math.hypot(*session.truth) - 1), is_alone=is_alone)
+
+
+def found_apart(program, folder, is_alone, key):
+    """What comes of a session in a folder of its own, for a process of its own."""
+    with tempfile.TemporaryDirectory(dir=folder) as own:
+        return found_by(Bench(program, own), *key, is_alone)
+
+
+# ---- all sessions
+
+
+def read_results(name):
+    """What earlier runs found, by a file with a line for each session. A line that a stopped run left unfinished is cut off."""
+    with open(name, "a+b") as file:
+        file.seek(0)
+        whole, _, _ = file.read().rpartition(b"\n")
+        file.truncate(len(whole) + 1 if whole else 0)
+    values = map(json.loads, whole.splitlines())
+    return [Found(**{**it, "kind": Kind(**it["kind"])}) for it in values]
+
+
+def keys_of(seeds):
+    """The sessions that are asked for, the hours last, of which there are half as many."""
+    every = [*itertools.product(range(1, seeds + 1), SHORT + QUARTERS, TECU), *itertools.product(range(1, seeds // 2 + 1), HOURS, TECU)]
+    return [(kind, tecu, seed) for seed, kind, tecu in every]
+
+
+def results(bench, options, wanted, is_alone=False):
+    """What comes of these sessions; each is noted as soon as it is known, and none is made twice. With `is_alone` RTKLIB isn't asked."""
+    name = options.results or os.path.join(bench.folder, "results")
+    known = {it.key: it for it in read_results(name)}
+    missing = [it for it in wanted if it not in known or known[it].is_alone and not is_alone]
+    with open(name, "a", encoding="ascii") as file, concurrent.futures.ProcessPoolExecutor(options.jobs) as pool:
+        for found in pool.map(functools.partial(found_apart, bench.program, bench.folder, is_alone), missing):
+            print(json.dumps(dataclasses.asdict(found)), file=file, flush=True)
+            known[found.key] = found
+    return [known[it] for it in wanted]
+
+
+# ---- the tables
 
 
 def errors(sessions, way):
-    """The errors of a way where there are any. `adjust` takes one of two by its rule."""
-    every = (chosen(it, FREE_FROM) if way == "`adjust`" else it[way] for it in sessions)
-    return [it for it in every if it is not None]
+    """The errors of a way where there are any."""
+    return [it for session in sessions if (it := session.error(way)) is not None]
 
 
 def medians(sessions, ways):
@@ -114,8 +218,8 @@ def medians(sessions, ways):
 def is_behind(sessions):
     """Whether the default's median is over that of one of RTKLIB's ways, by half a millimetre or more; None where there is nothing to
     compare."""
-    found = medians(sessions, ("`adjust`", *THEIRS))
-    ours = found.pop("`adjust`", None)
+    found = medians(sessions, (ADJUST, *THEIRS))
+    ours = found.pop(ADJUST, None)
     return None if ours is None or not found else ours - min(found.values()) >= 0.5
 
 
@@ -123,106 +227,75 @@ def cell(sessions, way):
     """The median of a way over sessions that were fixed, and how many were where not all are."""
     had = errors(sessions, way)
     text = f"{statistics.median(had):.0f}" if had else "-"
-    mark = "*" if way == "`adjust`" and is_behind(sessions) else ""
+    mark = "*" if way == ADJUST and is_behind(sessions) else ""
     return text + mark if len(had) == len(sessions) or not had else f"{text}{mark}({len(had)})"
+
+
+def of_class(found, kind, tecu):
+    return [it for it in found if it.kind == kind and it.tecu == tecu]
 
 
 def table(found, kinds):
     """The lines of a table of kinds of sessions."""
-    ways = ["`fix`", "`adjust`", *OURS, *THEIRS]
-    lines = ["| " + " | ".join(["Session", *ways]) + " |", "|---" * (1 + len(ways)) + "|"]
+    ways = [FIX, ADJUST, *OURS, *THEIRS]
+    yield "| " + " | ".join(["Session", *ways]) + " |"
+    yield "|---" * (1 + len(ways)) + "|"
     for kind in kinds:
-        of = [[it for it in found if it["kind"] == kind._asdict() and it["tecu"] == tecu] for tecu in TECU]
-        lines.append("| " + " | ".join([kind.name, *(" ".join(cell(it, way) for it in of) for way in ways)]) + " |")
-    return lines
+        of = [of_class(found, kind, tecu) for tecu in TECU]
+        yield "| " + " | ".join([kind.name, *(" ".join(cell(it, way) for it in of) for way in ways)]) + " |"
 
 
 def summary(found):
     """In how many classes the default is as good as RTKLIB's best."""
-    classes = [[it for it in found if it["kind"] == kind._asdict() and it["tecu"] == tecu] for kind in KINDS for tecu in TECU]
-    told = [it for it in map(is_behind, classes) if it is not None]
-    return f"In {told.count(False)} of the {len(told)} classes in which both give vectors `adjust` is at least as good as RTKLIB's best, to half a millimetre; the others have a star."
+    told = [is_behind(of_class(found, kind, tecu)) for kind in QUARTERS + HOURS for tecu in TECU]
+    told = [it for it in told if it is not None]
+    return (f"In {told.count(False)} of the {len(told)} classes in which both give vectors `adjust` is at least as good as RTKLIB's best, "
+            "to half a millimetre; the others have a star.")
 
 
 def scale(found):
     """By how much `fix` makes level lines of 5 and 10 km longer, for each number of TECU."""
-    level = [it for it in found if it["`fix`"] is not None and it["kind"]["height"] == 0 and it["kind"]["km"] in (5, 10) and it["kind"]["epochs"] >= 30]
-    means = {tecu: statistics.mean(had) for tecu in TECU if (had := [it["ppm"] for it in level if it["tecu"] == tecu])}
-    return "The vector of `fix` is too long by " + ", ".join(f"{mean:+.1f} ppm at {tecu}" for tecu, mean in means.items()) + " TECU (5 and 10 km, level)."
+    level = [it for it in found if it.is_fixed and it.kind.height == 0 and it.kind.km in (5, 10) and it.kind not in SHORT]
+    means = {tecu: statistics.mean(had) for tecu in TECU if (had := [it.ppm for it in level if it.tecu == tecu])}
+    told = ", ".join(f"{mean:+.1f} ppm at {tecu}" for tecu, mean in means.items())
+    return f"The vector of `fix` is too long by {told} TECU (5 and 10 km, level)."
 
 
 def counted(found):
     """What the tables don't show."""
-    fixed = [it for it in found if it["`fix`"] is not None]
-    wrong, asked = sum(it["wrong"] for it in fixed), [it["far"] for it in fixed if "far" in it]
-    return (f"{len(found)} sessions, {len(fixed)} fixed, {wrong} wrongly. `adjust` says `look` of the integers as real numbers in "
-            f"{sum(asked)} of the {len(asked)} that were asked.")
+    fixed = [it for it in found if it.is_fixed]
+    beside = sum(it.kind in SHORT for it in found)
+    return (f"{len(found)} sessions, {len(fixed)} fixed, {sum(it.is_wrong for it in fixed)} wrongly; {beside} of them, of two and of five "
+            f"minutes, are in no table. `adjust` says `look` of the integers as real numbers in {sum(it.is_far for it in fixed)} of those "
+            "that were fixed.")
 
 
-# ---- the rule
+def span(found, km):
+    """From the least to the most of the medians of level quarters of an hour, in mm: one for each number of TECU."""
+    kind = next(it for it in QUARTERS if (it.km, it.height) == (km, 0))
+    middles = [statistics.median(had) for tecu in TECU if (had := errors(of_class(found, kind, tecu), ADJUST))]
+    return f"{min(middles):.0f} to {max(middles):.0f} mm"
 
 
-def chosen(it, limit):
-    """The error of a session by the rule with this limit, in km times the root of a minute."""
-    minutes = (it["kind"]["epochs"] - 1) / 2
-    return it["`ionosphere-free`" if it["kind"]["km"] * math.sqrt(minutes) > limit else "`both`"]
+def accuracy(found):
+    """README's figures."""
+    fixed = [it for it in found if it.is_fixed]
+    return (f"In a quarter of an hour the vector is {span(found, 1)} off at 1 km and {span(found, 10)} at 10 km (integers of `fix`, vector "
+            "of `baseline-survey adjust`; medians of simulated sessions, from night to noon at a solar maximum). "
+            f"Of {len(found)} sessions {len(fixed)} were fixed, {sum(it.is_wrong for it in fixed)} wrongly.")
 
 
-def rules():
-    """Each rule by its name: what it makes of a session."""
-    limits = {f"by length and time, over {limit:g}": functools.partial(chosen, limit=limit) for limit in (4, 6, 8, 11, 16)}
-    return {"`both` always": lambda it: it["`both`"], "`ionosphere-free` always": lambda it: it["`ionosphere-free`"],
-            "up to 3 km `both`": lambda it: it["`both`" if it["kind"]["km"] <= 3 else "`ionosphere-free`"], **limits,
-            "the better of each session": lambda it: min(it["`both`"], it["`ionosphere-free`"])}
+def lines(found, seeds):
+    """The lines of the guide."""
+    yield from (f"A quarter of an hour, {seeds} of each kind at other hours of the day:", "", *table(found, QUARTERS), "")
+    yield from (f"An hour with `--arc 30`, {seeds // 2} of each kind at other hours of the day:", "", *table(found, HOURS), "")
+    yield from (summary(found), "", counted(found), "", scale(found))
 
 
-def mean_error(sessions, rule):
-    """The mean over classes of the medians of their errors."""
-    classes = {}
-    for it in sessions:
-        classes.setdefault((it["kind"]["km"], it["kind"]["epochs"], it["tecu"]), []).append(rule(it))
-    return statistics.mean(map(statistics.median, classes.values()))
-
-
-def fitted(found):
-    """The lines of the table of the rules, and the limits that the halves ask for."""
-    level = [it for it in found if it["`both`"] is not None and it["kind"]["height"] == 0 and it["kind"]["km"] <= 10]
-    parts = [[it for it in level if it["seed"] % 2], [it for it in level if it["seed"] % 2 == 0], level]
-    limits = [1.1**k for k in range(-5, 40)]
-    best = [min(limits, key=lambda limit: mean_error(part, lambda it: chosen(it, limit))) for part in parts]
-    lines = ["| Rule | odd seeds, mm | even seeds, mm | all, mm |", "|---|---|---|---|"]
-    for name, rule in rules().items():
-        lines.append(f"| {name} | " + " | ".join(f"{mean_error(part, rule):.1f}" for part in parts) + " |")
-    asked = " and ".join(f"{limit:.1f} ({len(part)} sessions)" for limit, part in zip(best, parts[:2]))
-    lines += ["", f"The odd and the even seeds ask for a limit of {asked}, both together for {best[2]:.1f}; {FREE_FROM:g} is taken."]
-    return lines
-
-
-def report(found):
-    """The lines of the guide, and those of the survey's page."""
-    guide = []
-    for epochs, name in ((30, "A quarter of an hour"), (120, "An hour")):
-        kinds = [kind for kind in KINDS if kind.epochs == epochs]
-        seeds = [it["seed"] for it in found if it["kind"]["epochs"] == epochs]
-        guide += [f"{name}, {max(seeds)} of each kind:" if max(seeds) > 1 else f"{name}, one of each kind:", "", *table(found, kinds), ""] if seeds else []
-    return [*guide, summary(found), "", counted(found), "", scale(found)], fitted(found)
-
-
-def run(bench):
-    """Prints the tables, and with --page puts them into docs/GUIDE.md and survey/README.md."""
-    seeds = bench.options.seeds
-    with open(bench.options.results or os.path.join(bench.folder, "results"), "a+", encoding="ascii") as file:
-        file.seek(0)
-        found = [json.loads(line) for line in file]
-        known = {(tuple(it["kind"].values()), it["tecu"], it["seed"]) for it in found}
-        navigation = orbits.read_navigation(NAV)
-        every = itertools.product(range(1, seeds + 1), KINDS + SHORT, TECU)
-        for seed, kind, tecu in sorted(every, key=lambda it: it[1].epochs > 30):
-            if (seed <= seeds // 2 or kind.epochs <= 30) and (tuple(kind), tecu, seed) not in known:
-                found.append(errors_of(bench, kind, tecu, seed, navigation))
-                print(json.dumps(found[-1]), file=file, flush=True)
-    guide, rule = report(found)
-    print("\n".join(["", *guide, "", *rule]))
-    if bench.options.page:
-        marks.put("docs/GUIDE.md", "bench/atmosphere", "vectors", guide)
-        marks.put("survey/README.md", "bench/atmosphere", "rule", rule)
+def publish(bench, options):
+    """The guide's tables and README's figures."""
+    found = results(bench, options, keys_of(options.seeds))
+    marks.publish(options, SCRIPT, "vectors", lines(found, options.seeds))
+    marks.publish(options, SCRIPT, "accuracy", [accuracy(found)])
+    if not shutil.which("rnx2rtkp"):
+        print("\n`rnx2rtkp` isn't installed here.")

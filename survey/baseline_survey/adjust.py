@@ -223,8 +223,8 @@ def marks_of(vector: np.ndarray, place: np.ndarray, base: Header, rover: Header)
 
 def blocks(cert: Certificate, settings: Settings, count: int, whole: Optional[Adjustment] = None) -> Blocks:
     """The scatter of the vectors of blocks of `count` pairs each; integers, combination, air and weights are those of the whole. The
-    last block has at least half as many pairs. Over the root of their number the scatter is the standard deviation of the whole, where the errors
-    of different blocks are independent: choose blocks longer than the minutes for which multipath lasts, and at least four.
+    last block has at least half as many pairs. Over the root of their number the scatter is the standard deviation of the whole, where
+    the errors of different blocks are independent: choose blocks longer than the minutes for which multipath lasts, and at least four.
 
     Raises SurveyError with fewer than three blocks.
     """

@@ -28,37 +28,39 @@ def caveats(cert: Certificate, base: Header, rover: Header, done: Adjustment, pa
     """The sentences for this observation; first what stands out in it."""
     told = [f"{flag[0].upper()}{flag[1:]}." for flag in found.flags]
     if found.flags:
-        told.append("What stands out may be a low satellite, a reflection or a slip: a higher --mask of `fix`, or a part of the time without "
-                    "it, shows whether the vector holds.")
+        told.append("What stands out may be a low satellite, a reflection or a slip: a higher --mask of `fix`, or a part of the time "
+                    "without it, shows whether the vector holds.")
     for it in integers:
         if it.is_far:
-            told.append(f"The integers of {it}: with troposphere and weights another one may fit better. It is a slip inside its arc, or a wrong "
-                        "integer, or on a long line by day the ionosphere: `fix` without this satellite's time, or with --ratio 3000, shows which.")
+            told.append(f"The integers of {it}: with troposphere and weights another one may fit better. It is a slip inside its arc, or a "
+                        "wrong integer, or on a long line by day the ionosphere: `fix` without this satellite's time, or with --ratio "
+                        "3000, shows which.")
     is_corrected = any(comment.startswith(MARK) for header in (base, rover) for comment in header.comments)
     length, rise = float((done.enu_m[:2]**2).sum()**0.5), float(done.enu_m[2])
     if not any(done.vector_m.round(4)):
         told.append("The vector is 0: the same file stands for base and rover, or both receivers shared an antenna.")
     if found.ratio_asked < 2:
-        told.append(f"A ratio of {found.ratio_asked:g} was asked for; the usual one is 2. `certified` is about the ratio in the certificate.")
+        told.append(f"A ratio of {found.ratio_asked:g} was asked for; the usual one is 2. `certified` is about the ratio in the "
+                    "certificate.")
     told += _air(done, length, rise, is_corrected) + _ionosphere(cert, done, parts)
     seconds = (done.last - done.first).total_seconds()
     if seconds < SHORT_S:
-        told.append(f"The observation lasts {seconds / 60:.0f} minutes: reflections at the antennas, which turn in 5 to 20 minutes, aren't averaged. "
-                    "A longer observation, or one at another time of the day, shows how far the vector holds.")
+        told.append(f"The observation lasts {seconds / 60:.0f} minutes: reflections at the antennas, which turn in 5 to 20 minutes, aren't "
+                    "averaged. A longer observation, or one at another time of the day, shows how far the vector holds.")
     told += _antennas(base, rover, done)
     if parts is None:
         told.append("The observation is too short for a precision by parts: the formal standard deviations take the noise of each epoch as "
                     "independent and are three to ten times too small.")
     if is_corrected:
-        told.append("The observations were corrected before `fix` read them (the COMMENT lines of the files say how): the certificate speaks of "
-                    "the corrected files, whose checksums stand below.")
+        told.append("The observations were corrected before `fix` read them (the COMMENT lines of the files say how): the certificate "
+                    "speaks of the corrected files, whose checksums stand below.")
         if done.settings.troposphere:
             told.append("The troposphere was taken off the files already, and this adjustment took it off again: use --no-troposphere.")
         told += _wrong_height(rover, done)
     told.append("The base's coordinates are those of its file's header. An error there shifts the rover by as much, and 10 m of it change "
                 f"the vector by {10 / 4 * 1e-7 * math.hypot(length, rise) * 1000:.1f} mm.")
-    told.append("One observation can't show errors that belong to a station: a wrong antenna height, centring, the atmosphere. A loop of lines of one "
-                "time closes in spite of them. A second observation with a new set-up, on another day, shows them.")
+    told.append("One observation can't show errors that belong to a station: a wrong antenna height, centring, the atmosphere. A loop of "
+                "lines of one time closes in spite of them. A second observation with a new set-up, on another day, shows them.")
     return told
 
 
@@ -69,8 +71,8 @@ def _wrong_height(rover: Header, done: Adjustment) -> list[str]:
     off = float(geodesy.to_local(np.array(rover.position_m) - done.marks.rover_m, done.marks.rover_m)[2])
     if abs(off) < OFF_M:
         return []
-    return [f"The rover's delays were taken off at the height in its header, {abs(off):.0f} m too {'high' if off > 0 else 'low'}, which costs about "
-            f"{abs(off):.0f} mm: `rebase` the original file to the mark above, `correct` it and run `fix` again."]
+    return [f"The rover's delays were taken off at the height in its header, {abs(off):.0f} m too {'high' if off > 0 else 'low'}, which "
+            f"costs about {abs(off):.0f} mm: `rebase` the original file to the mark above, `correct` it and run `fix` again."]
 
 
 def _ionosphere(cert: Certificate, done: Adjustment, parts: Optional[Blocks]) -> list[str]:
@@ -85,8 +87,8 @@ def _ionosphere(cert: Certificate, done: Adjustment, parts: Optional[Blocks]) ->
     own = [max(float(a), float(b)) for a, b in zip(done.sd_enu_m, parts.sd_enu_m if parts else done.sd_enu_m)]
     if not any(abs(apart[i]) > 3 * math.hypot(float(own[i]), float(free.sd_enu_m[i])) for i in range(3)):
         return []
-    return [f"The ionosphere-free combination gives a vector that lies {numbers(1000 * apart, 1)} mm (east north up) from this one, more than the "
-            "noise of both: what remains of the ionosphere, or of reflections, is in one of them."]
+    return [f"The ionosphere-free combination gives a vector that lies {numbers(1000 * apart, 1)} mm (east north up) from this one, more "
+            "than the noise of both: what remains of the ionosphere, or of reflections, is in one of them."]
 
 
 def _air(done: Adjustment, length: float, rise: float, is_corrected: bool) -> list[str]:
@@ -95,15 +97,19 @@ def _air(done: Adjustment, length: float, rise: float, is_corrected: bool) -> li
     km = length / 1000
     if done.settings.combination != "ionosphere-free" and length > FAR_M:
         told.append(f"The stations are {km:.1f} km apart. What the ionosphere leaves in a vector of this length, with its height, is "
-                    f"about {km:.0f} mm at 5 TECU, {3.5 * km:.0f} mm at 20 and {7 * km:.0f} mm at 40. The option --combination ionosphere-free is free of it.")
+                    f"about {km:.0f} mm at 5 TECU, {3.5 * km:.0f} mm at 20 and {7 * km:.0f} mm at 40. The option --combination "
+                    "ionosphere-free is free of it.")
     if length > 10_000:
         told.append("Beyond 10 km what the atmosphere leaves can make wrong integers the best: ask `fix` for --ratio 3000.")
     if abs(rise) > HIGH_M:
-        own = "" if is_corrected else " The vector that `fix` itself prints has no troposphere and is off by about 1 mm for each metre of height."
-        told.append(f"The stations differ by {abs(rise):.0f} m in height.{own} The real air is warmer, moister or drier than the modelled one"
-                    + (f": the adjustment found {1000 * done.zenith_m:.0f} mm more delay at the zenith over the rover, with a standard deviation of "
-                       f"{1000 * done.zenith_sd_m:.0f} mm, which is in the precision." if done.zenith_m is not None and done.zenith_sd_m is not None
-                       else ", which leaves some mm for each 100 m."))
+        own = "" if is_corrected else (" The vector that `fix` itself prints has no troposphere and is off by about 1 mm for each metre of "
+                                       "height.")
+        left = ", which leaves some mm for each 100 m."
+        if done.zenith_m is not None and done.zenith_sd_m is not None:
+            left = (f": the adjustment found {1000 * done.zenith_m:.0f} mm more delay at the zenith over the rover, with a standard "
+                    f"deviation of {1000 * done.zenith_sd_m:.0f} mm, which is in the precision.")
+        told.append(f"The stations differ by {abs(rise):.0f} m in height.{own} The real air is warmer, moister or drier than the modelled "
+                    f"one{left}")
     if not done.settings.troposphere and not is_corrected:
         told.append("No troposphere was taken off: the vector is off by about 1 mm for each metre of height between the stations.")
     return told
@@ -113,9 +119,12 @@ def _antennas(base: Header, rover: Header, done: Adjustment) -> list[str]:
     told = []
     if done.settings.base_antenna is None:
         if not base.antenna or not rover.antenna:
-            told.append("A header names no antenna. Where the antennas are of different types, their phase centres differ by 20 to 60 mm in height.")
+            told.append("A header names no antenna. Where the antennas are of different types, their phase centres differ by 20 to 60 mm "
+                        "in height.")
         elif base.antenna.split() != rover.antenna.split():
-            told.append("The antennas differ, and no calibration was used (--atx): their phase centres may differ by 20 to 60 mm in height.")
+            told.append("The antennas differ, and no calibration was used (--atx): their phase centres may differ by 20 to 60 mm in "
+                        "height.")
     if not any(base.delta_m) and not any(rover.delta_m):
-        told.append("Both headers give 0 for the antenna's height over the mark: right only where the antennas' reference points are the marks.")
+        told.append("Both headers give 0 for the antenna's height over the mark: right only where the antennas' reference points are the "
+                    "marks.")
     return told

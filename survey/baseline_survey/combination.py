@@ -6,8 +6,8 @@ narrow lane's, with weights as the frequencies (0.7 times; Hofmann-Wellenhof, B.
 
 The rule. What the ionosphere leaves in `both` grows with the length between the receivers, and the noise that `ionosphere-free`
 triples falls with the root of the time. So `ionosphere-free` is taken where the length in km times the root of the minutes is over
-FREE_FROM. Neither the hour nor the sun is known to it: by night `both` is better at every length. FREE_FROM was fitted on half of
-the simulated sessions of `bench/atmosphere vectors` and tried on the other half (survey/README.md has what it gives).
+FREE_FROM. Neither the hour nor the sun is known to it: by night `both` is better at every length. FREE_FROM was fitted by
+`bench/fit_rule` to half of the simulated sessions, and tried on the other half (survey/README.md has what it gives).
 """
 from __future__ import annotations
 
@@ -22,7 +22,7 @@ from .errors import SurveyError
 COMBINATIONS = ("both", "ionosphere-free", "narrow")
 BY_RULE = "by-rule"
 # In km times the root of a minute.
-FREE_FROM = 8.0
+FREE_FROM = 10.0
 
 
 @dataclass(frozen=True)
@@ -32,19 +32,22 @@ class Choice:
     why: str
 
 
+def reach(length_m: float, seconds: float) -> float:
+    """What the rule goes by: the length in km times the root of the minutes."""
+    return length_m / 1000 * math.sqrt(seconds / 60)
+
+
 def chosen(asked: str, length_m: float, seconds: float) -> Choice:
     """The combination that was asked for or, where the rule was, the one by length and time. SurveyError for another word."""
     if asked in COMBINATIONS:
         return Choice(asked, "as asked")
     if asked != BY_RULE:
         raise SurveyError(f"the combination is one of {', '.join((BY_RULE, *COMBINATIONS))}: {asked}")
-    minutes = seconds / 60
-    from_km = FREE_FROM / math.sqrt(minutes) if minutes > 0 else math.inf
-    is_free = length_m / 1000 > from_km
+    is_free = reach(length_m, seconds) > FREE_FROM
     side = "beyond" if is_free else "within"
-    until = f"{from_km:.1f} km" if math.isfinite(from_km) else "any length"
+    until = f"{FREE_FROM / math.sqrt(seconds / 60):.1f} km" if seconds > 0 else "any length"
     return Choice("ionosphere-free" if is_free else "both",
-                  f"by the rule: {length_m / 1000:.1f} km in {minutes:.1f} minutes is {side} {until}")
+                  f"by the rule: {length_m / 1000:.1f} km in {seconds / 60:.1f} minutes is {side} {until}")
 
 
 def combinations(bands: tuple[int, ...], combination: str) -> tuple[tuple[str, ...], np.ndarray]:

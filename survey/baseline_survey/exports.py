@@ -2,7 +2,7 @@
 
 | Form | For | What is written | The form's source |
 |---|---|---|---|
-| `gama` | GNU Gama, gama-local | the observed vectors with covariances, held and approximate coordinates | GNU Gama manual, "XML input data format for gama-local" |
+| `gama` | GNU Gama | observed vectors with covariances, held and approximate places | manual, "XML input data format for gama-local" |
 | `sinex` | scientific packages | adjusted coordinates with their whole covariance | SINEX 2.02, 1 December 2006 (IERS) |
 
 Both were written from these descriptions. The tests read each file back by a reader of their own; no such program read them.

@@ -33,7 +33,8 @@ class NetworkError(SurveyError):
 @dataclass(frozen=True)
 class Line:
     """One observed vector: from and to a station, vector in m (3), its covariance in m^2 (3 x 3), the time of its first
-    and last pair, the base's place in m by the certificate, the satellites' system (G or E), and the certificate's file."""
+    and last pair, the base's place in m by the certificate, the satellites' system (G or E), the certificate's file, and which
+    combination of the phases was adjusted."""
 
     start: str
     end: str
@@ -44,6 +45,7 @@ class Line:
     base: np.ndarray
     system: str
     name: str
+    combination: str
 
 
 @dataclass(frozen=True)
@@ -123,7 +125,8 @@ def observe(entry: Entry, how: Reading) -> Line:
         raise NetworkError(f"{path}: {why}") from None
     covariance = how.scale**2 * done.covariance_m2 + how.plus_m**2 * np.eye(3)
     vector = done.marks.vector_m if done.marks else done.vector_m
-    return Line(entry.start, entry.end, vector, covariance, done.first, done.last, done.base_m, cert.system, entry.certificate)
+    return Line(entry.start, entry.end, vector, covariance, done.first, done.last, done.base_m, cert.system, entry.certificate,
+                done.choice.combination)
 
 
 def observe_all(entries: Sequence[Entry], how: Reading) -> list[Line]:

@@ -201,7 +201,8 @@ def position(record: Record, times: np.ndarray) -> np.ndarray:
     i = record.i0 + record.idot * tk + record.cis * s + record.cic * c
     node = record.node + (record.node_rate - TURN) * tk - TURN * record.toe_of_week
     x, y = r * np.cos(u), r * np.sin(u)
-    return np.stack([x * np.cos(node) - y * np.cos(i) * np.sin(node), x * np.sin(node) + y * np.cos(i) * np.cos(node), y * np.sin(i)], axis=-1)
+    level = y * np.cos(i)
+    return np.stack([x * np.cos(node) - level * np.sin(node), x * np.sin(node) + level * np.cos(node), y * np.sin(i)], axis=-1)
 
 
 def seen(record: Record, times: np.ndarray, place: np.ndarray) -> np.ndarray:
@@ -211,9 +212,9 @@ def seen(record: Record, times: np.ndarray, place: np.ndarray) -> np.ndarray:
     """
     travel = np.full(len(times), 0.075)
     for _ in range(3):
-        xyz = position(record, times - travel)
+        x, y, z = position(record, times - travel).T
         a = TURN * travel
-        turned = np.stack([xyz[:, 0] * np.cos(a) + xyz[:, 1] * np.sin(a), xyz[:, 1] * np.cos(a) - xyz[:, 0] * np.sin(a), xyz[:, 2]], axis=-1)
+        turned = np.stack([x * np.cos(a) + y * np.sin(a), y * np.cos(a) - x * np.sin(a), z], axis=-1)
         away = turned - place
         travel = np.linalg.norm(away, axis=1) / LIGHT
     return away
@@ -229,7 +230,8 @@ def elevation_azimuth(away: np.ndarray, latitude: float, longitude: float) -> tu
     return np.arctan2(up, np.hypot(east, north)), np.arctan2(east, north)
 
 
-def klobuchar_delay(model: Klobuchar, latitude: float, longitude: float, elevation: np.ndarray, azimuth: np.ndarray, times: np.ndarray) -> np.ndarray:
+def klobuchar_delay(model: Klobuchar, latitude: float, longitude: float, elevation: np.ndarray, azimuth: np.ndarray,
+                    times: np.ndarray) -> np.ndarray:
     """The broadcast ionosphere's delay of a code on L1 in m (shape n), IS-GPS-200 20.3.3.5.2.5.
 
     Latitude, longitude, elevations and azimuths in radians, times in s since 1980-01-06. On a carrier of f the delay is

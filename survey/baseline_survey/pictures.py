@@ -166,7 +166,8 @@ def series_picture(done: alarm.Series, title: str) -> Figure:
         panels[-1].xaxis.set_major_locator(locator)
         panels[-1].xaxis.set_major_formatter(dates.ConciseDateFormatter(locator))
     panels[0].set_title(visible(title))
-    panels[-1].set_xlabel("less the reference, with one standard deviation; dashed: alarm of a typical session; red: alarm; orange: no fix", color=GREY)
+    panels[-1].set_xlabel("less the reference, with one standard deviation; dashed: alarm of a typical session; red: alarm; "
+                          "orange: no fix", color=GREY)
     figure.align_ylabels(panels)
     figure.subplots_adjust(hspace=0.12)
     return figure

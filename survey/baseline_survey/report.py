@@ -20,7 +20,7 @@ import numpy as np
 from markupsafe import Markup
 
 from . import __version__, certificate, geodesy, pictures
-from .adjust import Adjustment, Blocks, Settings, adjust, blocks
+from .adjust import Adjustment, Blocks, Settings, Statistic, adjust, blocks
 from .caveats import caveats
 from .certificate import Certificate
 from .combination import combinations
@@ -76,7 +76,8 @@ class Report:
     @property
     def looks(self) -> bool:
         """Whether a person should look: the observation stands out, or a check says other than it should."""
-        return self.quality.looks or any(it.is_far for it in self.integers) or self.verdicts.verified is False or self.verdicts.check not in ("", "certified")
+        is_doubted = self.verdicts.verified is False or self.verdicts.check not in ("", "certified")
+        return self.quality.looks or any(it.is_far for it in self.integers) or is_doubted
 
     @property
     def sd_enu_m(self) -> list[float]:
@@ -140,7 +141,8 @@ def view(report: Report) -> dict[str, Any]:
     marks = done.marks
     azimuth, zenith, slope = geodesy.azimuth_zenith(marks.enu_m)
     parts = report.blocks
-    drawn = {"residuals": functools.partial(pictures.residuals_by_satellite, done.residuals), "sky": functools.partial(pictures.sky, done.residuals)}
+    drawn = {"residuals": functools.partial(pictures.residuals_by_satellite, done.residuals),
+             "sky": functools.partial(pictures.sky, done.residuals)}
     if parts is not None:
         drawn["parts"] = functools.partial(pictures.parts, parts, report.sd_enu_m)
     return {
@@ -151,8 +153,9 @@ def view(report: Report) -> dict[str, Any]:
         "has_deltas": any(report.base.delta_m) or any(report.rover.delta_m), "calibrated": done.settings.base_antenna is not None,
         "slope": number(slope, 4), "level": number(math.hypot(*marks.enu_m[:2]), 4), "azimuth": angle(azimuth), "zenith": angle(zenith),
         "rise": number(geodesy.geodetic(marks.rover_m)[2] - geodesy.geodetic(marks.base_m)[2], 4),
-        "precision": _precision(report), "covariance": [numbers(1e6 * row, 3) for row in done.covariance_m2], "sigma0": number(done.sigma0, 2),
-        "model": _model(done), "statistics": _statistics(report), "signals": _signals(report), "caveats": [visible(it) for it in report.caveats],
+        "precision": _precision(report), "covariance": [numbers(1e6 * row, 3) for row in done.covariance_m2],
+        "sigma0": number(done.sigma0, 2), "model": _model(done), "statistics": _statistics(report), "signals": _signals(report),
+        "caveats": [visible(it) for it in report.caveats],
         "checksums": [(role, visible(os.path.basename(name)), told) for role, name, told in report.checksums],
         "command": _command(report), "certificate": shlex.quote(visible(os.path.basename(report.checksums[0][1]))),
         "files": " ".join(shlex.quote(visible(os.path.basename(name))) for _, name, _ in report.checksums[1:]),
@@ -163,10 +166,12 @@ def view(report: Report) -> dict[str, Any]:
 
 def _station(role: str, header: Header, mark: Any) -> dict[str, Any]:
     lat, lon, height = geodesy.geodetic(mark)
-    return {"role": role, "name": visible(header.marker) or "(no name)", "number": visible(header.marker_number), "receiver": visible(header.receiver),
-            "receiver_number": visible(header.receiver_number), "antenna": visible(header.antenna), "antenna_number": visible(header.antenna_number),
-            "delta": numbers(header.delta_m, 4), "xyz": numbers(mark, 4), "lat": angle(lat, "NS", 5), "lon": angle(lon, "EW", 5), "height": number(height, 4),
-            "comments": [visible(it) for it in header.comments if it.startswith(("baseline-survey", "of ", "at height", "ionosphere", "rebased"))]}
+    own = ("baseline-survey", "of ", "at height", "ionosphere", "rebased")
+    return {"role": role, "name": visible(header.marker) or "(no name)", "number": visible(header.marker_number),
+            "receiver": visible(header.receiver), "receiver_number": visible(header.receiver_number), "antenna": visible(header.antenna),
+            "antenna_number": visible(header.antenna_number), "delta": numbers(header.delta_m, 4), "xyz": numbers(mark, 4),
+            "lat": angle(lat, "NS", 5), "lon": angle(lon, "EW", 5), "height": number(height, 4),
+            "comments": [visible(it) for it in header.comments if it.startswith(own)]}
 
 
 def angle(value: float, sides: str = "", places: int = 2) -> str:
@@ -185,8 +190,9 @@ def _observed(report: Report) -> dict[str, Any]:
     arcs = [f"{cert.satellite(k)} ({it.first} to {it.last}{', datum' if it.is_datum else ''})" for k, it in enumerate(cert.arcs)]
     return {"date": f"{done.first:%Y-%m-%d}", "first": moment(done.first), "last": moment(done.last),
             "minutes": number((done.last - done.first).total_seconds() / 60, 1), "pairs": len(cert.pairs),
-            "interval": number(gaps[len(gaps) // 2], 1) if gaps else "", "of": min(report.base.epochs, report.rover.epochs), "system": system,
-            "codes": codes, "arcs": arcs, "satellites": len(report.quality.satellites), "least": report.quality.satellites_least,
+            "interval": number(gaps[len(gaps) // 2], 1) if gaps else "", "of": min(report.base.epochs, report.rover.epochs),
+            "system": system, "codes": codes, "arcs": arcs, "satellites": len(report.quality.satellites),
+            "least": report.quality.satellites_least,
             "integers": sum(not it.is_datum for it in cert.arcs) * len(cert.bands)}
 
 
@@ -194,12 +200,13 @@ def _verdicts(report: Report) -> dict[str, Any]:
     cert, told = report.cert, report.verdicts
     reached, bound = cert.ratio_reached, report.quality.second.greatest_bound_mm
     worst = max(report.integers, key=lambda it: abs(it.off), default=None)
+    found = report.quality
     return {"last": cert.tail.verdict, "check": visible(told.check), "verified": told.verified, "asked": number(cert.ratio / 1000, 1),
             "reached": "beyond any" if reached is None else number(reached, 1),
             "second": report.quality.second.verdict, "bound": "" if bound is None else number(bound, 2),
             "integer": f"{abs(worst.off):.2f} cycles ({worst.signal} of {worst.satellite})" if worst else "",
-            "rms": number(1000 * report.quality.rms_m, 1), "greatest": number(1000 * report.quality.greatest_m, 1),
-            "greatest_of": f"{report.quality.greatest_signal} of {report.quality.greatest_satellite} at {clock(report.quality.greatest_at)}"}
+            "rms": number(1000 * found.rms_m, 1), "greatest": number(1000 * found.greatest_m, 1),
+            "greatest_of": f"{found.greatest_signal} of {found.greatest_satellite} at {clock(found.greatest_at)}"}
 
 
 def _precision(report: Report) -> list[tuple[str, str, str, str]]:
@@ -214,10 +221,12 @@ def _model(done: Adjustment) -> str:
     settings = done.settings
     weights = "; outliers count less (Huber) or not at all" if settings.robust else ""
     air = "troposphere by Saastamoinen (1972) with Niell's mapping function (1996)" if settings.troposphere else "no troposphere taken off"
-    phases = {"both": "the phases of all bands, each for itself", "ionosphere-free": "the ionosphere-free combination", "narrow": "the narrow-lane combination"}
+    phases = {"both": "the phases of all bands, each for itself", "ionosphere-free": "the ionosphere-free combination",
+              "narrow": "the narrow-lane combination"}
     centres = "phase centres by ANTEX" if settings.base_antenna else "no phase centres applied"
-    return (f"integers held; {phases[settings.combination]} ({done.choice.why}); weights by {1000 * settings.sigma_a_m:g}² + {1000 * settings.sigma_b_m:g}²/sin² of the "
-            f"elevation, mm²{weights}; {air}; {centres}" + ("; difference of the zenith delays estimated" if done.zenith_m is not None else ""))
+    zenith = "; difference of the zenith delays estimated" if done.zenith_m is not None else ""
+    return (f"integers held; {phases[settings.combination]} ({done.choice.why}); weights by {1000 * settings.sigma_a_m:g}² + "
+            f"{1000 * settings.sigma_b_m:g}²/sin² of the elevation, mm²{weights}; {air}; {centres}{zenith}")
 
 
 def _signals(report: Report) -> list[str]:
@@ -233,11 +242,16 @@ def _statistics(report: Report) -> list[dict[str, Any]]:
     for satellite in sorted({it.satellite for it in report.adjustment.statistics}):
         own = [known.get((satellite, signal)) for signal in _signals(report)]
         there = [it for it in own if it]
-        cells = [{"n": it.n, "rms": number(1000 * it.rms_m, 1), "greatest": number(1000 * it.greatest_m, 1), "over": it.greatest_m > limits[it.signal], "out": it.left_out} if it
-                 else None for it in own]
+        cells = [_cell(it, limits[it.signal]) if it else None for it in own]
         rows.append({"satellite": satellite, "from": number(math.degrees(min(it.elevation_least for it in there)), 0),
                      "to": number(math.degrees(max(it.elevation_greatest for it in there)), 0), "cells": cells})
     return rows
+
+
+def _cell(it: Statistic, limit_m: float) -> dict[str, Any]:
+    """What the page has of a satellite's residuals in a signal."""
+    return {"n": it.n, "rms": number(1000 * it.rms_m, 1), "greatest": number(1000 * it.greatest_m, 1), "over": it.greatest_m > limit_m,
+            "out": it.left_out}
 
 
 def _command(report: Report) -> str:
@@ -245,4 +259,5 @@ def _command(report: Report) -> str:
     if report.verdicts.options is not None:
         return " ".join(["baseline", "fix", *names, *map(shlex.quote, report.verdicts.options)])
     cert = report.cert
-    return f"baseline fix {' '.join(names)} --ratio {cert.ratio} --budget {cert.budget} --system {cert.system} --bands {''.join(map(str, cert.bands))} .."
+    bands = "".join(map(str, cert.bands))
+    return f"baseline fix {' '.join(names)} --ratio {cert.ratio} --budget {cert.budget} --system {cert.system} --bands {bands} .."

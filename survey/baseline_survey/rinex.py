@@ -379,7 +379,8 @@ def _comment(content: str) -> str:
     return f"{content[:60]:<60}COMMENT"
 
 
-def _change(lines: list[str], at: int, number: int, kind: str, frequency: float, metres: float, ions: float, version: int, told: Corrected) -> bool:
+def _change(lines: list[str], at: int, number: int, kind: str, frequency: float, metres: float, ions: float, version: int,
+            told: Corrected) -> bool:
     """Changes one value in place; says whether there was one."""
     if version == 3:
         column = 3 + 16 * number

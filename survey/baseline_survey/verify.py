@@ -68,7 +68,8 @@ def pairs_of(words: Sequence[str]) -> list[tuple[str, str]]:
     return told
 
 
-def verify(data: bytes, name: str, base: str, rover: str, navigation: str, more: Sequence[str] = (), named_program: Optional[str] = None) -> Verified:
+def verify(data: bytes, name: str, base: str, rover: str, navigation: str, more: Sequence[str] = (),
+           named_program: Optional[str] = None) -> Verified:
     """Runs `fix` again for the certificate in `data`, or `track` for that of a track, and compares. CertificateError where it is none,
     ProgramError where the program isn't found or refuses the files."""
     cert = certificate.read(data, name)

@@ -55,7 +55,8 @@ def made(vector: Sequence[float] = (2022.7734, -468.6314, 2610.2876), base: Sequ
     lines = ["baseline-cert 2", "ratio 2000", "budget 1000000", f"system {system}", "base " + tenths(base), "point " + tenths(point),
              {(1, 2): "signals 12 C W", (1, 5): "signals 15 C Q", (1, 2, 5): "signals 125 C W Q"}[tuple(bands)], f"arcs {satellites}"]
     for k in range(satellites):
-        lines.append(f"arc {k + 1} 0 {pairs - 1} {'datum' if k == 0 else 'free'} " + " ".join(str(dice.randint(-10**6, 10**6)) for _ in bands))
+        shifts = " ".join(str(dice.randint(-10**6, 10**6)) for _ in bands)
+        lines.append(f"arc {k + 1} 0 {pairs - 1} {'datum' if k == 0 else 'free'} {shifts}")
     lines.append(f"pairs {pairs}")
     start = round((START - datetime(1980, 1, 6)).total_seconds()) * 10**7
     for number in range(pairs):
@@ -70,7 +71,9 @@ def made(vector: Sequence[float] = (2022.7734, -468.6314, 2610.2876), base: Sequ
             for is_phase, band in SIGNALS:
                 if band not in bands:
                     continue
-                extra = change + clocks[is_phase, band] + (longer(band, "rover", place - rover, time) - longer(band, "base", place - base, time) if longer else 0.0)
+                extra = change + clocks[is_phase, band]
+                if longer:
+                    extra += longer(band, "rover", place - rover, time) - longer(band, "base", place - base, time)
                 if is_phase:
                     extra += cycles[k][bands.index(band)] * WAVELENGTH[band] * IOTA_M + dice.gauss(0, noise_m)
                     extra += phase(band, k, number) if phase else 0.0
@@ -79,7 +82,8 @@ def made(vector: Sequence[float] = (2022.7734, -468.6314, 2610.2876), base: Sequ
     move = [round(x / IOTA_M * 2**5) for x in rover - point]
     integers = " ".join(str(n) for row in cycles[1:] for n in row)
     top = 10**9
-    lines += ["z1 " + integers, "z2 " + integers, "move " + " ".join(map(str, move)), f"values 40 {top} {round(64 * top * ratio_reached)} {top}", verdict]
+    lines += ["z1 " + integers, "z2 " + integers, "move " + " ".join(map(str, move)),
+              f"values 40 {top} {round(64 * top * ratio_reached)} {top}", verdict]
     return Made(("\n".join(lines) + "\n").encode("ascii"), vector, base)
 
 

@@ -85,7 +85,8 @@ def test_the_air_between_two_heights_is_an_unknown():
     errors of made surveys are as large as their standard deviations say."""
     vector, errors, plain = (800.0, -200.0, 500.0), [], []
     for seed in range(12):
-        survey = made(vector, longer=troposphere(vector, random.Random(seed).gauss(0, 0.0128)), pairs=20, step=60.0, noise_m=0.003, seed=seed)
+        survey = made(vector, longer=troposphere(vector, random.Random(seed).gauss(0, 0.0128)), pairs=20, step=60.0, noise_m=0.003,
+                      seed=seed)
         cert = read_fixed(survey.text)
         found, without = adjust(cert, Settings(sigma_b_m=0.0)), adjust(cert, Settings(sigma_b_m=0.0, zenith_per_m=0.0))
         assert found.zenith_m is not None and without.zenith_m is None
@@ -114,7 +115,8 @@ def test_real_integers_find_the_wrong_one():
 
 def test_the_rule():
     """Short lines and short times take both, long ones the combination without ionosphere; a word that is asked for counts."""
-    for length, seconds, taken in ((500, 870, "both"), (3300, 870, "ionosphere-free"), (3300, 60, "both"), (3300, 0, "both"), (900, 3570, "both"), (20_000, 300, "ionosphere-free")):
+    for length, seconds, taken in ((500, 870, "both"), (3300, 870, "ionosphere-free"), (3300, 60, "both"), (3300, 0, "both"),
+                                   (900, 3570, "both"), (20_000, 300, "ionosphere-free")):
         choice = chosen(BY_RULE, length, seconds)
         assert choice.combination == taken and choice.why.startswith("by the rule: ")
     assert chosen("narrow", 1e5, 1e5) == Choice("narrow", "as asked")
@@ -126,7 +128,8 @@ def test_the_ionosphere_free_combination_is():
     vector = (12_000.0, 8_000.0, 9_000.0)
     ends = {"base": np.array(BASE), "rover": np.array(BASE) + np.array(vector)}
     survey = made(vector, longer=lambda band, which, toward, time: -ionosphere(toward, ends[which], band), pairs=10, step=60.0)
-    errors = {it: np.linalg.norm(adjust(read_fixed(survey.text), replace(PLAIN, combination=it)).vector_m - survey.vector_m) for it in COMBINATIONS}
+    found = {it: adjust(read_fixed(survey.text), replace(PLAIN, combination=it)) for it in COMBINATIONS}
+    errors = {name: np.linalg.norm(it.vector_m - survey.vector_m) for name, it in found.items()}
     assert errors["ionosphere-free"] < 1e-5 < 5e-3 < min(errors["both"], errors["narrow"])
 
 
@@ -181,7 +184,8 @@ def test_common_terms_are_double_differences():
         inside = found.residuals.pair == pair.number
         elevation = found.residuals.elevation[inside][::2]
         for column, wavelength in ((0, 1380), (1, 1771)):
-            y = np.array([row.observed[column] / 2**13 - cert.cycles(row.arc)[column] * wavelength for row in pair.rows]) * 299_792_458 / 2_174_079_600_000
+            y = np.array([row.observed[column] / 2**13 - cert.cycles(row.arc)[column] * wavelength for row in pair.rows])
+            y *= 299_792_458 / 2_174_079_600_000
             n = len(y)
             differences = np.hstack([-np.ones((n - 1, 1)), np.eye(n - 1)])
             variance = np.diag(found.residuals.sigma_m[inside][column::2]**2)
@@ -208,13 +212,15 @@ def test_weights_by_elevation_lessen_low_satellites():
     """A low satellite that is 30 mm off moves the vector less than with equal weights."""
     survey = made((500.0, 100.0, 300.0), pairs=5, phase=lambda band, k, number: 0.03 if k == 6 else 0.0)
     cert = read_fixed(survey.text)
-    off = [np.linalg.norm(adjust(cert, Settings(0.003, b, troposphere=False, robust=False, zenith_per_m=0.0)).vector_m - survey.vector_m) for b in (0.0, 0.003, 0.006)]
+    found = [adjust(cert, Settings(0.003, b, troposphere=False, robust=False, zenith_per_m=0.0)) for b in (0.0, 0.003, 0.006)]
+    off = [np.linalg.norm(it.vector_m - survey.vector_m) for it in found]
     assert off[0] > off[1] > off[2] > 0
 
 
 def test_outliers_are_left_out():
     """A low satellite that is 40 mm off in 12 of 30 pairs, as a reflection does it: the plain adjustment is centimetres off."""
-    survey = made((2000.0, -400.0, 2600.0), pairs=30, noise_m=0.003, seed=4, phase=lambda band, k, number: 0.04 if k == 6 and number < 12 else 0.0)
+    survey = made((2000.0, -400.0, 2600.0), pairs=30, noise_m=0.003, seed=4,
+                  phase=lambda band, k, number: 0.04 if k == 6 and number < 12 else 0.0)
     cert = read_fixed(survey.text)
     robust, plain = adjust(cert, replace(PLAIN, robust=True)), adjust(cert, PLAIN)
     assert np.linalg.norm(plain.vector_m - survey.vector_m) > 0.005 > 0.002 > np.linalg.norm(robust.vector_m - survey.vector_m)
@@ -306,12 +312,14 @@ def test_what_has_no_vector():
         adjust(read(made(verdict="declined unseparated").text))
     with pytest.raises(SurveyError, match="Earth|horizon"):
         adjust(read(made().text.replace(b"\nbase -", b"\nbase ")))
-    zeros = b"\n".join(b" ".join(line.split(b" ")[:-6] + [b"0"] * 6) if line.startswith(b"row") else line for line in made().text.split(b"\n"))
+    lines = made().text.split(b"\n")
+    zeros = b"\n".join(b" ".join(it.split(b" ")[:-6] + [b"0"] * 6) if it.startswith(b"row") else it for it in lines)
     with pytest.raises(SurveyError, match="length 1"):
         adjust(read(zeros))
 
 
-WILD = ["0", "1", "-1", "16777216", "17179869184", "-17179869184", "1048576", "9223372036854775807", "70000000000", "1073741823", "70368744177663"]
+WILD = ["0", "1", "-1", "16777216", "17179869184", "-17179869184", "1048576", "9223372036854775807", "70000000000", "1073741823",
+        "70368744177663"]
 
 
 @pytest.mark.filterwarnings("error")
@@ -336,7 +344,8 @@ def test_wild_numbers_are_adjusted_or_refused():
     assert done > 100
 
 
-@pytest.mark.parametrize("words", [dict(combination="wide"), dict(sigma_a_m=-1), dict(sigma_a_m=math.nan), dict(sigma_a_m=0, sigma_b_m=0), dict(zenith_sd_m=0)])
+@pytest.mark.parametrize("words", [dict(combination="wide"), dict(sigma_a_m=-1), dict(sigma_a_m=math.nan), dict(sigma_a_m=0, sigma_b_m=0),
+                                   dict(zenith_sd_m=0)])
 def test_impossible_settings(words):
     with pytest.raises(SurveyError):
         Settings(**words)

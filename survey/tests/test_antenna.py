@@ -68,7 +68,8 @@ def test_which_antenna():
     assert find_antenna(known, "TRM29659.00").serial == "" and find_antenna(known, "TRM29659.00     NONE", "12345").serial == "12345"
     assert find_antenna(known, "TRM29659.00", "99").serial == ""
     assert kind_of("TRM29659.00") == FLAT and kind_of("LEIAT504        LEIS") == ROUGH
-    for name, reason in (("TRM29659.00     SCIT", "radome NONE alone"), ("ASH700936D_M", "no antenna ASH700936D_M NONE"), ("", "names no antenna")):
+    for name, reason in (("TRM29659.00     SCIT", "radome NONE alone"), ("ASH700936D_M", "no antenna ASH700936D_M NONE"),
+                         ("", "names no antenna")):
         with pytest.raises(AntexError, match=reason):
             find_antenna(known, name)
     with pytest.raises(AntexError, match="no frequency E05"):
@@ -76,10 +77,15 @@ def test_which_antenna():
 
 
 @pytest.mark.parametrize("text, reason", [
-    (b"", "not ANTEX"), (antex(version="     1.2            M"), "not ANTEX"), (TEXT[:2000], ""), (TEXT[:TEXT.index(b"END OF ANTENNA") - 60], "ends in an antenna"),
-    (TEXT.replace(b"     90.00 ", b"     90.0x "), "no number: 90.0x"), (TEXT.replace(b"   NOAZI    0.00", b"   NOAZI     nan"), "no number"),
-    (TEXT.replace(b"     0.0  90.0  45.0", b"     0.0  90.0  40.0"), "grid"), (TEXT.replace(b"     0.0  90.0  45.0", b"     0.0  90.0   0.0"), "grid"),
-    (TEXT.replace(b"   270.0    0.00    7.00", b"   280.0    0.00    7.00"), "azimuth"), (TEXT.replace(b"\n    90.0    ", b"\n    77.0    "), "no grid of azimuths"), (TEXT.replace(b"NORTH / EAST / UP", b"COMMENT          "), "complete")])
+    (b"", "not ANTEX"), (antex(version="     1.2            M"), "not ANTEX"), (TEXT[:2000], ""),
+    (TEXT[:TEXT.index(b"END OF ANTENNA") - 60], "ends in an antenna"),
+    (TEXT.replace(b"     90.00 ", b"     90.0x "), "no number: 90.0x"),
+    (TEXT.replace(b"   NOAZI    0.00", b"   NOAZI     nan"), "no number"),
+    (TEXT.replace(b"     0.0  90.0  45.0", b"     0.0  90.0  40.0"), "grid"),
+    (TEXT.replace(b"     0.0  90.0  45.0", b"     0.0  90.0   0.0"), "grid"),
+    (TEXT.replace(b"   270.0    0.00    7.00", b"   280.0    0.00    7.00"), "azimuth"),
+    (TEXT.replace(b"\n    90.0    ", b"\n    77.0    "), "no grid of azimuths"),
+    (TEXT.replace(b"NORTH / EAST / UP", b"COMMENT          "), "complete")])
 def test_bad_files(text, reason):
     assert text != TEXT
     with pytest.raises(AntexError, match=reason) as found:

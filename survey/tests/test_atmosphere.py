@@ -92,7 +92,8 @@ def test_the_delay_falls_with_the_height():
     assert 0.027 < level - up < 0.034
 
 
-@pytest.mark.parametrize("words", [dict(pressure_hpa=0), dict(pressure_hpa=math.nan), dict(temperature_k=20), dict(humidity=50), dict(height_m=1e5)])
+@pytest.mark.parametrize("words",
+                         [dict(pressure_hpa=0), dict(pressure_hpa=math.nan), dict(temperature_k=20), dict(humidity=50), dict(height_m=1e5)])
 def test_impossible_weather(words):
     with pytest.raises(SurveyError, match="must be"):
         Weather(**words)

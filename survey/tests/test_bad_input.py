@@ -58,7 +58,8 @@ def test_packed_files(folder, which, kind, command_named):
 
 
 @pytest.mark.parametrize("data, part", [
-    (b"declined few 30\n", "no certificate: declined few 30"), (b"declined unseparated\n", "declined unseparated"), (b"baseline-cert 1\nratio 2000\n", "baseline migrate"),
+    (b"declined few 30\n", "no certificate: declined few 30"), (b"declined unseparated\n", "declined unseparated"),
+    (b"baseline-cert 1\nratio 2000\n", "baseline migrate"),
     (None, "the text ends early"), (b"", "no certificate")])
 def test_declines_cut_texts_and_version_1(folder, data, part):
     good = (folder / NAMES[CERT]).read_bytes()
@@ -68,7 +69,8 @@ def test_declines_cut_texts_and_version_1(folder, data, part):
 def test_another_session(folder):
     """The headers of another day, of another base, and both exchanged."""
     base, rover = ((folder / NAMES[it]).read_bytes() for it in (BASE, ROVER))
-    cases = [(BASE, base.replace(b"> 2005 04 02", b"> 2006 04 02"), "another time"), (ROVER, rover.replace(b"> 2005 04 02", b"> 2005 04 03"), "another time"),
+    cases = [(BASE, base.replace(b"> 2005 04 02", b"> 2006 04 02"), "another time"),
+             (ROVER, rover.replace(b"> 2005 04 02", b"> 2005 04 03"), "another time"),
              (BASE, base.replace(b"-3978242.4348", b"-3978252.4348"), "another base"), (BASE, rover, "another base")]
     for which, data, part in cases:
         good = (folder / NAMES[which]).read_bytes()

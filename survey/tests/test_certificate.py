@@ -16,7 +16,8 @@ EXAMPLE = (repository() / "examples" / "g2_quarter.cert").read_bytes()
 SMALL = made(pairs=2, satellites=4).text
 THREE = made(pairs=2, satellites=4, bands=(1, 2, 5)).text
 GALILEO = made(pairs=2, satellites=4, bands=(1, 5), system="E").text
-TRACK = (b"\n".join([b"baseline-track 1"] + [line for line in SMALL.split(b"\n")[1:] if not line.startswith((b"point", b"move", b"values", b"fixed", b"pair "))][:-1]) + b"\n")
+OF_FIX = (b"point", b"move", b"values", b"fixed", b"pair ")
+TRACK = b"\n".join([b"baseline-track 1", *[line for line in SMALL.split(b"\n")[1:] if not line.startswith(OF_FIX)][:-1]]) + b"\n"
 
 
 def reads(text: bytes) -> bool:
@@ -67,11 +68,15 @@ def test_good_texts_are_read(text):
 
 
 @pytest.mark.parametrize("text, line, reason", [
-    (b"", 1, "no certificate"), (b"declined few 30\n", 1, "no certificate: declined few 30"), (b"baseline-cert 1\n", 1, "version 1"), (b"hello\n", 1, "no certificate"),
-    (EXAMPLE[:-1], 261, "no end"), (EXAMPLE[:5000], None, ""), (EXAMPLE[:EXAMPLE.index(b"z1")], 257, "ends early"), (EXAMPLE + b"\n", 262, "bad line"),
-    (EXAMPLE.replace(b"ratio 2000", b"ratio +2000"), 2, "column 1: bad line"), (EXAMPLE.replace(b"ratio 2000", b"ratio 100001"), 2, "column 7: number out of range"),
+    (b"", 1, "no certificate"), (b"declined few 30\n", 1, "no certificate: declined few 30"), (b"baseline-cert 1\n", 1, "version 1"),
+    (b"hello\n", 1, "no certificate"),
+    (EXAMPLE[:-1], 261, "no end"), (EXAMPLE[:5000], None, ""), (EXAMPLE[:EXAMPLE.index(b"z1")], 257, "ends early"),
+    (EXAMPLE + b"\n", 262, "bad line"),
+    (EXAMPLE.replace(b"ratio 2000", b"ratio +2000"), 2, "column 1: bad line"),
+    (EXAMPLE.replace(b"ratio 2000", b"ratio 100001"), 2, "column 7: number out of range"),
     (EXAMPLE.replace(b"\n", b"\r\n"), 1, "no certificate"), (EXAMPLE.replace(b"fixed\n", b"fix\n"), 261, "bad line"),
-    (EXAMPLE.replace(b"ratio 2000", b"ratio 2000" + b" " * 5000), 2, "line too long"), (b"\x1f\x8b\x08", 1, "packed: unpack it first (gunzip)"),
+    (EXAMPLE.replace(b"ratio 2000", b"ratio 2000" + b" " * 5000), 2, "line too long"),
+    (b"\x1f\x8b\x08", 1, "packed: unpack it first (gunzip)"),
     (b"\x1f\x9d\x90", 1, "uncompress")])
 def test_bad_texts_name_their_line(text, line, reason):
     with pytest.raises(CertificateError) as found:
@@ -95,7 +100,8 @@ def test_a_decline_has_rows_and_no_vector():
     with pytest.raises(CertificateError, match="line 261: no vector: declined unseparated"):
         read_fixed(text)
     start = EXAMPLE[:EXAMPLE.index(b"z1")]
-    for tail in (b"declined weak fine 0 -6\n", b"declined overwidth fine y\n", b"declined unsettled fine 12\n", b"declined spent 1000000\n"):
+    for tail in (b"declined weak fine 0 -6\n", b"declined overwidth fine y\n", b"declined unsettled fine 12\n",
+                 b"declined spent 1000000\n"):
         cert = read(start + tail)
         assert not cert.is_fixed and cert.tail.verdict == tail.decode().strip() and cert.ratio_reached is None
         with pytest.raises(SurveyError):
@@ -108,7 +114,8 @@ def test_a_track_is_read(program, examples):
     text = subprocess.run([program, "track", *names], capture_output=True, check=True).stdout
     cert = read(text)
     assert cert.is_track and cert.is_fixed and len(cert.tail.moves) == len(cert.pairs)
-    said = subprocess.run([sys.executable, checker.ORIGINAL, "/dev/stdin"], input=text, capture_output=True, check=True).stdout.decode().splitlines()
+    said = subprocess.run([sys.executable, checker.ORIGINAL, "/dev/stdin"], input=text, capture_output=True,
+                          check=True).stdout.decode().splitlines()
     places = [line.split()[2:] for line in said if line.startswith("place ")]
     assert [[f"{x:.4f}" for x in cert.vector_m(k)] for k in range(len(cert.pairs))] == places
     with pytest.raises(CertificateError, match="a track"):
@@ -146,9 +153,11 @@ def test_what_is_built_has_the_same_bytes(tmp_path):
     """The copy that the build makes, and that the package imports it where it is installed."""
     pytest.importorskip("setuptools")
     survey = repository() / "survey"
-    subprocess.run([sys.executable, "setup.py", "-q", "build", "--build-base", tmp_path, "egg_info", "--egg-base", tmp_path], cwd=survey, check=True, capture_output=True)
+    subprocess.run([sys.executable, "setup.py", "-q", "build", "--build-base", tmp_path, "egg_info", "--egg-base", tmp_path], cwd=survey,
+                   check=True, capture_output=True)
     copy = tmp_path / "lib" / "baseline_survey" / "check_certificate.py"
     assert copy.read_bytes() == (repository() / "recipes" / "check_certificate.py").read_bytes()
-    told = "from baseline_survey import certificate, checker; print(checker.module.__file__, certificate.read_fixed(open('/dev/stdin', 'rb').read()).vector_m())"
+    told = ("from baseline_survey import certificate, checker; "
+            "print(checker.module.__file__, certificate.read_fixed(open('/dev/stdin', 'rb').read()).vector_m())")
     ran = subprocess.run([sys.executable, "-B", "-c", told], input=EXAMPLE, cwd=tmp_path / "lib", capture_output=True, check=True)
     assert ran.stdout.decode().strip() == f"{copy} (2022.7753, -468.6315, 2610.2942)"

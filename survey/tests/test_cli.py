@@ -36,7 +36,8 @@ def run(*words, cwd=None, input=b""):
 def run_alone(*words, cwd=None):
     """The same in a process of its own."""
     env = dict(os.environ, PYTHONPATH=str(HERE), PYTHONDONTWRITEBYTECODE="1")
-    return subprocess.run([sys.executable, "-m", "baseline_survey", *map(os.fspath, words)], capture_output=True, cwd=cwd, env=env, timeout=120)
+    return subprocess.run([sys.executable, "-m", "baseline_survey", *map(os.fspath, words)], capture_output=True, cwd=cwd, env=env,
+                          timeout=120)
 
 
 def refused(ran, *parts):
@@ -57,13 +58,16 @@ def test_adjust(survey):
     ran = run("adjust", survey[0], "--blocks", "5", "--combination", "both")
     assert ran.returncode == 0 and ran.stderr == b""
     assert ran.stdout.splitlines()[0] == b"vector_m 2022.7726 -468.6305 2610.2883 (antenna to antenna, X Y Z)"
-    assert b"\ncombination both (as asked)\n" in ran.stdout and b"\nintegers 14 as real numbers, greatest_off 0.02 cycles (L1 of G20)\n" in ran.stdout
+    assert b"\ncombination both (as asked)\n" in ran.stdout and b"\nnote: without BASE and ROVER it isn't known whether" in ran.stdout
+    assert b"\nintegers 14 as real numbers, greatest_off 0.02 cycles (L1 of G20)\n" in ran.stdout
     ran = run("adjust", survey[0])
     assert ran.stdout.splitlines()[0] == b"vector_m 2022.7699 -468.6195 2610.2994 (antenna to antenna, X Y Z)"
     assert b"\ncombination ionosphere-free (by the rule: 3.3 km in 14.5 minutes is beyond " in ran.stdout
     data = json.loads(run("adjust", survey[0], "--json", "--blocks", "5", "--combination", "both").stdout)
     assert data["vector_m"] == pytest.approx((2022.7726, -468.6305, 2610.2883), abs=6e-5)
     assert {"vector_m", "covariance_mm2", "enu_m", "covariance_enu_mm2", "sigma0", "satellites", "blocks", "integers", "look"} <= set(data)
+    for words in (survey, [survey[0], "--no-troposphere"]):
+        assert b"note: without BASE and ROVER" not in run("adjust", *words).stdout
     marks = json.loads(run("adjust", *survey, "--json", "--combination", "both").stdout)["marks"]
     assert marks["vector_m"] == pytest.approx(data["vector_m"])
 
@@ -119,7 +123,8 @@ def test_corrected_files(survey, tmp_path):
 @pytest.mark.parametrize("word", ["quality", "adjust", "coordinates"])
 def test_help(word):
     ran = run(word, "--help")
-    assert ran.returncode == 0 and ran.stdout.startswith(b"usage: baseline-survey " + word.encode()) and b"--json" in ran.stdout and ran.stderr == b""
+    assert ran.returncode == 0 and ran.stderr == b""
+    assert ran.stdout.startswith(b"usage: baseline-survey " + word.encode()) and b"--json" in ran.stdout
 
 
 def test_the_first_help():
@@ -159,8 +164,10 @@ def test_wrong_words(survey, tmp_path):
 
 def test_bad_certificates(survey, tmp_path):
     good = survey[0].read_bytes()
-    for name, text, part in (("a", b"declined few 30\n", "declined few 30"), ("b", good[:5000], "line"), ("c", b"baseline-cert 1\n", "migrate"),
-                             ("d", good.replace(b"\nfixed\n", b"\ndeclined unseparated\n"), "line 261: no"), ("e", b"", "no certificate"), ("f", b"\x1b[2J\n", "no certificate"),
+    for name, text, part in (("a", b"declined few 30\n", "declined few 30"), ("b", good[:5000], "line"),
+                             ("c", b"baseline-cert 1\n", "migrate"),
+                             ("d", good.replace(b"\nfixed\n", b"\ndeclined unseparated\n"), "line 261: no"), ("e", b"", "no certificate"),
+                             ("f", b"\x1b[2J\n", "no certificate"),
                              ("g", b"declined \x1b[31m\n", "\\x1b")):
         (tmp_path / name).write_bytes(text)
         for word in ("adjust", "quality"):
@@ -169,7 +176,8 @@ def test_bad_certificates(survey, tmp_path):
     refused(run("adjust", tmp_path), "Is a directory")
 
 
-HOSTILE = ["a b", "a'b", 'a"b', "$(reboot)", "`id`", "a;b", "a|b", "a&b", "%s%n", "{0}", "\\x1b", "a\nb", "\x1b[2J", "\x07", "\u202eb", "é", "\udcff", "<b>", "*", "~"]
+HOSTILE = ["a b", "a'b", 'a"b', "$(reboot)", "`id`", "a;b", "a|b", "a&b", "%s%n", "{0}", "\\x1b", "a\nb", "\x1b[2J", "\x07", "\u202eb",
+           "é", "\udcff", "<b>", "*", "~"]
 
 
 @pytest.mark.parametrize("name", HOSTILE)
@@ -205,7 +213,8 @@ def test_outputs_that_fail(survey):
     with open("/dev/full", "wb") as full:
         ran = subprocess.run([sys.executable, "-m", "baseline_survey", "adjust", survey[0]], stdout=full, stderr=subprocess.PIPE, cwd=HERE)
     assert ran.returncode == 2 and ran.stderr.count(b"\n") == 1 and b"standard output" in ran.stderr
-    with subprocess.Popen([sys.executable, "-m", "baseline_survey", "adjust", survey[0]], stdout=subprocess.PIPE, stderr=subprocess.PIPE, cwd=HERE) as ran:
+    with subprocess.Popen([sys.executable, "-m", "baseline_survey", "adjust", survey[0]], stdout=subprocess.PIPE, stderr=subprocess.PIPE,
+                          cwd=HERE) as ran:
         ran.stdout.close()
         assert b"Traceback" not in ran.stderr.read()
     assert ran.returncode == 2

@@ -31,7 +31,8 @@ def test_marks_of_the_example(survey):
     assert found.base.xyz_m == pytest.approx((-3978242.4348, 3382841.1715, 3649902.7667), abs=1e-9)
     assert found.rover.xyz_m - found.base.xyz_m == pytest.approx(adjust(cert).vector_m, abs=1e-9)
     assert found.slope_m == pytest.approx(np.linalg.norm(adjust(cert).vector_m)) and found.base.name == "3040"
-    assert math.degrees(found.azimuth) == pytest.approx(343.391823, abs=1e-5) and math.degrees(found.zenith) == pytest.approx(90.109989, abs=1e-4)
+    assert math.degrees(found.azimuth) == pytest.approx(343.391823, abs=1e-5)
+    assert math.degrees(found.zenith) == pytest.approx(90.109989, abs=1e-4)
     assert found.rise_m == pytest.approx(-5.528, abs=0.002) and found.projected is None
 
 
@@ -66,8 +67,10 @@ def test_frames(survey):
 
 @pytest.mark.parametrize("change, reason", [
     (lambda b, r: (r, b), "exchanged"), (lambda b, r: (b.replace(b"-3978242.4348", b"-3978242.4349"), r), "another base"),
-    (lambda b, r: (b.replace(b" -3978242.4348  3382841.1715  3649902.7667", b"        0.0000        0.0000        0.0000"), r), "no position"),
-    (lambda b, r: (b.replace(b"> 2005 04 02", b"> 2006 04 02"), r), "another time"), (lambda b, r: (b, r.replace(b"> 2005 04 02", b"> 2005 04 03")), "another time"),
+    (lambda b, r: (b.replace(b" -3978242.4348  3382841.1715  3649902.7667", b"        0.0000        0.0000        0.0000"), r),
+     "no position"),
+    (lambda b, r: (b.replace(b"> 2005 04 02", b"> 2006 04 02"), r), "another time"),
+    (lambda b, r: (b, r.replace(b"> 2005 04 02", b"> 2005 04 03")), "another time"),
     (lambda b, r: (b, r.replace(b" -3976219.5082", b" -3946219.5082")), "another rover"),
     (lambda b, r: (b, r[:r.index(b"END OF HEADER") + 14]), "no observations")])
 def test_files_that_do_not_belong(survey, change, reason):
@@ -81,9 +84,11 @@ def test_files_that_do_not_belong(survey, change, reason):
 def test_files_that_belong(survey):
     cert, base, rover = survey
     check_belongs(cert, read_header(base), read_header(rover))
-    check_belongs(cert, read_header(base), read_header(rover.replace(b" -3976219.5082  3382372.5671  3652512.9849", b"        0.0000        0.0000        0.0000")))
+    check_belongs(cert, read_header(base),
+                  read_header(rover.replace(b" -3976219.5082  3382372.5671  3652512.9849", b"        0.0000        0.0000        0.0000")))
 
 
-@pytest.mark.parametrize("degrees, text", [(139.6243021302, "139d37m27.48767s"), (-0.5, "-0d30m00.00000s"), (0.0, "0d00m00.00000s"), (59.99999999999, "60d00m00.00000s")])
+@pytest.mark.parametrize("degrees, text", [(139.6243021302, "139d37m27.48767s"), (-0.5, "-0d30m00.00000s"), (0.0, "0d00m00.00000s"),
+                                           (59.99999999999, "60d00m00.00000s")])
 def test_sexagesimal(degrees, text):
     assert sexagesimal(math.radians(degrees)) == text

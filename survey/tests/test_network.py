@@ -23,7 +23,7 @@ def line(start, end, vector, covariance=None, hours=0.0, minutes=15, base=BASE, 
     first = START + timedelta(hours=hours)
     covariance = 4e-6 * np.eye(3) if covariance is None else covariance
     return lines.Line(start, end, np.asarray(vector, float), covariance, first, first + timedelta(minutes=minutes),
-                      np.asarray(base, float), system, f"{start}{end}.cert")
+                      np.asarray(base, float), system, f"{start}{end}.cert", "both")
 
 
 def some_network(seed, stations, count):
@@ -32,10 +32,12 @@ def some_network(seed, stations, count):
     places = {f"P{k}": np.array(BASE) + dice.normal(0, 3000, 3) for k in range(stations)}
     names, made = list(places), []
     for k in range(count):
-        a, b = (names[dice.integers(0, k + 1)], names[k + 1]) if k < stations - 1 else (names[it] for it in dice.choice(stations, 2, replace=False))
+        a, b = (names[dice.integers(0, k + 1)],
+                names[k + 1]) if k < stations - 1 else (names[it] for it in dice.choice(stations, 2, replace=False))
         root = 0.002 * np.tril(dice.normal(0, 1, (3, 3))) + 0.001 * np.eye(3)
         covariance = root @ root.T + 1e-7 * np.eye(3)
-        made.append(line(a, b, places[b] - places[a] + np.linalg.cholesky(covariance) @ dice.normal(0, 1, 3), covariance, k, base=places[a]))
+        made.append(line(a, b, places[b] - places[a] + np.linalg.cholesky(covariance) @ dice.normal(0, 1, 3), covariance, k,
+                         base=places[a]))
     return places, made
 
 
@@ -79,7 +81,8 @@ def test_statistics_of_a_large_network():
     done = network.adjust(made, {"P0": places["P0"]})
     low, high = done.limits(0.999)
     assert low < done.chi_square < high
-    squares = [float(error @ np.linalg.solve(done.blocks[name], error)) for name in done.stations for error in [done.places[name] - places[name]]]
+    squares = [float(error @ np.linalg.solve(done.blocks[name],
+                                             error)) for name in done.stations for error in [done.places[name] - places[name]]]
     assert np.mean(squares) == pytest.approx(3, abs=1)
 
 
@@ -139,12 +142,14 @@ def test_what_is_of_one_session():
 
 
 def test_a_loop_is_short_and_closed():
-    made = [line("A", "B", [1, 0, 0]), line("B", "C", [1, 0, 0], hours=1), line("C", "D", [1, 0, 0], hours=2), line("D", "A", [-3, 0, 0.001], hours=3),
+    made = [line("A", "B", [1, 0, 0]), line("B", "C", [1, 0, 0], hours=1), line("C", "D", [1, 0, 0], hours=2),
+            line("D", "A", [-3, 0, 0.001], hours=3),
              line("A", "B", [1.002, 0, 0], hours=4)]
     done = network.adjust(made, {"A": BASE})
     assert sorted(len(it.lines) for it in done.loops) == [2, 4]
     for loop in done.loops:
-        assert sum(sign * np.array(made[k].vector) for k, sign in loop.lines) @ [1, 1, 1] == pytest.approx(0.002 if len(loop.lines) == 2 else 0.001, rel=0.01)
+        assert sum(sign * np.array(made[k].vector) for k,
+                   sign in loop.lines) @ [1, 1, 1] == pytest.approx(0.002 if len(loop.lines) == 2 else 0.001, rel=0.01)
 
 
 @pytest.mark.parametrize("text, told", [
@@ -155,7 +160,8 @@ def test_lists(text, told):
     assert lines.read_list(text) == [lines.Entry(*it) for it in told]
 
 
-@pytest.mark.parametrize("text, part", [("", "no lines"), ("A B", "L: line 1: FROM TO CERT"), ("\nA B c d", "line 2"), ("A A c", "to itself"), ("A 'B c\n", "line 1: a quote")])
+@pytest.mark.parametrize("text, part", [("", "no lines"), ("A B", "L: line 1: FROM TO CERT"), ("\nA B c d", "line 2"),
+                                        ("A A c", "to itself"), ("A 'B c\n", "line 1: a quote")])
 def test_lists_that_are_none(text, part):
     with pytest.raises(SurveyError, match=part):
         lines.read_list(text, "L")
@@ -195,7 +201,8 @@ def test_one_session_is_told(triangle):
 def test_gps_and_galileo_are_one_line(triangle):
     """Both systems of one session see the same set-up: two lines that close, and nothing that is controlled."""
     for k, system in enumerate("GE"):
-        (triangle / f"{system}.cert").write_bytes(session(PLACES["B"] - PLACES["A"], 1, k + 1, noise_m=0.002, base=PLACES["A"], system=system))
+        cert = session(PLACES["B"] - PLACES["A"], 1, k + 1, noise_m=0.002, base=PLACES["A"], system=system)
+        (triangle / f"{system}.cert").write_bytes(cert)
     (triangle / "LIST").write_text("A B G.cert\nB A E.cert\n")
     ran = run("network", triangle / "LIST", *HOLD, "--no-troposphere")
     assert ran.returncode == 1 and b"nothing independent controls the network" in ran.stdout
@@ -309,7 +316,8 @@ def test_hostile_names_on_the_command_line(tmp_path):
     import shlex
     for k, name in enumerate(HOSTILE):
         (tmp_path / f"{name.replace('/', '_')}.cert").write_bytes(session([100.0 + k, 2, 3], k, k + 1))
-    (tmp_path / "LIST").write_text("".join(f"A {shlex.quote(name)} {shlex.quote(name.replace('/', '_') + '.cert')}\n" for name in HOSTILE), encoding="utf-8")
+    (tmp_path / "LIST").write_text("".join(f"A {shlex.quote(name)} {shlex.quote(name.replace('/', '_') + '.cert')}\n" for name in HOSTILE),
+                                   encoding="utf-8")
     ran = run("network", "LIST", *HOLD, "--gama", "--odd=name.xml", "--no-troposphere", cwd=tmp_path)
     assert ran.returncode == 2  # an option's value that begins with a dash wants =
     ran = run("network", "LIST", *HOLD, "--gama=--odd=name.xml", "--no-troposphere", cwd=tmp_path)
@@ -321,8 +329,10 @@ def test_hostile_names_on_the_command_line(tmp_path):
 def test_marks_by_headers(examples, tmp_path):
     """With the files of observations the vector goes to the marks; a file of another session is refused."""
     base = (examples / "g2_quarter_base.rnx").read_text()
-    high = (examples / "g2_quarter_rover.rnx").read_text().replace("        0.0000        0.0000        0.0000                  ANTENNA", "        1.5000        0.0000        0.0000                  ANTENNA")
-    for name, text in (("base", base), ("high", high), ("v.cert", (examples / "g2_quarter.cert").read_text()), ("L3", "A B v.cert"), ("L5", "A B v.cert base high"),
+    high = (examples / "g2_quarter_rover.rnx").read_text().replace("        0.0000        0.0000        0.0000                  ANTENNA",
+                                                                   "        1.5000        0.0000        0.0000                  ANTENNA")
+    for name, text in (("base", base), ("high", high), ("v.cert", (examples / "g2_quarter.cert").read_text()), ("L3", "A B v.cert"),
+                       ("L5", "A B v.cert base high"),
                        ("BAD", "A B v.cert high base")):
         (tmp_path / name).write_text(text)
     low, marks = (json.loads(run("network", tmp_path / it, "--json").stdout)["points"][0]["lon_lat_deg_height_m"] for it in ("L3", "L5"))
@@ -331,7 +341,8 @@ def test_marks_by_headers(examples, tmp_path):
 
 
 def test_bad_input(triangle):
-    for text, parts in (("A B none.cert\n", ["none.cert", "No such file"]), ("A B LIST\n", ["LIST", "no certificate"]), ("A B\n", ["line 1"])):
+    for text, parts in (("A B none.cert\n", ["none.cert", "No such file"]), ("A B LIST\n", ["LIST", "no certificate"]),
+                        ("A B\n", ["line 1"])):
         (triangle / "L").write_text(text)
         refused(run("network", triangle / "L", "--gama", triangle / "x.xml"), *parts)
     (triangle / "AB.cert").write_bytes((triangle / "AB.cert").read_bytes().replace(b"\nfixed\n", b"\ndeclined unseparated\n"))
@@ -360,10 +371,23 @@ def test_many_lines_are_read_by_several_processes(triangle):
 
 
 def test_the_settings_go_to_each_line(triangle):
-    both, free = (json.loads(run("network", triangle / "LIST", *HOLD, "--no-troposphere", "--combination", it, "--json").stdout) for it in ("both", "ionosphere-free"))
+    both, free = (json.loads(run("network", triangle / "LIST", *HOLD, "--no-troposphere", "--combination", it,
+                                 "--json").stdout) for it in ("both", "ionosphere-free"))
     assert both["points"][0]["sd_enu_mm"][0] < free["points"][0]["sd_enu_mm"][0]
     more = json.loads(run("network", triangle / "LIST", *HOLD, "--no-troposphere", "--plus", "5", "--scale", "2", "--json").stdout)
     assert more["points"][0]["sd_enu_mm"][0] > 3 and os.path.exists(triangle / "LIST")
+
+
+def test_each_line_has_its_combination(triangle):
+    """By the rule a long line goes without the ionosphere and short ones don't; a word that is asked for counts for all."""
+    (triangle / "AD.cert").write_bytes(session([9000.0, -5000.0, 6000.0], 3, 4, noise_m=0.002, base=BASE))
+    with open(triangle / "LIST", "a") as file:
+        file.write("A D AD.cert\n")
+    told = {words: run("network", triangle / "LIST", *HOLD, "--no-troposphere", "--json",
+                       *words) for words in ((), ("--combination", "narrow"))}
+    taken = {words: [it["combination"] for it in json.loads(ran.stdout)["residuals"]] for words, ran in told.items()}
+    assert list(taken.values()) == [["both", "both", "both", "ionosphere-free"], ["narrow"] * 4]
+    assert b"\ncombination both 3 ionosphere-free 1\n" in run("network", triangle / "LIST", *HOLD, "--no-troposphere").stdout
 
 
 def test_corrected_files_in_a_list(examples, tmp_path):

@@ -31,11 +31,13 @@ def navigation():
     return broadcast()
 
 
-@pytest.mark.parametrize("satellite, seconds", [("G07", 796435740), ("G11", 796436000), ("G28", 796470000.5), ("G01", 796450000), ("G24", 796470000.25)])
+@pytest.mark.parametrize("satellite, seconds",
+                         [("G07", 796435740), ("G11", 796436000), ("G28", 796470000.5), ("G01", 796450000), ("G24", 796470000.25)])
 def test_places_lie_in_the_proved_boxes(examples, program, navigation, satellite, seconds):
     """`orbit` gives boxes in micrometres at a time of the satellite's clock; the user algorithm in floats lies in them to a millimetre (a
     time of 8e8 s has steps of 1e-7 s, in which a satellite moves by half of one)."""
-    ran = subprocess.run([program, "orbit", examples / "geonet.nav", satellite, str(round(seconds * 1e7))], capture_output=True, text=True, check=True)
+    ran = subprocess.run([program, "orbit", examples / "geonet.nav", satellite, str(round(seconds * 1e7))], capture_output=True, text=True,
+                         check=True)
     told = {line.split()[0]: [int(it) for it in line.split()[1:]] for line in ran.stdout.splitlines()}
     times = np.array([seconds - sum(told["clock"]) / 2 * 1e-15])
     record = navigation.records[satellite][navigation.choose(satellite, np.array([float(seconds)]))[0]]
@@ -85,9 +87,11 @@ def test_galileo_has_its_own_constant(examples):
     assert "E01" in both.records and orbits.MU["E"] != orbits.MU["G"]
 
 
-@pytest.mark.parametrize("change, part", [(lambda t: t[:200], "no end of header"), (lambda t: t.replace("     3.04  ", "     2.10  ", 1), "nav2to3"), (lambda t: "", "not a RINEX file"),
+@pytest.mark.parametrize("change, part", [(lambda t: t[:200], "no end of header"), (lambda t: "", "not a RINEX file"),
+                                          (lambda t: t.replace("     3.04  ", "     2.10  ", 1), "nav2to3"),
                                           (lambda t: t.replace("N: GNSS NAV DATA", "OBSERVATION DATA"), "not a navigation file"),
-                                          (lambda t: t[:-200], "isn't whole"), (lambda t: t.replace("2.871534990340D+00", "2.87153499034xD+00", 1), "line 8: bad number")])
+                                          (lambda t: t[:-200], "isn't whole"),
+                                          (lambda t: t.replace("2.871534990340D+00", "2.87153499034xD+00", 1), "line 8: bad number")])
 def test_what_is_no_navigation_file(examples, change, part):
     with pytest.raises(SurveyError, match=part):
         orbits.read_navigation(change((examples / "geonet.nav").read_text()).encode(), "nav")

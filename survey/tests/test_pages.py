@@ -1,47 +1,58 @@
-"""The commands of README.md run as they stand there, in an empty folder, and print what the page shows on standard output."""
+"""The commands of the pages run as they stand there, each page in a folder of its own, and print what it shows: by the rules of
+tools/check_examples, which leaves these pages to this test."""
+import importlib.machinery
+import importlib.util
 import os
-import re
-import subprocess
+import sys
 
 import pytest
 from test_cli import HERE
 
-
-def commands(text):
-    """Each command of the page with the lines that it shows."""
-    told = []
-    for line in text.split("\n"):
-        if line.startswith("    $ "):
-            told.append((line[6:].split("   #")[0], []))
-        elif line.startswith("    ") and told:
-            told[-1][1].append(line[4:])
-    return told
+ROOT = HERE.parent
+PAGES = ["survey/README.md", "survey/OPERATOR.md"]
 
 
-def fits(shown, printed):
-    """Whether lines are as shown; a line of three points stands for any lines."""
-    parts = [re.escape(it) if it != "..." else "(?s:.*)" for it in shown]
-    return re.fullmatch(r"\n*".join([""] + parts + [""]) if parts else "", "\n".join(printed)) is not None
+@pytest.fixture
+def check_examples(program, monkeypatch):
+    """The script as a module. What it puts into the environment for the commands, the program found before, ends with the test."""
+    for name, value in {"BASELINE": "", "PYTHONDONTWRITEBYTECODE": "1", "SURVEY": "./baseline-survey"}.items():
+        monkeypatch.setenv(name, value)
+    monkeypatch.setattr(sys, "path", [*sys.path, str(ROOT / "tools")])
+    loader = importlib.machinery.SourceFileLoader("check_examples", str(ROOT / "tools" / "check_examples"))
+    module = importlib.util.module_from_spec(importlib.util.spec_from_loader("check_examples", loader))
+    loader.exec_module(module)
+    return module
 
 
-def test_the_page(examples, program, tmp_path):
-    os.symlink(program, tmp_path / "baseline")
-    os.symlink(examples, tmp_path / "examples")
-    (tmp_path / "baseline-survey").write_text(f'#!/bin/sh\nexec "{HERE.parent}/baseline-survey" "$@"\n')
-    (tmp_path / "baseline-survey").chmod(0o755)
-    env = dict(os.environ, BASELINE=str(tmp_path / "baseline"))
-    run = 0
-    for command, shown in commands((HERE / "README.md").read_text(encoding="utf-8")):
-        if "pytest" in command:
-            continue
-        ran = subprocess.run(["sh", "-c", command], cwd=tmp_path, env=env, capture_output=True, text=True, timeout=300)
-        status = int(shown.pop().split()[-1]) if shown and shown[-1].startswith("exit status ") else 0
-        assert ran.returncode == status, (command, ran.stdout, ran.stderr)
-        assert fits(shown, ran.stdout.rstrip("\n").split("\n") if ran.stdout else []), (command, shown, ran.stdout)
-        run += 1
-    assert run >= 10
+def run(check_examples, name, program):
+    """A page that was run, beside whose commands stand the package and its command."""
+    class SurveyPage(check_examples.Page):
+        def __init__(self, name, folder):
+            super().__init__(name, folder)
+            for beside in ("baseline-survey", "survey"):
+                os.symlink(ROOT / beside, os.path.join(folder, beside))
+
+    return check_examples.check_page(str(name), str(program), SurveyPage)
 
 
-@pytest.mark.parametrize("shown, printed, told", [(["a"], ["a"], True), (["a"], ["b"], False), (["...", "b"], ["x", "y", "b"], True), ([], [], True), ([], ["x"], False), (["a", "..."], ["a"], True)])
-def test_the_test(shown, printed, told):
-    assert fits(shown, printed) == told
+@pytest.mark.parametrize("name", PAGES)
+def test_a_page(name, check_examples, program):
+    page = run(check_examples, name, program)
+    assert page.faults == [] and page.checked >= 8
+
+
+def test_a_wrong_page(check_examples, program, tmp_path):
+    """Another output, another status and a lost line are seen, also after an empty line."""
+    lines = ["    $ echo one", "    two", "", "    $ false", "", "    $ printf '1\\n\\n2\\n'", "    1", "", "    $ printf '1\\n\\n2\\n'",
+             "    1", "", "    2", ""]
+    (tmp_path / "page.md").write_text("\n".join(lines))
+    page = run(check_examples, tmp_path / "page.md", program)
+    assert [number for _, number, *_ in page.faults] == [1, 4, 6] and page.checked == 4
+
+
+def test_a_page_that_nobody_runs(check_examples, monkeypatch):
+    """A page with commands is in one of both lists, and the file that the second names for it names it."""
+    assert list(check_examples.unknown_pages()) == []
+    monkeypatch.delitem(check_examples.ELSEWHERE, PAGES[0])
+    monkeypatch.setitem(check_examples.ELSEWHERE, PAGES[1], "tools/check_recipes")
+    assert sorted(check_examples.unknown_pages()) == sorted(PAGES)

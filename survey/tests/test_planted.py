@@ -41,7 +41,8 @@ def test_it_is_named_left_out_and_looked_at(survey, examples):
     ran = run("quality", survey[0])
     looks = [line for line in ran.stdout.decode().splitlines() if line.startswith("look: ")]
     assert ran.returncode == 1 and any(f" of {WHICH} is " in line and "over 20 mm" in line for line in looks)
-    told = {robust: json.loads(run("adjust", *survey, "--combination", "both", "--json", *([] if robust else ["--no-robust"])).stdout) for robust in (True, False)}
+    told = {robust: json.loads(run("adjust", *survey, "--combination", "both", "--json",
+                                   *([] if robust else ["--no-robust"])).stdout) for robust in (True, False)}
     out = {it["satellite"]: it["left_out"] for it in told[True]["satellites"] if it["left_out"] > 2}
     assert set(out) == {WHICH} and sum(it["left_out"] for it in told[True]["satellites"] if it["satellite"] == WHICH) >= 22
     off = {robust: 1000 * np.linalg.norm(np.array(it["vector_m"]) - good) for robust, it in told.items()}

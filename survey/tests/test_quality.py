@@ -36,7 +36,8 @@ def test_by_the_definition(examples):
         sums = []
         for row in pair.rows:
             dot = sum(a * b for a, b in zip(row.direction, cert.tail.moves[0]))
-            sums.append([(row.observed[k] * 2**16 - dot) // 2**16 - wavelength * 2**13 * cert.cycles(row.arc)[k] for k, wavelength in enumerate((1380, 1771))])
+            sums.append([(row.observed[k] * 2**16 - dot) // 2**16 - wavelength * 2**13 * cert.cycles(row.arc)[k] for k,
+                         wavelength in enumerate((1380, 1771))])
         n = len(sums)
         for s in sums:
             want = [(n * s[k] - sum(it[k] for it in sums)) * 2997924580 / (n * 178100600832) for k in (0, 1)]
@@ -46,7 +47,8 @@ def test_by_the_definition(examples):
 @pytest.mark.parametrize("words, limits, flag", [
     (dict(ratio_reached=4.9), Limits(), "ratio reached 4.9 is below 5"), (dict(ratio_reached=4.9), Limits(ratio=4), None),
     (dict(satellites=5), Limits(), "fewer than 6 satellites in 20 of 20 pairs"), (dict(satellites=5), Limits(satellites=5), None),
-    (dict(phase=lambda band, k, number: 0.03 * (number == 3 and k == 1 and band == 2)), Limits(), "phase L2 of G02 is 25.7 mm off at 00:01:30, over 20 mm"),
+    (dict(phase=lambda band, k, number: 0.03 * (number == 3 and k == 1 and band == 2)), Limits(),
+     "phase L2 of G02 is 25.7 mm off at 00:01:30, over 20 mm"),
     (dict(phase=lambda band, k, number: 0.03 * (number == 3 and k == 1)), Limits(phase_m=0.03), None)])
 def test_flags(words, limits, flag):
     found = quality(read_fixed(made((500.0, 200.0, 100.0), **words).text), limits)

@@ -76,8 +76,10 @@ def test_the_page(files):
     done = made(files, verdicts=report.Verdicts("certified", True, ["--mask", "200"], "ab" * 32))
     data = report.html(done, datetime(2026, 1, 2, 3, 4))
     page = Page(data.decode())
-    for part in ("3040 to 0759", "2005-04-02 00:00:00 to 2005-04-02 00:14:30", "TRM29659.00", "asked 2.0, reached 13.6", "certified", "30 pairs",
-                 "C1C L1C, C2W L2W", "G07 (0 to 29, datum)", "12 integers", "baseline fix g2_quarter_base.rnx g2_quarter_rover.rnx geonet.nav --mask 200",
+    for part in ("3040 to 0759", "2005-04-02 00:00:00 to 2005-04-02 00:14:30", "TRM29659.00", "asked 2.0, reached 13.6", "certified",
+                 "30 pairs",
+                 "C1C L1C, C2W L2W", "G07 (0 to 29, datum)", "12 integers",
+                 "baseline fix g2_quarter_base.rnx g2_quarter_rover.rnx geonet.nav --mask 200",
                  "35° 07′ 55.4", "Printed 2026-01-02 03:04", "ab" * 32, "gives the same bytes from these three files"):
         assert part in page.text, part
     # pictures are in the page, and nothing is loaded
@@ -91,7 +93,8 @@ def test_the_page(files):
 
 def test_what_to_keep_in_mind(files, no_pictures):
     """Each caveat stands only where it applies."""
-    assert not [it for it in made(files).caveats if "antennas differ" in it or "corrected" in it or "minutes:" in it or "in height. The vector" in it]
+    others = ("antennas differ", "corrected", "minutes:", "in height. The vector")
+    assert not [it for it in made(files).caveats if any(part in it for part in others)]
     cert, base, rover, nav = files
     other = head_changed(rover, "ANT # / TYPE", " " * 20 + "LEIAT504        LEIS")
     assert any("The antennas differ" in it for it in made((cert, base, other, nav)).caveats)
@@ -101,7 +104,8 @@ def test_what_to_keep_in_mind(files, no_pictures):
     assert not any("Both headers give 0" in it for it in done.caveats)
     assert "antenna to antenna" in Page(report.html(done).decode()).text
     fixed = rover.replace(b"COMMENT", b"COMMENT", 1)
-    corrected = fixed.replace(b"Linux 2.0.36|Pentium II|gcc -static|Linux|486/DX+           COMMENT", f"{'baseline-survey correct: delays taken off':<60}COMMENT".encode())
+    corrected = fixed.replace(b"Linux 2.0.36|Pentium II|gcc -static|Linux|486/DX+           COMMENT",
+                              f"{'baseline-survey correct: delays taken off':<60}COMMENT".encode())
     assert len([it for it in made((cert, base, corrected, nav)).caveats if "corrected" in it or "--no-troposphere" in it]) == 2
     assert not any("ionosphere" in it for it in made(files, settings=Settings(combination="ionosphere-free")).caveats)
     less = cert.replace(b"ratio 2000", b"ratio 1500")
@@ -125,14 +129,16 @@ def test_files_that_do_not_belong(files, examples):
     cert, base, rover, nav = files
     for bad, part in (((cert, rover, base, nav), "exchanged"), ((cert[:-30], base, rover, nav), "vector.cert|g2_quarter.cert: line"),
                       ((cert.replace(b"\nfixed\n", b"\ndeclined unseparated\n"), base, rover, nav), "declined unseparated"),
-                      ((cert, base, rover.replace(b"> 2005 04 02", b"> 2005 04 03"), nav), "another time"), ((b"declined few 3\n", base, rover, nav), "declined few 3")):
+                      ((cert, base, rover.replace(b"> 2005 04 02", b"> 2005 04 03"), nav), "another time"),
+                      ((b"declined few 3\n", base, rover, nav), "declined few 3")):
         with pytest.raises(SurveyError, match=part):
             made(bad)
 
 
 def test_by_blocks(files):
     done = made(files, block_pairs=10)
-    assert done.blocks.used == 3 and done.sd_enu_m == pytest.approx([max(a, b) for a, b in zip(done.adjustment.sd_enu_m, done.blocks.sd_enu_m)])
+    greater = [max(a, b) for a, b in zip(done.adjustment.sd_enu_m, done.blocks.sd_enu_m)]
+    assert done.blocks.used == 3 and done.sd_enu_m == pytest.approx(greater)
     with pytest.raises(SurveyError):
         made(files, block_pairs=29)
     assert made(files).blocks.used in (5, 6)
@@ -197,14 +203,16 @@ def test_a_corrected_rover_with_a_wrong_height(files):
     mark = made(files).adjustment.marks.rover_m
     for rise, told in ((0.0, False), (20.0, True)):
         place = mark * (1 + rise / 6_371_000)
-        changed = rinex.rebase(rover, [f"{x:.4f}" for x in place]).replace(b"rebased, was", f"{'baseline-survey correct: x':<60}COMMENT\nrebased, was".encode())
+        comment = f"{'baseline-survey correct: x':<60}COMMENT\nrebased, was"
+        changed = rinex.rebase(rover, [f"{x:.4f}" for x in place]).replace(b"rebased, was", comment.encode())
         caveats = made((cert, base, changed, nav), settings=Settings(troposphere=False)).caveats
         assert any("m too high" in it for it in caveats) == told, caveats
 
 
 def test_what_a_check_says_stands_out(files, no_pictures):
     """A certificate that isn't certified, or that the files don't give, is told at the head of the page."""
-    for verdicts, told in ((report.Verdicts("certified", True), False), (report.Verdicts("not certified tail"), True), (report.Verdicts("certified", False), True), (report.Verdicts(), False)):
+    for verdicts, told in ((report.Verdicts("certified", True), False), (report.Verdicts("not certified tail"), True),
+                           (report.Verdicts("certified", False), True), (report.Verdicts(), False)):
         done = made(files, verdicts=verdicts)
         assert done.looks == told and ("Something stands out" in Page(report.html(done).decode()).text) == told
 
@@ -216,8 +224,10 @@ def test_three_bands(tmp_path, no_pictures):
     texts = []
     for place, name in ((cert.base_m, "A" * 60), (cert.base_m + cert.vector_m, "B")):
         head = [f"{content:<60}{label}" for content, label in (
-            ("     3.04           OBSERVATION DATA    M", "RINEX VERSION / TYPE"), (name, "MARKER NAME"), ("".join(f"{x:14.4f}" for x in place), "APPROX POSITION XYZ"),
-            ("        1.5000        0.0000        0.0000", "ANTENNA: DELTA H/E/N"), ("G    2 C1C L1C", "SYS / # / OBS TYPES"), ("", "END OF HEADER"))]
+            ("     3.04           OBSERVATION DATA    M", "RINEX VERSION / TYPE"), (name, "MARKER NAME"),
+            ("".join(f"{x:14.4f}" for x in place), "APPROX POSITION XYZ"),
+            ("        1.5000        0.0000        0.0000", "ANTENNA: DELTA H/E/N"), ("G    2 C1C L1C", "SYS / # / OBS TYPES"),
+            ("", "END OF HEADER"))]
         texts.append("\n".join([*head, *(f"> 2005 04 02 00 {k // 2:02d} {30 * (k % 2):2d}.0000000  0  0" for k in range(20)), ""]).encode())
     page = Page(report.html(made((cert.text, *texts, b""), settings=Settings(troposphere=False))).decode())
     assert "L5" in page.text and "A" * 60 in page.text and "antenna to antenna" in page.text

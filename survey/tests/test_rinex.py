@@ -63,7 +63,8 @@ def test_correct_changes_values_alone(examples, navigation, name):
     for a, b in zip(before, after):
         assert len(a) == len(b) and re.sub(r"-?\d+\.\d{3}", "#", a).split() == re.sub(r"-?\d+\.\d{3}", "#", b).split()
         assert a[:1] != ">" or a == b
-    head, added = data[:len(data) - len("\n".join(before))], [line for line in new.decode().split("\n") if line[60:67] == "COMMENT" and line not in data.decode()]
+    head = data[:len(data) - len("\n".join(before))]
+    added = [line for line in new.decode().split("\n") if line[60:67] == "COMMENT" and line not in data.decode()]
     assert new.startswith(head) and [line[:24] for line in added][0] == "baseline-survey correct:" and len(added) == 3
     assert all(len(line) == 67 for line in added)
     assert told.dropped == 0 and told.values == len([v for v in observations(data).values() if v])
@@ -120,7 +121,8 @@ def test_correct_refuses(examples, navigation):
             rinex.correct(bad, navigation)
     lines = data.split(b"\n")
     at = next(k for k, line in enumerate(lines) if line[:1] == b">")
-    changed = b"\n".join([*lines[:at], b">" + b" " * 30 + b"4  1", b"G    4 L1C C1C C2W L2W".ljust(60) + b"SYS / # / OBS TYPES", *lines[at:]])
+    changed = b"\n".join([*lines[:at], b">" + b" " * 30 + b"4  1", b"G    4 L1C C1C C2W L2W".ljust(60) + b"SYS / # / OBS TYPES",
+                          *lines[at:]])
     with pytest.raises(SurveyError, match=f"line {at + 2}: types or scale changed"):
         rinex.correct(changed, navigation)
     with pytest.raises(SurveyError, match="GPSA"):
@@ -146,7 +148,8 @@ def test_values_are_read_and_written_alike(dice):
     assert rinex.thousandths(f"{rinex._places(value):>14}") == value
 
 
-@pytest.mark.parametrize("word, value", [("              ", None), ("         0.000", None), ("          -.5 ", -500), ("           +5.", 5000), ("  1", 1000)])
+@pytest.mark.parametrize("word, value", [("              ", None), ("         0.000", None), ("          -.5 ", -500),
+                                         ("           +5.", 5000), ("  1", 1000)])
 def test_spellings_of_values(word, value):
     assert rinex.thousandths(word) == value
 
@@ -179,7 +182,8 @@ def test_rebase_where_there_is_no_position(examples):
         assert rinex.rinex_header.read_header(rinex.rebase(before, SOME_PLACE_WORDS)).position_m == pytest.approx(SOME_PLACE)
 
 
-@pytest.mark.parametrize("place", [("1", "2", "3"), ("nan", "0", "0"), ("-3978242.43481", "3382841", "3649902"), ("1e6", "6e6", "0"), ("", "", "")])
+@pytest.mark.parametrize("place",
+                         [("1", "2", "3"), ("nan", "0", "0"), ("-3978242.43481", "3382841", "3649902"), ("1e6", "6e6", "0"), ("", "", "")])
 def test_rebase_refuses(examples, place):
     with pytest.raises(SurveyError):
         rinex.rebase((examples / FILES[0]).read_bytes(), place)
@@ -212,7 +216,8 @@ def test_cut_and_events(examples):
 
 
 @pytest.mark.parametrize("begin, end, part", [("00:10", "00:05", "before TO"), ("01:00", "02:00", "no epoch"), ("x", "00:05", "no time"),
-                                             ("2005-02-30T00:00", "00:05", "no time"), ("00:61", "00:05", "no time"), ("0:05", "00:10", "no time")])
+                                             ("2005-02-30T00:00", "00:05", "no time"), ("00:61", "00:05", "no time"),
+                                             ("0:05", "00:10", "no time")])
 def test_cut_refuses(examples, begin, end, part):
     with pytest.raises(SurveyError, match=part):
         rinex.cut((examples / FILES[0]).read_bytes(), begin, end)
@@ -223,7 +228,8 @@ def test_a_broken_file_is_refused_or_changed_but_never_a_fault(dice):
     data, navigation = example(FILES[2]), broadcast()
     at, broken = dice.randint(0, 20_000), junk(dice, 4, 1)
     bad = data[:at] + broken + data[at + len(broken):]
-    for step in (lambda: rinex.correct(bad, navigation), lambda: rinex.rebase(bad, SOME_PLACE_WORDS), lambda: rinex.cut(bad, "00:05", "00:10")):
+    for step in (lambda: rinex.correct(bad, navigation), lambda: rinex.rebase(bad, SOME_PLACE_WORDS),
+                 lambda: rinex.cut(bad, "00:05", "00:10")):
         try:
             step()
         except SurveyError:
@@ -242,7 +248,8 @@ def test_words(examples, tmp_path):
     assert run("cut", tmp_path / "c", "00:00", "00:05").stdout.count(b"\n> ") == 10
     piped = run("rebase", *SOME_PLACE_WORDS, input=new.stdout)
     assert piped.returncode == 0 and piped.stdout.count(b"COMMENT") == new.stdout.count(b"COMMENT") + 1
-    for words, parts in ((("correct", base, base), [base.name, "not a navigation file"]), (("correct", nav, nav), ["not an observation file"]),
+    for words, parts in ((("correct", base, base), [base.name, "not a navigation file"]),
+                         (("correct", nav, nav), ["not an observation file"]),
                          (("correct", tmp_path / "c", nav), ["corrected already"]), (("cut", base, "00:05"), ["TO"]),
                          (("correct", base, nav, "--output", tmp_path / "none" / "c"), ["No such file"]),
                          (("rebase", "1", "2", "3", base), ["isn't on the Earth"])):
@@ -279,7 +286,8 @@ def test_fix_of_corrected_files_is_the_adjusted_vector(examples, program, naviga
     from baseline_survey.adjust import Settings, adjust
     for name in FILES[:2]:
         (tmp_path / name).write_bytes(rinex.correct((examples / name).read_bytes(), navigation)[0])
-    ran = subprocess.run([program, "fix", *(tmp_path / name for name in FILES[:2]), examples / "geonet.nav"], capture_output=True, check=True)
+    ran = subprocess.run([program, "fix", *(tmp_path / name for name in FILES[:2]), examples / "geonet.nav"], capture_output=True,
+                         check=True)
     cert = certificate.read_fixed(ran.stdout)
     before, after = adjust(cert, Settings(troposphere=False)), adjust(certificate.read_fixed(examples / "g2_quarter.cert"))
     assert before.vector_m == pytest.approx(after.vector_m, abs=0.0003) and cert.vector_m() == pytest.approx(after.vector_m, abs=0.002)

@@ -32,7 +32,8 @@ def test_the_example(examples):
     ("           nan            1             1 ", None), ("           inf            1             1 ", None),
     ("         1E6              1             1 ", None), ("         0x10             1             1 ", None),
     ("         1_0              1             1 ", None), ("       1.00001            1             1 ", None),
-    ("             1            1", None), ("           1 1            1             1 ", None), ("           +-1            1             1 ", None),
+    ("             1            1", None), ("           1 1            1             1 ", None),
+    ("           +-1            1             1 ", None),
     ("99999999999999             1             1 ", (99999999999999, 1, 1)), (" .              1             1 ", None)])
 def test_numbers_by_their_form(text, value):
     if value is None:
@@ -65,17 +66,23 @@ def test_lf_alone_ends_a_line():
 
 
 @pytest.mark.parametrize("data, reason", [
-    (b"", "line 1: no RINEX file"), (gzip.compress(head()), "unpack it first .gunzip."), (head(version="     4.00           OBSERVATION DATA    G"), "version not"),
-    (head(version="     2.00           OBSERVATION DATA    G"), "version not"), (head(version="     3.04           NAVIGATION DATA     G"), "not a file of observations"),
-    (head()[:100], "no end of header"), (head(epochs=("x",)), "line 3: an epoch"), (head(epochs=("> 2005 02 30 00 00  0.0000000  0  0",)), "no such date"),
-    (head(epochs=("> 2005 02 03 00 00  0.0000000  0 -1",)), "no number"), (head(epochs=("> 2005 02 03 00 00        nan  0  1",)), "no number"), (head(epochs=("> 2005 02 03 00 00        1.0     1",)), "bad epoch flag")])
+    (b"", "line 1: no RINEX file"), (gzip.compress(head()), "unpack it first .gunzip."),
+    (head(version="     4.00           OBSERVATION DATA    G"), "version not"),
+    (head(version="     2.00           OBSERVATION DATA    G"), "version not"),
+    (head(version="     3.04           NAVIGATION DATA     G"), "not a file of observations"),
+    (head()[:100], "no end of header"), (head(epochs=("x",)), "line 3: an epoch"),
+    (head(epochs=("> 2005 02 30 00 00  0.0000000  0  0",)), "no such date"),
+    (head(epochs=("> 2005 02 03 00 00  0.0000000  0 -1",)), "no number"),
+    (head(epochs=("> 2005 02 03 00 00        nan  0  1",)), "no number"),
+    (head(epochs=("> 2005 02 03 00 00        1.0     1",)), "bad epoch flag")])
 def test_bad_files_name_their_line(data, reason):
     with pytest.raises(HeaderError, match=reason):
         read_header(data)
 
 
 def test_events_are_skipped():
-    found = read_header(head(epochs=("> 2005 04 02 00 00  0.0000000  0  1", "G01", ">                              4  1", "> an event's line",
+    found = read_header(head(epochs=("> 2005 04 02 00 00  0.0000000  0  1", "G01", ">                              4  1",
+                                     "> an event's line",
                                      "> 2005 04 02 00 01  0.0000000  1  0")))
     assert found.epochs == 2 and found.last_epoch.minute == 1
 

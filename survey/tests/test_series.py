@@ -99,7 +99,8 @@ def test_a_creep_is_seen():
 def test_a_creep_from_the_first_session_on_is_seen():
     """Also where it goes through the reference: 2 mm an hour, with eight fixes as the reference."""
     limits = alarm.Limits(reference=8, window=6)
-    found = [told_at(rows(noise(24, seed, sd=(1.0, 1.0, 2.0), move=lambda k: (2.0 * k, 0, 0)), sd=(0.3, 0.3, 0.6)), limits, "east") for seed in range(5)]
+    found = [told_at(rows(noise(24, seed, sd=(1.0, 1.0, 2.0), move=lambda k: (2.0 * k, 0, 0)), sd=(0.3, 0.3, 0.6)), limits,
+                     "east") for seed in range(5)]
     assert all(it is not None and it < 18 for it in found)
 
 
@@ -146,7 +147,8 @@ def test_a_base_that_moves_is_seen():
 
 
 def test_a_short_session_is_seen():
-    made = rows(noise(10, 1)) + rows([(0, 0, 0)], first=10, pairs=60) + rows([None], first=11, pairs=0) + rows(noise(3, 1), first=12, pairs=91)
+    made = rows(noise(10, 1)) + rows([(0, 0, 0)], first=10, pairs=60)
+    made += rows([None], first=11, pairs=0) + rows(noise(3, 1), first=12, pairs=91)
     assert [(it.row, it.kind, it.text) for it in alarm.judge(made).alarms] == [(10, "short", "60 pairs in place of 120")]
 
 
@@ -156,7 +158,8 @@ def test_a_dead_station_is_seen():
     assert [it.row for it in alarm.judge(made, alarm.Limits(silent=2)).alarms] == [11, 12, 13, 16]
 
 
-@pytest.mark.parametrize("count, hours, dead", [(10, 9, False), (10, 11, False), (10, 12, True), (1, 0, False), (1, 2, False), (1, 3, True), (0, 0, True)])
+@pytest.mark.parametrize("count, hours, dead",
+                         [(10, 9, False), (10, 11, False), (10, 12, True), (1, 0, False), (1, 2, False), (1, 3, True), (0, 0, True)])
 def test_sessions_that_are_missing(count, hours, dead):
     """`count` sessions from hour 0 on; one of this hour should be there."""
     found = alarm.judge(rows(noise(count, 1)), until=START + timedelta(hours=hours)).alarms
@@ -170,8 +173,10 @@ def test_declines_and_missing_sessions_count_together():
     assert [it.text for it in found] == ["1 session is missing, after 2 without a fix"]
 
 
-@pytest.mark.parametrize("name, told", [("20050402_0015.cert", datetime(2005, 4, 2, 0, 15)), ("roof-2005-04-02T23:59:30.cert", datetime(2005, 4, 2, 23, 59, 30)),
-                                        ("2005-04-02 00h15.cert", datetime(2005, 4, 2, 0, 15)), ("20051402_0015.cert", None), ("line7.cert", None)])
+@pytest.mark.parametrize("name, told", [("20050402_0015.cert", datetime(2005, 4, 2, 0, 15)),
+                                        ("roof-2005-04-02T23:59:30.cert", datetime(2005, 4, 2, 23, 59, 30)),
+                                        ("2005-04-02 00h15.cert", datetime(2005, 4, 2, 0, 15)), ("20051402_0015.cert", None),
+                                        ("line7.cert", None)])
 def test_times_in_names(name, told):
     assert series.stamp(name) == told
 
@@ -259,7 +264,8 @@ def test_a_file_with_itself_is_no_vector(folder):
 
 
 def test_a_list(folder):
-    (folder.parent / "LIST").write_text("# two\nsessions/20050402_0000.cert\n2005-04-02T08:00 sessions/20050402_0800.cert\n'sessions/20050402_0100.cert'\n")
+    (folder.parent / "LIST").write_text("# two\nsessions/20050402_0000.cert\n2005-04-02T08:00 sessions/20050402_0800.cert\n"
+                                        "'sessions/20050402_0100.cert'\n")
     data = json.loads(series_of(folder.parent / "LIST", "--json").stdout)
     assert [it["time"][11:13] for it in data["rows"]] == ["00", "01", "08"] and (folder.parent / "LIST.tsv").is_file()
 
@@ -321,7 +327,8 @@ def test_a_bad_file_stops_nothing(folder):
     (folder / "20050402_1200.cert").write_bytes(b"\xff\x00")
     os.symlink(folder / "nowhere", folder / "20050402_1300.cert")
     data = json.loads(series_of(folder, "--json").stdout)
-    assert [it["state"] for it in data["rows"]][11:14:2] == ["unreadable: Is a directory", "unreadable: No such file or directory"] and data["fixed"] == 8
+    states = [it["state"] for it in data["rows"]]
+    assert states[11:14:2] == ["unreadable: Is a directory", "unreadable: No such file or directory"] and data["fixed"] == 8
     assert json.loads(series_of(folder, "--json").stdout)["new"] == 0
     (folder / "20050402_1300.cert").unlink()
     (folder / "20050402_1300.cert").write_bytes(session(PLACE, 13 / 24, 14))
@@ -330,7 +337,8 @@ def test_a_bad_file_stops_nothing(folder):
 
 
 def test_two_at_a_time_wait(folder, tmp_path):
-    words = [sys.executable, "-m", "baseline_survey", "series", folder, "--unchecked", "--no-troposphere", "--log", tmp_path / "log", "--silent", "9"]
+    words = [sys.executable, "-m", "baseline_survey", "series", folder, "--unchecked", "--no-troposphere", "--log", tmp_path / "log",
+             "--silent", "9"]
     env = dict(os.environ, PYTHONPATH=str(HERE), PYTHONDONTWRITEBYTECODE="1")
     running = [subprocess.Popen([*words, "--json"], env=env, stdout=subprocess.PIPE) for _ in range(2)]
     told = [json.loads(it.communicate(timeout=600)[0]) for it in running]
@@ -348,7 +356,8 @@ def test_hostile_names(tmp_path):
     assert ran.returncode in (0, 1), ran.stderr
     assert all(byte == 10 or byte >= 32 for byte in ran.stdout) and not (tmp_path / "PWNED").exists() and not (folder / "PWNED").exists()
     key = (folder / "series.tsv").read_text().split("\n")[0][len(series.HEAD) + 1:]
-    assert {row.name for row in series.load(str(folder / "series.tsv"), key)} == {f"{name.replace('/', '_')}.cert" for name in HOSTILE} | {"\udcff.cert"}
+    assert {row.name for row in series.load(str(folder / "series.tsv"),
+                                            key)} == {f"{name.replace('/', '_')}.cert" for name in HOSTILE} | {"\udcff.cert"}
     drawn = (tmp_path / "p.svg").read_bytes()
     assert b"\x1b" not in drawn and b"$x^2$ \\x1b[31m" in drawn
     assert {labels["series"] for _, labels, _ in read_metrics((tmp_path / "m.prom").read_bytes())} == {"$x^2$ \\x1b[31m"}
@@ -430,7 +439,11 @@ def station(tmp_path):
     program.write_text("""#!/bin/sh
 word=$1; [ "$word" = check ] && { cat >/dev/null; echo certified; exit; }
 echo "$word $3" >>"$(dirname "$0")/calls"
-case $(tail -n 1 -- "$3") in fixed) cat -- "$3"; exit 0;; declined*) cat -- "$3"; exit 1;; *) echo "refused: $3 line 7 column 1: bad field" >&2; exit 3;; esac
+case $(tail -n 1 -- "$3") in
+    fixed) cat -- "$3"; exit 0;;
+    declined*) cat -- "$3"; exit 1;;
+    *) echo "refused: $3 line 7 column 1: bad field" >&2; exit 3;;
+esac
 """)
     program.chmod(0o755)
     survey = tmp_path / "survey"
@@ -491,7 +504,8 @@ def test_a_failure_is_told(station):
     (station / "state" / "POINTS").write_text("P1\n")
     ran = monitor(station, "20050402_0900", "20050402_0000")
     assert ran.returncode == 2, ran
-    assert ran.stdout.startswith(b"until 2005-04-02T00:00: 1 points, 0 with an alarm, 1 failed\nhour 20050402_0900: no uploads\n\nbaseline-survey series: ")
+    assert ran.stdout.startswith(b"until 2005-04-02T00:00: 1 points, 0 with an alarm, 1 failed\nhour 20050402_0900: no uploads\n\n"
+                                 b"baseline-survey series: ")
     assert b"made by another version or with other settings" in ran.stdout
     (station / "state" / "POINTS").write_text("../x\n")
     assert monitor(station, "20050402_0000").returncode == 2 and not (station / "x").exists()

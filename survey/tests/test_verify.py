@@ -29,7 +29,8 @@ def test_same_bytes(known):
     assert words == ["fix", "--ratio", "2000", "--budget", "1000000", "--system", "G", "--bands", "12", "--", *map(str, files)]
 
 
-@pytest.mark.parametrize("old, new, line", [(b"point -39762196499", b"point -39762096499", 6), (b"\nrow 1 ", b"\nrow 1 1", 19), (b"\nfixed\n", b"\nfixed\nx\n", 262), (b"ratio 2000", b"ratio 1999", 2)])
+@pytest.mark.parametrize("old, new, line", [(b"point -39762196499", b"point -39762096499", 6), (b"\nrow 1 ", b"\nrow 1 1", 19),
+                                            (b"\nfixed\n", b"\nfixed\nx\n", 262), (b"ratio 2000", b"ratio 1999", 2)])
 def test_a_forged_line_is_told(known, old, new, line):
     folder, cert, files, program = known
     (folder / "v.cert").write_bytes(cert.replace(old, new, 1))
@@ -77,14 +78,16 @@ def test_hostile_names(known):
     assert run("verify", "--program", program, "--", "-v.cert", *files, cwd=folder).returncode == 0
     assert not (folder / "PWNED").exists()
     words = [json.loads(it) for it in (folder / "p" / "words").read_text().splitlines()]
-    assert words[4][-4:] == ["--", "1line\nend".replace("line", "line"), "2line\nend", "3line\nend"] or ["--", *[f"{k}line\nend" for k in (1, 2, 3)]] in [it[-4:] for it in words]
+    assert words[4][-4:] == ["--", "1line\nend".replace("line", "line"), "2line\nend",
+                             "3line\nend"] or ["--", *[f"{k}line\nend" for k in (1, 2, 3)]] in [it[-4:] for it in words]
 
 
 def test_bad_input(known):
     folder, cert, files, program = known
     (folder / "d.cert").write_bytes(b"declined few 2\n")
     (folder / "old.cert").write_bytes(cert.replace(b"baseline-cert 2", b"baseline-cert 1"))
-    for words, parts in ((("none.cert", *files), ["none.cert"]), (("d.cert", *files), ["declined few 2"]), (("old.cert", *files), ["migrate"]), (("v.cert", *files[:2]), ["NAV"])):
+    for words, parts in ((("none.cert", *files), ["none.cert"]), (("d.cert", *files), ["declined few 2"]),
+                         (("old.cert", *files), ["migrate"]), (("v.cert", *files[:2]), ["NAV"])):
         refused(run("verify", *words, "--program", program, cwd=folder), *parts)
     refused(run("verify", "v.cert", *files, "--program", "none", cwd=folder), "no program none")
     failing = stand_in(folder / "f", b"", status=4)

@@ -32,13 +32,14 @@ from ._output import named
 from .options import add_settings, both_or_none, count, settings_of
 
 SHORTEST_ZENITH_S = 3500
+CORRECTED = "note: without BASE and ROVER it isn't known whether `correct` made the files; if it did, say --no-troposphere"
 
 
 def configure(parser: argparse.ArgumentParser) -> None:
     parser.add_argument("certificate", metavar="CERT", help="a certificate of `fix` whose last line is fixed")
     parser.add_argument("base", metavar="BASE", nargs="?", help="the base's observation file")
     parser.add_argument("rover", metavar="ROVER", nargs="?", help="the rover's observation file")
-    add_settings(parser, by_rule=True)
+    add_settings(parser)
     parser.add_argument("--blocks", type=count, metavar="N", help="the precision by blocks of N pairs")
 
 
@@ -93,7 +94,9 @@ def lines_of(done: Adjustment, parts: Optional[Blocks]) -> list[str]:
             lines.append("note: a zenith delay needs an hour or more; here it isn't to be told from a height")
         lines.append(f"zenith_mm {number(1000 * done.zenith_m, 1)} sd {number(1000 * done.zenith_sd_m, 1)} "
                      "(rover less base, beyond the model)")
-    lines += [f"combination {done.choice.combination} ({done.choice.why})", f"model {model_of(done.settings)}", f"moved_enu_mm {numbers(1000 * done.moved_enu_m, 1)} (from the vector that `fix` prints)",
+    lines += [f"combination {done.choice.combination} ({done.choice.why})", f"model {model_of(done.settings)}",
+              f"moved_enu_mm {numbers(1000 * done.moved_enu_m, 1)} (from the vector that `fix` prints)",
+              *([CORRECTED] if done.settings.troposphere and not done.marks else []),
               f"left_out {done.left_out} of {len(done.residuals.factor)} phases",
               f"sigma0 {number(done.sigma0, 3)} redundancy {done.redundancy} pairs {done.pairs} "
               f"from {moment(done.first)} to {moment(done.last)} GPS time", ""]

@@ -25,7 +25,7 @@ def configure(parser: argparse.ArgumentParser) -> None:
     parser.add_argument("base", metavar="BASE", help="the base's observation file")
     parser.add_argument("rover", metavar="ROVER", help="the rover's observation file")
     parser.add_argument("--crs", default="", metavar="SYSTEM", help="a projected system of the header's frame, as EPSG:32654")
-    add_settings(parser, by_rule=True)
+    add_settings(parser)
 
 
 def run(options: argparse.Namespace) -> Outcome:
@@ -50,7 +50,8 @@ def lines_of(done: Coordinates) -> list[str]:
               f"height_difference_m {number(done.rise_m, 4)}"]
     if done.projected:
         frame = done.projected
-        lines += [f"system {visible(frame.frame)}, heights over the ellipsoid", "axes " + ", ".join(f"{name} ({unit})" for name, unit in zip(frame.axes, frame.units))]
+        axes = ", ".join(f"{name} ({unit})" for name, unit in zip(frame.axes, frame.units))
+        lines += [f"system {visible(frame.frame)}, heights over the ellipsoid", f"axes {axes}"]
         for which, place in zip(("base", "rover"), frame.coordinates):
             told = [number(x, 10 if unit == "degree" else 4) for x, unit in zip(place, frame.units)]
             lines.append(f"{which}_projected {' '.join(told)}")

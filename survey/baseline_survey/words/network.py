@@ -10,6 +10,9 @@ Prints the coordinates with their standard deviations, the residuals with their 
 are of one session. Of those some follow from the others: they close whatever is wrong, and control nothing. GPS and Galileo
 of one session are one line twice.
 
+Each line's combination of the phases follows from its length and time unless --combination names one for all; a line
+`combination` counts them.
+
 --gama and --sinex write files for other programs, from their descriptions (GNU Gama manual, "XML input data format for
 gama-local"; SINEX 2.02, IERS, 1 December 2006). A second reader of the tests reads both back; no such program read them here.
 
@@ -20,6 +23,7 @@ from __future__ import annotations
 import argparse
 import math
 import os
+from collections import Counter
 from typing import Any, Optional
 
 from .. import exports, files, lines, network
@@ -134,8 +138,8 @@ def _sd_enu_mm(done: network.Network, name: str) -> list[float]:
 
 def _residual(done: network.Network, it: network.Residual) -> dict[str, Any]:
     return {"from": it.line.start, "to": it.line.end, "certificate": it.line.name, "system": it.line.system,
-            "first": it.line.first.isoformat(), "enu_mm": it.enu_mm.tolist(), "xyz_mm": it.xyz_mm.tolist(),
-            "test": it.test / done.scale, "redundancy": it.redundancy}
+            "first": it.line.first.isoformat(), "combination": it.line.combination, "enu_mm": it.enu_mm.tolist(),
+            "xyz_mm": it.xyz_mm.tolist(), "test": it.test / done.scale, "redundancy": it.redundancy}
 
 
 def _session(it: Session) -> dict[str, Any]:
@@ -165,9 +169,16 @@ def _text(done: network.Network) -> list[str]:
     counted = f", {done.independent_redundancy} without lines that follow from others of their session" if done.dependent else ""
     within = f" (95 %: {limits[0]:.2f} to {limits[1]:.2f}) sigma0 {done.sigma0:.3f}" if limits else ""
     return [f"lines {len(done.lines)} stations {len(done.stations)} held {len(done.held)} redundancy {done.redundancy}{counted}",
+            _combinations(done),
             f"chi_square {done.chi_square:.2f}{within}; standard deviations are scaled by {done.scale:.3f}",
             *(f"held {visible(name)} {numbers(place, 4)}" for name, place in done.held.items()),
             "", *_points(done), "", *_residuals(done), *_loops(done), *_sessions(done)]
+
+
+def _combinations(done: network.Network) -> str:
+    """How many lines have which combination of the phases."""
+    counted = Counter(it.combination for it in done.lines)
+    return "combination " + " ".join(f"{name} {n}" for name, n in sorted(counted.items()))
 
 
 def _points(done: network.Network) -> list[str]:

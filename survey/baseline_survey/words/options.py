@@ -40,9 +40,9 @@ def count(word: str) -> int:
     return int(word)
 
 
-def add_settings(parser: argparse.ArgumentParser, by_rule: bool = False) -> None:
-    """The options of the adjustment. A word that compares the vectors of many sessions has one combination for all, and so none by
-    the rule unless it is asked for."""
+def add_settings(parser: argparse.ArgumentParser, by_rule: bool = True) -> None:
+    """The options of the adjustment. A word that compares the vectors of one line has one combination for all, and so none by the
+    rule unless it is asked for."""
     group = parser.add_argument_group("adjustment")
     default = BY_RULE if by_rule else COMBINATIONS[0]
     group.add_argument("--combination", choices=(BY_RULE, *COMBINATIONS), default=default,
@@ -79,8 +79,8 @@ def settings_of(options: argparse.Namespace, base_height_m: float, base: Optiona
     return Settings(
         sigma_a_m=options.sigma[0] / 1000, sigma_b_m=options.sigma[1] / 1000, combination=options.combination,
         zenith=options.zenith, zenith_sd_m=options.zenith_sd / 1000, zenith_per_m=options.zenith_per_km / 1e6,
-        troposphere=not options.no_troposphere and not any(is_corrected.values()), robust=not options.no_robust, weather=weather_of(options, base_height_m),
-        base_antenna=at_base, rover_antenna=at_rover)
+        troposphere=not options.no_troposphere and not any(is_corrected.values()), robust=not options.no_robust,
+        weather=weather_of(options, base_height_m), base_antenna=at_base, rover_antenna=at_rover)
 
 
 def is_of_correct(header: Header) -> bool:

@@ -37,7 +37,7 @@ def configure(parser: argparse.ArgumentParser) -> None:
     parser.add_argument("--blocks", type=count, metavar="N", help="the precision by blocks of N pairs; default about six blocks")
     parser.add_argument("--verify", action="store_true", help="run `fix` again for a certificate")
     add_fix(parser)
-    add_settings(parser, by_rule=True)
+    add_settings(parser)
 
 
 def run(options: argparse.Namespace) -> Outcome:
@@ -54,8 +54,8 @@ def run(options: argparse.Namespace) -> Outcome:
         cert_name = options.certificate + ".cert"
         cert, log, verdicts = _fixed(options)
     page = options.output or (cert_name[:-5] if cert_name.endswith(".cert") else cert_name) + ".html"
-    made = report.build(report.Input(cert, base, rover, navigation, (cert_name, *observed)), verdicts, functools.partial(_settings, options),
-                        options.title, options.blocks)
+    given = report.Input(cert, base, rover, navigation, (cert_name, *observed))
+    made = report.build(given, verdicts, functools.partial(_settings, options), options.title, options.blocks)
     page_bytes = report.html(made)
     if log is not None:
         files.replace(cert_name, cert)
@@ -111,8 +111,9 @@ def text_of(made: report.Report, page: str) -> list[str]:
     done = made.adjustment
     assert done.marks is not None
     reached = made.cert.ratio_reached
+    kind = "the greater of formal and by parts" if made.blocks else "formal"
     out = [f"report {visible(page)}", f"marks_vector_m {numbers(done.marks.vector_m, 4)}", f"marks_enu_m {numbers(done.marks.enu_m, 4)}",
-           "sd_enu_mm " + " ".join(number(1000 * it, 1) for it in made.sd_enu_m) + (" (the greater of formal and by parts)" if made.blocks else " (formal)"),
+           f"sd_enu_mm {' '.join(number(1000 * it, 1) for it in made.sd_enu_m)} ({kind})",
            f"ratio asked {number(made.cert.ratio / 1000, 1)} reached {'beyond any' if reached is None else number(reached, 1)}"]
     out.append(f"check {visible(made.verdicts.check) or 'not run'}")
     if made.verdicts.verified is not None:
@@ -132,7 +133,9 @@ def facts(made: report.Report, page: str) -> dict[str, Any]:
     done = made.adjustment
     assert done.marks is not None
     return {"report": page, "marks_vector_m": done.marks.vector_m.tolist(), "marks_enu_m": done.marks.enu_m.tolist(),
-            "sd_enu_mm": [1000 * it for it in made.sd_enu_m], "precision_by_parts": made.blocks is not None, "ratio_asked": made.cert.ratio / 1000,
-            "ratio_reached": made.cert.ratio_reached, "check": made.verdicts.check, "verified": made.verdicts.verified,
+            "sd_enu_mm": [1000 * it for it in made.sd_enu_m], "precision_by_parts": made.blocks is not None,
+            "ratio_asked": made.cert.ratio / 1000, "ratio_reached": made.cert.ratio_reached, "check": made.verdicts.check,
+            "verified": made.verdicts.verified,
             "second_checker": made.quality.second.verdict, "bound_mm": made.quality.second.greatest_bound_mm,
-            "combination": made.adjustment.choice.combination, "look": looks_of(made), "caveats": list(made.caveats), "sha256": {role: told for role, _, told in made.checksums}}
+            "combination": made.adjustment.choice.combination, "look": looks_of(made), "caveats": list(made.caveats),
+            "sha256": {role: told for role, _, told in made.checksums}}

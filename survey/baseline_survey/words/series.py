@@ -52,7 +52,7 @@ def configure(parser: argparse.ArgumentParser) -> None:
     limits.add_argument("--silent", type=count, default=3, metavar="N", help="sessions without a fix that are an alarm; default 3")
     limits.add_argument("--until", type=time, metavar="TIME", help="a session of this time should be there: 2005-04-02T00:00")
     limits.add_argument("--since", type=time, metavar="TIME", help="earlier alarms don't count: 2005-04-02T00:00")
-    add_settings(parser)
+    add_settings(parser, by_rule=False)
 
 
 def time(word: str) -> datetime:

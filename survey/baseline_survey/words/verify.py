@@ -32,7 +32,8 @@ def run(options: argparse.Namespace) -> Outcome:
         return Outcome("the same bytes", facts)
     told = done.difference
     facts["difference"] = {"line": told.line, "certificate": told.certificate, "files": told.files}
-    lines = [f"line {told.line} differs", *(f"{who}: {shown(text)}" for who, text in (("certificate", told.certificate), ("files", told.files)))]
+    texts = {"certificate": told.certificate, "files": told.files}
+    lines = [f"line {told.line} differs", *(f"{who}: {shown(text)}" for who, text in texts.items())]
     return Outcome("\n".join(lines), facts, 1)
 
 
