@@ -6,6 +6,12 @@ import {residualOf} from '../decide/upper.mjs';
 const UNIT_NUM = 2_997_924_580n, UNIT_DEN = 178_100_600_832n;
 
 /**
+ * Units of a row in micrometres.
+ * @param {bigint} units
+ */
+export const micrometres = units => (Number(units) * Number(UNIT_NUM)) / Number(UNIT_DEN);
+
+/**
  * For each pair, row and signal in micrometres, at the printed integers and moves; none where the tail has no
  * vectors.
  * @param {import('../decide/certificate.mjs').Certificate} cert

@@ -62,7 +62,8 @@ const four = metres => `${metres.toFixed(4)} m`;
 function vectorCard({places: [{xyz, enu, length, bound}], base}) {
   const earth = ['X', 'Y', 'Z'].map((axis, i) => [axis, `${xyz[i]} m`]);
   const local = [...['east', 'north', 'up'].map((axis, i) => [axis, four(enu[i])]), ['length', four(length)]];
-  const near = bound === '' ? '' : ` Bound to the least-squares vector: ${bound} mm in each of X, Y and Z.`;
+  const near = bound === '' ? '' : ` Before it is rounded to 0.1 mm, the vector is within ${bound} mm of the one that fits `
+    + 'best, in each of X, Y and Z, if base and point are those of the rows.';
   return card('The vector, from the base to the rover', 'vector',
     element('div', {className: 'two'}, table(earth, 'numbers'), table(local, 'numbers')),
     remark(`${FRAME}; base ${base.join(' ')} m.${near}`));
@@ -83,8 +84,10 @@ function claimCards(session) {
   return [
     card('What is proved', 'third', list(proved(session))),
     card('What isn\u2019t', 'third', list(notProved(session))),
-    card('What to look at and ask for', 'third look', element('ul', {className: 'checks'}, ...checks),
-      element('p', {textContent: 'If you need more, ask for:'}), list(asks(session))),
+    card('What to look at and ask for', 'third look',
+      element('p', {textContent: 'These are numbers from the text itself. Whoever edits it can make them usual.'}),
+      element('ul', {className: 'checks'}, ...checks),
+      element('p', {textContent: 'Before you rely on it, ask for:'}), list(asks(session))),
   ];
 }
 
@@ -96,8 +99,8 @@ function ratioCard(session, isCertified) {
   const title = isCertified ? 'The ratio, asked for and reached'
     : 'The ratio by the text\u2019s own numbers (not vouched for)';
   return card(title, 'ratio', drawn(width => ratioPicture(session, isCertified, width)),
-    remark('The weighted sum of squares of the next best integers is at least this many times that of the best, for '
-      + 'all observations in their bounds: P2/(64\u00b7T) of the line values.'));
+    remark('All other integers have at least this many times the weighted sum of squares of the printed ones, wherever '
+      + 'in their boxes the observations lie.'));
 }
 
 /** @param {number} seconds */
@@ -107,25 +110,28 @@ function duration(seconds) {
 }
 
 /** @param {Session} session */
-function sessionCard({begins, ends, pairs, rows, system, bands, arcs, last}) {
+function sessionCard({begins, ends, sun, pairs, rows, system, bands, arcs, last}) {
   const until = begins.day === ends.day ? ends.time : `${ends.day} ${ends.time}`;
   const seconds = pairs.reduce((most, pair) => Math.max(most, pair.at), 0);
   const used = `${pairs.length} pairs of epochs, ${rows} rows of satellites`;
-  const facts = table([['day', begins.day], ['GPS time', `${begins.time} to ${until}`], ['lasts', duration(seconds)],
-    ['used', used], ['signals', `${system}: ${bands.join(', ')}`], ['last line', last], ['arcs', '']]);
+  const facts = table([['day', begins.day], ['GPS time', `${begins.time} to ${until}`],
+    ['solar time', `${sun.begins} to ${sun.ends} at the base (mean)`], ['lasts', duration(seconds)], ['used', used],
+    ['signals', `${system}: ${bands.join(', ')}`], ['last line', last], ['arcs', '']]);
   const names = arcs.map(arc => {
     const title = `pairs ${arc.first} to ${arc.last}, ${arc.isDatum ? 'datum' : 'free'}`;
     return element('span', {className: arc.isDatum ? 'datum' : '', textContent: arc.name, title});
   });
   facts.querySelector('tr:last-child td')?.append(element('span', {className: 'arcs'}, ...names));
   return card('The session', 'session', facts, remark('An arc is a stretch of one satellite\u2019s phases without a '
-    + 'cycle slip. Outlined: the reference arc (datum), whose integers are 0 by definition; those of all others are '
-    + 'compared.'));
+    + 'cycle slip; it has one integer for each band. Only differences between satellites count, so those of the '
+    + 'reference arc (datum, outlined) are 0. A pair has an epoch of each receiver. From the text and not checked: the '
+    + 'day, the times, the names of satellites, and the letters of system and codes.'));
 }
 
 /** @param {Session} session */
 const skyCard = session => card('Where the satellites stood', 'half sky', drawn(width => skyPicture(session, width)),
-  remark('From the directions in the rows. The dot is where an arc ends.'));
+  remark('From the directions in the rows. The dot is where an arc ends. From the text and not checked: the point from '
+    + 'which they are seen, and the names.'));
 
 /** @param {Session} session */
 function placesCard(session) {

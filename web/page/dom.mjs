@@ -46,6 +46,13 @@ export const picture = (width, height, title, ...children) =>
 export const shownName = name => name.replace(/[\p{C}\p{Zl}\p{Zp}]/gu, '\u00b7');
 
 /**
+ * A number with so many places, rounded up: no less than there is.
+ * @param {number} x
+ * @param {number} places
+ */
+export const roundedUp = (x, places) => (Math.ceil(x * 10 ** places - 1e-9) / 10 ** places).toFixed(places);
+
+/**
  * A number with so many places, rounded down: no more than was reached.
  * @param {number} x
  * @param {number} places

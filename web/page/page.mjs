@@ -16,6 +16,7 @@ const LONG_WORDS = '. A text may name a search of many minutes: stop it if you d
 /** @type {Worker | null} */
 let worker = null;
 let began = 0;
+const input = /** @type {HTMLInputElement} */ (byId('file'));
 
 /**
  * The worker's program, from the page's own text. A page of trusted types takes an address of a program from a
@@ -31,6 +32,7 @@ const address = workerAddress();
 /** @param {File} file */
 function check(file) {
   stop();
+  hold(file);
   byId('answer').replaceChildren();
   forgetPictures();
   worker = new Worker(address);
@@ -49,6 +51,16 @@ function check(file) {
     say('bad', 'This page failed', `Nothing was decided: ${why}.`);
   };
   worker.postMessage(file);
+}
+
+/**
+ * Has the input name the file, which a drop alone doesn't.
+ * @param {File} file
+ */
+function hold(file) {
+  const held = new DataTransfer();
+  held.items.add(file);
+  input.files = held.files;
 }
 
 /**
@@ -94,8 +106,9 @@ function show(file, {view, sum, seconds}) {
   const notes = session?.notes.length ? [list(session.notes.map(note => `note: ${note}`), 'notes')] : [];
   const hints = hint ? [element('p', {className: 'hint', textContent: hint})] : [];
   const checked = `checked on ${today()} in ${seconds.toFixed(1)} s`;
-  const facts = [['answer of check', words], ['file', `${name}, ${file.size} bytes, ${checked}`]];
-  say(mood, title, text, ...notes, ...hints, table(sum ? [...facts, ['SHA-256', sum]] : facts, 'facts'));
+  const facts = [['this page\u2019s answer', words], ['file', `${name}, ${file.size} bytes, ${checked}`]];
+  const named = sum ? [['its SHA-256', `${sum} (says which text was checked; the page\u2019s own is in RELEASE)`]] : [];
+  say(mood, title, text, ...notes, ...hints, table([...facts, ...named], 'facts'));
   if (session) byId('answer').append(...cardsOf(session, view.kind === 'certified'));
   document.title = `${title} \u2013 ${name}`;
   drawAgain();
@@ -106,12 +119,21 @@ function today() {
   return parts.map(part => String(part).padStart(2, '0')).join('-');
 }
 
-const input = /** @type {HTMLInputElement} */ (byId('file'));
+/**
+ * What the input held before it was emptied.
+ * @type {File | undefined}
+ */
+let last;
 input.addEventListener('change', () => {
   const file = input.files?.[0];
   if (file) check(file);
+});
+// a browser reports the choice of a file that the input holds already only where it is emptied first
+input.addEventListener('click', () => {
+  last = input.files?.[0];
   input.value = '';
 });
+input.addEventListener('cancel', () => last && hold(last));
 byId('stop').addEventListener('click', () => {
   stop();
   say('look', 'Stopped: nothing was decided',

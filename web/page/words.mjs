@@ -1,6 +1,6 @@
 // What the page says of a verdict, for someone who gets a vector and wasn't there.
-import {USUAL_CODE, USUAL_HEIGHT, USUAL_LENGTH, USUAL_PHASE, USUAL_RATIO} from './usual.mjs';
-import {roundedDown} from './dom.mjs';
+import {BASE_ERROR, HEIGHT_COST, NIGHT, SCALE, USUAL_CODE, USUAL_HEIGHT, USUAL_LENGTH, USUAL_PHASE, USUAL_RATIO} from './usual.mjs';
+import {roundedDown, roundedUp} from './dom.mjs';
 
 /**
  * @typedef {import('./view.mjs').View} View
@@ -30,9 +30,7 @@ export function headline({kind, words, session}) {
   if (kind === 'refused' || !session) {
     return bad('Not a certificate', 'The text isn\u2019t spelled as one. It vouches for nothing.');
   }
-  if (kind === 'certified') {
-    return session.notes.length ? noted(session) : {mood: 'good', title: 'Certified', text: claim(session)};
-  }
+  if (kind === 'certified') return certified(session);
   const [cause] = words.replace('not certified ', '').split(' ');
   return cause === 'tail' ? tailed(session) : unfixed(session, cause);
 }
@@ -69,34 +67,50 @@ function unfixed({saysFixed}, cause) {
 }
 
 /**
+ * Green only where nothing in the text itself speaks against its vector.
  * @param {Session} session
  * @returns {Headline}
  */
-function noted(session) {
-  const isOdd = 'But the text isn\u2019t as Baseline writes one, so somebody made or changed it.';
-  const text = `${claim(session)} ${isOdd} Don\u2019t use this ${vectorName(session)} before you know why.`;
-  return {mood: 'look', title: 'Certified, but not as the program writes it', text};
+function certified(session) {
+  const {notes, ratio} = session, name = vectorName(session);
+  if (notes.length) {
+    const isOdd = 'But the text isn\u2019t as Baseline writes one, so somebody made or changed it.';
+    const text = `${claim(session)} ${isOdd} Don\u2019t use this ${name} before you know why.`;
+    return {mood: 'look', title: 'Certified, but not as the program writes it', text};
+  }
+  if (ratio < USUAL_RATIO) {
+    const isLow = `But the text asks for less than the usual ${USUAL_RATIO}: the smaller the ratio, the more easily wrong `
+      + `integers pass. Don\u2019t use this ${name} before you know why.`;
+    return {mood: 'look', title: `Certified, but only for the ratio ${ratio}`, text: `${claim(session)} ${isLow}`};
+  }
+  return {mood: 'good', title: 'Certified', text: claim(session)};
 }
 
 /** @param {Session} session */
-const claim = session => `Every other choice of ${integers(session)} fits the observations in this text `
-  + `${timesAsBadly(session)}, wherever in their printed bounds the observations lie.`;
+const claim = session => `No other ${integers(session)}, with any ${rivalName(session)}, fit the numbers in this text as well `
+  + `as the printed ones: all others fit ${times(session)} as badly, wherever in their boxes the observations lie. A box `
+  + `covers the rounding of what is computed (here at most ${radius(session)} to each side), not noise.`;
 
 /** @param {Session} session */
 const vectorName = session => (session.isTrack ? 'track' : 'vector');
 
 /** @param {Session} session */
+const rivalName = session => (session.isTrack ? 'places of the rover' : 'vector');
+
+/** @param {Session} session */
 function integers({notes, arcs}) {
   const name = 'integers (carrier-phase ambiguities)', free = arcs.filter(arc => !arc.isDatum).length;
-  return notes.length ? `the ${name} of the arcs that the text calls free, ${free} of ${arcs.length},` : name;
+  return notes.length ? `${name} of the arcs that the text calls free, ${free} of ${arcs.length}` : name;
 }
 
 /**
- * By the weighted sum of squares.
+ * The ratio that was reached.
  * @param {Session} session
  */
-const timesAsBadly = ({reached}) =>
-  `at least ${reached === null ? 'any number of' : roundedDown(reached, 1)} times as badly`;
+const times = ({reached}) => (reached === null ? 'any number of times' : `at least ${roundedDown(reached, 1)} times`);
+
+/** @param {Session} session */
+const radius = ({box}) => `${roundedUp(box, 2)} \u00b5m`;
 
 /** @param {number[]} values */
 const greatest = values => values.reduce((most, x) => Math.max(most, Math.abs(x)), 0);
@@ -107,28 +121,33 @@ const greatest = values => values.reduce((most, x) => Math.max(most, Math.abs(x)
  * @returns {string[]}
  */
 export function proved(session) {
-  const printed = session.isTrack ? 'places' : 'vector', rivals = session.isTrack ? 'places of the rover' : 'vector';
-  const free = session.notes.length ? ' of the arcs called free' : '';
+  const {isTrack, notes, ratio} = session, free = notes.length ? ' of the arcs called free' : '';
   return [
-    `The printed integers with the printed ${printed} fit the observations in this text best. All other `
-      + `integers${free}, with any ${rivals}, fit ${timesAsBadly(session)} by the weighted sum of squares.`,
-    'This holds for all observations and directions in the printed bounds. It is decided in whole numbers, exactly.',
+    `All other integers${free}, with any ${rivalName(session)}, have ${times(session)} the weighted sum of squares of the `
+      + `printed integers with the printed correction${isTrack ? 's' : ''} (move).`,
+    'This holds wherever in their boxes the observations and the directions to the satellites lie. A box is a tiny '
+      + `interval in place of a number, here at most ${radius(session)} to each side of an observation. It is decided in `
+      + 'whole numbers, exactly.',
     ...nearest(session),
-    'A machine has proved this of every text that the program \u201cbaseline check\u201d certifies, with the ratio '
-      + 'asked for in place of the one reached. This page decides the same again.',
+    `The machine\u2019s proof is of the program \u201cbaseline ${isTrack ? 'check-track' : 'check'}\u201d and says `
+      + `${ratio} times, the ratio asked for. This page decides the same again and computes the ratio that is reached; it was `
+      + 'tested, not proved.',
   ];
 }
 
 /**
- * How near the least-squares vector is. Of a track's places no law says it.
+ * How near the vector is to the one that fits best. Of a track each place is compared with the one that fits its own pair,
+ * and the greatest of their bounds is said.
  * @param {Session} session
  */
 function nearest({isTrack, places}) {
-  if (isTrack || places.some(place => place.bound === '')) return [];
+  if (places.some(place => place.bound === '')) return [];
   const far = greatest(places.map(place => Number(place.bound))).toFixed(2);
-  return [`The printed vector, before it is rounded to 0.1 mm, is within ${far} mm of the least-squares one in each of X, Y and `
-    + 'Z (in space up to 1.7 times as far): with these integers and weights, without an atmosphere, for any '
-    + 'observations in the printed bounds. This isn\u2019t an accuracy.'];
+  const [line, each, rows] = isTrack ? ['at', 'each place', ' the rows of its pair'] : ['point', 'the vector', ''];
+  return [`If the lines base and ${line} are those that the rows were computed with (no check can see this), ${each}, before `
+    + `it is rounded to 0.1 mm, is within ${far} mm of the one that fits${rows} best with the printed integers, in each of `
+    + 'X, Y and Z (in space up to 1.7 times as far): with these weights, without an atmosphere, wherever in their boxes '
+    + 'the observations lie. This isn\u2019t an accuracy.'];
 }
 
 /**
@@ -136,15 +155,24 @@ function nearest({isTrack, places}) {
  * @param {Session} session
  * @returns {string[]}
  */
-export const notProved = session => [
-  'That the observations are yours. A text made from edited files is certified too.',
-  `That the lines base and ${session.isTrack ? 'at' : 'point'} are right. No check uses them, and whoever changes them `
-    + `changes the ${vectorName(session)}. Nor does it use the satellites\u2019 names, the times, and the letters of `
-    + 'system and codes.',
-  `That the ${vectorName(session)} is right to a millimetre. Noise, ionosphere, troposphere, multipath, antennas and `
-    + 'errors of the broadcast orbits remain.',
-  'Anything of antenna heights: it goes from one antenna\u2019s phase centre to the other\u2019s.',
-];
+export function notProved(session) {
+  const name = vectorName(session);
+  return [
+    'That the integers are the right ones. They fit best; noise, atmosphere and multipath can make wrong ones fit best, '
+      + `and then the ${name} is wrong by decimetres. docs/FIXED.md in the repository of the program says how often that `
+      + 'was seen in simulated sessions.',
+    'That the observations are yours. A text made from edited files, or from none, is certified too.',
+    `That the lines base and ${session.isTrack ? 'at' : 'point'} are right. No check uses them, and whoever changes them `
+      + `changes the ${name}. Nor does it use the satellites\u2019 names, the times, and the letters of system and codes.`,
+    `That the ${name} is right to a millimetre. It is computed without an atmosphere: a level line is some ${SCALE.night} `
+      + `ppm too long by night, and about ${SCALE.tecu} ppm shorter for each 10 TECU of the ionosphere\u2019s electron content `
+      + '(5 by night, 20 by day, 40 at noon of a solar maximum). Noise, multipath and errors of antennas and broadcast '
+      + 'orbits remain.',
+    `That the base\u2019s position is right. ${BASE_ERROR} m there change the ${name} by about a quarter of a millionth of `
+      + 'its length.',
+    'Anything of antenna heights: it goes from one antenna\u2019s phase centre to the other\u2019s.',
+  ];
+}
 
 /**
  * The greatest residual of the phases or of the codes, in millimetres.
@@ -163,16 +191,20 @@ const distance = metres => (metres < 10_000 ? `${metres.toFixed(0)} m` : `${(met
  * @returns {Look[]}
  */
 export function looks(session) {
-  const {ratio, places, notes} = session, phase = worst(session, 'phase'), code = worst(session, 'code') / 1000;
-  const length = greatest(places.map(place => place.length)), up = greatest(places.map(place => place.enu[2]));
+  const {ratio, places, notes, sun} = session, phase = worst(session, 'phase'), code = worst(session, 'code') / 1000;
+  const length = greatest(places.map(place => place.length)), rise = greatest(places.map(place => place.rise));
+  const part = sun.isNight ? 'night' : 'day', most = USUAL_LENGTH[part];
   const below = session.sky.flat().filter(row => row.elevation < 0).length;
   const datums = session.arcs.filter(arc => arc.isDatum).length;
   /** @type {Look[]} */
   const items = [
-    {isOut: ratio < USUAL_RATIO, text: `The text asks for the ratio ${ratio}; ${USUAL_RATIO} or more is usual.`},
-    {isOut: length > USUAL_LENGTH, text: `The receivers are ${distance(length)} apart; use it up to 10 km.`},
-    {isOut: up > USUAL_HEIGHT, text: `They differ in height by ${up.toFixed(1)} m; beyond some tens of metres the `
-      + 'troposphere costs about 1 mm for each metre.'},
+    {isOut: ratio < USUAL_RATIO, text: `The text asks for the ratio ${ratio} (its line ratio is in thousandths); `
+      + `${USUAL_RATIO} or more is usual.`},
+    {isOut: length > most, text: `The receivers are ${distance(length)} apart; by ${part} use it up to ${most / 1000} km. `
+      + `(${sun.begins} to ${sun.ends} by mean solar time, from the text\u2019s base and times; ${NIGHT.from} h to ${NIGHT.to} h `
+      + 'is taken as night.)'},
+    {isOut: rise > USUAL_HEIGHT, text: `They differ in height (over the ellipsoid) by ${rise.toFixed(1)} m; each metre costs `
+      + `about ${HEIGHT_COST} mm, and up to ${USUAL_HEIGHT} m is usual.`},
     {isOut: phase > USUAL_PHASE,
       text: `The greatest residual of a phase is ${phase.toFixed(1)} mm; within some ${USUAL_PHASE} mm is usual.`},
     {isOut: code > USUAL_CODE,
@@ -196,7 +228,10 @@ export function looks(session) {
  */
 export const asks = session => [
   'The observation files, the navigation file and the options: on them \u201cbaseline '
-    + `${session.isTrack ? 'track' : 'fix'}\u201d must write this text, byte for byte. Only that binds it to them.`,
-  'A second session at another time of the day: it shows what noise, atmosphere and multipath do.',
+    + `${session.isTrack ? 'track' : 'fix'}\u201d must write this text, byte for byte (\u201cbaseline-survey verify\u201d `
+    + 'compares). Only this shows that the text comes from these files. That the files are true, no program shows: get '
+    + 'the base\u2019s from the network\u2019s own archive.',
+  'A second session at another time of the day: it shows what noise, atmosphere and multipath do.'
+    + (session.isTrack ? '' : ' It should give the same vector within some centimetres; wrong integers are off by decimetres.'),
   'The antennas, their heights and the coordinates of the base.',
 ];

@@ -13,6 +13,9 @@ const MARKUP = ['innerHTML', 'outerHTML', 'insertAdjacentHTML', 'document\\.writ
   'DOMParser', 'createContextualFragment', 'srcdoc'];
 const ESCAPE = {key: 'Escape', code: 'Escape', windowsVirtualKeyCode: 27};
 const TAB = {key: 'Tab', code: 'Tab', windowsVirtualKeyCode: 9};
+const RED = 'rgb(176, 30, 23)';
+/** The names of the files that the input holds. */
+const HELD = '[...document.querySelector("#file").files].map(file => file.name)';
 const SPACE = {key: ' ', code: 'Space', windowsVirtualKeyCode: 32, text: ' '};
 
 /**
@@ -70,14 +73,31 @@ describe('the page in a browser', {skip, timeout: 900_000}, () => {
     const {page, title, words} = await shown(put('true.cert', example()));
     assert.equal(title, 'Certified');
     has(words, ['2022.7753 m', '-468.6315 m', '2610.2942 m', '-953.3378 m', '3196.2442 m', '-6.4003 m', '3335.3967 m',
-      '2005-04-02', '00:00:00 to 00:14:30', '13.6 times', 'not proved itself', '0.03 mm', '17.8 mm']);
+      '2005-04-02', '00:00:00 to 00:14:30', '09:18 to 09:32', '13.6 times', 'not proved itself', '0.03 mm', '17.8 mm']);
     const shapes = '#verdict.good, .sky path.arc, .panels svg';
     assert.equal(await page.value(`document.querySelectorAll("${shapes}").length`), 1 + 7 + 4);
+    assert.deepEqual(await page.value(HELD), ['true.cert']);
     isClean(page);
   });
-  it('dropped', async () => {
+  it('dropped, and the input names it', async () => {
     const {page, title} = await shown(put('true.cert', example()), {how: 'drop'});
     assert.equal(title, 'Certified');
+    assert.deepEqual(await page.value(HELD), ['true.cert']);
+    isClean(page);
+  });
+  it('a click empties the input, so that the same file can be chosen again, and a cancelled one fills it', async () => {
+    const {page} = await shown(put('true.cert', example()));
+    await page.value('file.addEventListener("click", event => event.preventDefault())');
+    await page.value('file.click()');
+    assert.deepEqual(await page.value(HELD), []);
+    await page.value('file.dispatchEvent(new Event("cancel"))');
+    assert.deepEqual(await page.value(HELD), ['true.cert']);
+    isClean(page);
+  });
+  it('a text for a smaller ratio is red', async () => {
+    const {page, title} = await shown(put('low.cert', withLine(example(), 2, 'ratio 1500')));
+    assert.equal(title, 'Certified, but only for the ratio 1.5');
+    assert.equal(await page.value('getComputedStyle(document.querySelector("#verdict h2")).color'), RED);
     isClean(page);
   });
   it('a noted text is red, and its claim is of the free arcs alone', async () => {
@@ -85,7 +105,7 @@ describe('the page in a browser', {skip, timeout: 900_000}, () => {
     assert.equal(title, 'Certified, but not as the program writes it');
     has(words, ['note: arc 2 is called datum', 'of the arcs that the text calls free, 1 of 7,']);
     const colour = await page.value('getComputedStyle(document.querySelector(".notes")).color');
-    assert.equal(colour, 'rgb(176, 30, 23)');
+    assert.equal(colour, RED);
     isClean(page);
   });
   it('a forged text shows no vector', async () => {
@@ -149,7 +169,7 @@ describe('the page in a browser', {skip, timeout: 900_000}, () => {
     const {page, title, words} = await shown(put('few.track', text));
     assert.equal(title, 'Certified');
     assert.equal(await page.value('document.querySelectorAll(".places tbody tr").length'), 40);
-    has(words, ['All 40 places in metres']);
+    has(words, ['All 40 places in metres', 'each place, before it is rounded to 0.1 mm, is within 0.02 mm of the one that fits']);
     isClean(page);
   });
   it('at 360 pixels nothing is wider than the window', async () => {
