@@ -1,6 +1,7 @@
 -- What a run's calls gave and took, of which alone there is a report over the system's files and streams.
 use Rattle.std.specs.Prelude.{◌≡◌, ◌⊎◌, ◌<◌, ℕ, true, List, [], ◌∷◌, ◌++◌, length}
 use Rattle.line_source.specs.Givens.{Given, names_given, given_under}
+use Rattle.line_source.specs.declared.transfer.TheConstants.{MAX_FILE}
 use Rattle.rinex_head.specs.declared.place.At.{At}
 use Rattle.job_answers.specs.declared.status.Status.TheVariants.{Refused}
 use Rattle.job_answers.specs.Statuses.{number_of}
@@ -34,7 +35,7 @@ pub record RefusesRead (file : Given) (line : List ℕ) : Type 0 where
 -- the line says that this file is too large, and its reads gave more bytes than a file may have
 pub record RefusesLarge (file : Given) (line : List ℕ) : Type 0 where
   pub line_is : line ≡ too_large_line file.name
-  pub many : 67108864 < length file.bytes
+  pub many : MAX_FILE < length file.bytes
 
 -- the line refuses the file that was opened last, after each file before it was read to its end
 pub record RefusesLast (more : List Given) (line : List ℕ) : Type 0 where

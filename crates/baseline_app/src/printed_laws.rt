@@ -24,8 +24,10 @@ ghost use Rattle.baseline_app.specs.PrintedArcs.{SpellsOrdered, SpellsOrderedTra
 /// bound of the printed move, in each coordinate. The bound is any number that the definition gives to the rows and the tail
 /// (`IsSessionBound`, which `vector_bound` computes).
 pub fn near_vector_law()
-    ensures fix { (text_of : List ℕ → Option (List ℕ)) (base rover nav : List ℕ) (o : Options) (out : SinkChange)
-        → (fix : SaysOfSession AnswersFix text_of base rover nav o Done out) → SpellsNear fix.end.out }
+    ensures fix { (text_of : List ℕ →
+        Option (List ℕ)) (base rover nav : List ℕ) (o : Options) (out : SinkChange) →
+        (fix : SaysOfSession AnswersFix text_of base rover nav o Done out) →
+        SpellsNear fix.end.out }
     ensures check { (text_of : List ℕ → Option (List ℕ)) (name : List ℕ) (out : SinkChange)
         → (check : SaysOfText check_job text_of name Done out) → SpellsNear check.text }
 {}
@@ -37,8 +39,10 @@ pub fn near_vector_law()
 /// computes). With the integers held no pair's rows or baseline change another's, so the least-squares baselines of the whole
 /// track, all pairs taken together, are within these bounds too.
 pub fn near_track_law()
-    ensures track { (text_of : List ℕ → Option (List ℕ)) (base rover nav : List ℕ) (o : Options) (out : SinkChange)
-        → (track : SaysOfSession AnswersTrack text_of base rover nav o Done out) → SpellsNearTrack track.end.out }
+    ensures track { (text_of : List ℕ →
+        Option (List ℕ)) (base rover nav : List ℕ) (o : Options) (out : SinkChange) →
+        (track : SaysOfSession AnswersTrack text_of base rover nav o Done out) →
+        SpellsNearTrack track.end.out }
     ensures check { (text_of : List ℕ → Option (List ℕ)) (name : List ℕ) (out : SinkChange)
         → (check : SaysOfText check_track_job text_of name Done out) → SpellsNearTrack check.text }
 {}
@@ -46,10 +50,13 @@ pub fn near_track_law()
 /// In each certificate that `fix` or `track` has printed, fixed or not, the arcs stand in the order of first pair, then satellite,
 /// and an arc is a datum exactly where its first pair is after the last pair of every arc before it.
 pub fn arc_order_law()
-    ensures fix { (text_of : List ℕ → Option (List ℕ)) (base rover nav : List ℕ) (o : Options) (status : Status) (out : SinkChange)
-        → (fix : SaysOfSession AnswersFix text_of base rover nav o status out) → (cert : Cert) → fix.answer.outcome.answer ≡ answer.Full cert
-        → SpellsOrdered fix.end.out }
-    ensures track { (text_of : List ℕ → Option (List ℕ)) (base rover nav : List ℕ) (o : Options) (status : Status) (out : SinkChange)
-        → (track : SaysOfSession AnswersTrack text_of base rover nav o status out) → (cert : TrackCert) → track.answer.outcome.answer ≡ track_answer.Full cert
-        → SpellsOrderedTrack track.end.out }
+    ensures fix { (text_of : List ℕ → Option (List ℕ)) (base rover nav : List ℕ) (o : Options)
+        (status : Status) (out : SinkChange) →
+        (fix : SaysOfSession AnswersFix text_of base rover nav o status out) → (cert : Cert) →
+        fix.answer.outcome.answer ≡ answer.Full cert → SpellsOrdered fix.end.out }
+    ensures track { (text_of : List ℕ → Option (List ℕ)) (base rover nav : List ℕ) (o : Options)
+        (status : Status) (out : SinkChange) →
+        (track : SaysOfSession AnswersTrack text_of base rover nav o status out) →
+        (cert : TrackCert) → track.answer.outcome.answer ≡ track_answer.Full cert →
+        SpellsOrderedTrack track.end.out }
 {}

@@ -35,7 +35,9 @@ fn session_by_words<C: SessionCommand, F: Files>(
     nav: &Word,
     options: &Options,
 ) -> Result<JobOutput, JobStop>
-    ensures { IsDoneOver (file_work F.Files files.old files.new) (base.now ∷ rover.now ∷ nav.now ∷ []) IsPairLine (SessionEnds C.answers (known_between F.Files files.old files.new) base.now rover.now nav.now options.now) result }
+    ensures { IsDoneOver (file_work F.Files files.old files.new)
+        (base.now ∷ rover.now ∷ nav.now ∷ []) IsPairLine (SessionEnds C.answers
+        (known_between F.Files files.old files.new) base.now rover.now nav.now options.now) result }
 {
     answer_session(
         alloc,
@@ -70,7 +72,8 @@ fn sim_part(
 // What the job ends with.
 fn do_job<F: Files>(alloc: Global, job: &Job, files: &mut F) -> Result<JobOutput, JobStop>
     requires { IsInRange job.now }
-    ensures done { IsDoneOver (file_work F.Files files.old files.new) (file_words job.now) (IsLineOf job.now) (JobEnds job.now (known_between F.Files files.old files.new)) result }
+    ensures done { IsDoneOver (file_work F.Files files.old files.new) (file_words job.now)
+        (IsLineOf job.now) (JobEnds job.now (known_between F.Files files.old files.new)) result }
     ensures untouched { file_words job.now ≡ [] → files.new ≡ files.old }
 {
     match job {
@@ -124,9 +127,13 @@ fn do_job<F: Files>(alloc: Global, job: &Job, files: &mut F) -> Result<JobOutput
 
 // What the words ask for, as far as memory goes.
 fn answer_of<F: Files>(alloc: Global, words: &[String], files: &mut F) -> Result<JobOutput, JobStop>
-    ensures answer { IfEnded result (λ end. AnswersJob (texts_of words.now) (file_work F.Files files.old files.new) end ⊎ AnswersUsage (texts_of words.now) end) }
-    ensures done { (job : Job) → IsJob (texts_of words.now) job → IsDoneOver (file_work F.Files files.old files.new) (file_words job) (IsLineOf job) (JobEnds job (known_between F.Files files.old files.new)) result }
-    ensures untouched { ((job : Job) → IsJob (texts_of words.now) job → file_words job ≡ []) → files.new ≡ files.old }
+    ensures answer { IfEnded result (λ end. AnswersJob (texts_of words.now)
+        (file_work F.Files files.old files.new) end ⊎ AnswersUsage (texts_of words.now) end) }
+    ensures done { (job : Job) → IsJob (texts_of words.now) job →
+        IsDoneOver (file_work F.Files files.old files.new) (file_words job) (IsLineOf job)
+        (JobEnds job (known_between F.Files files.old files.new)) result }
+    ensures untouched { ((job : Job) → IsJob (texts_of words.now) job → file_words job ≡ []) →
+        files.new ≡ files.old }
 {
     match read_words(alloc, words) {
         Ok(job) => do_job(alloc, &job, files),
@@ -143,9 +150,12 @@ pub fn start<F: Files, O: Sink, E: Sink>(
     out: &mut O,
     err: &mut E,
 ) -> u8
-    ensures started { IfOk words (λ ws. IsStarted (texts_of ws.items) (file_work F.Files files.old files.new) (files.new ≡ files.old) result (sink_change O.Sink out.old out.new) (sink_change E.Sink err.old err.new)) }
+    ensures started { IfOk words (λ ws. IsStarted (texts_of ws.items)
+        (file_work F.Files files.old files.new) (files.new ≡ files.old) result
+        (sink_change O.Sink out.old out.new) (sink_change E.Sink err.old err.new)) }
     ensures no_files { IsErr words → files.new ≡ files.old }
-    ensures no_words { IsErr words → HasNoWords result (sink_change O.Sink out.old out.new) (sink_change E.Sink err.old err.new) }
+    ensures no_words { IsErr words → HasNoWords result (sink_change O.Sink out.old out.new)
+        (sink_change E.Sink err.old err.new) }
 {
     match words {
         Ok(words) => run(alloc, &words, files, out, err).number(),
@@ -168,16 +178,24 @@ pub fn start_on_host<R: std::rt::Files + Drop, O: Write + Drop, E: Write + Drop>
     out: &mut HostSink<O>,
     err: &mut HostSink<E>,
 ) -> u8
-    ensures answer { IfOk words (λ ws. (job : Job) → IsJob (texts_of ws.items) job → result < 2
-        → AnswersByCalls job result (⟦<HostFiles<R> as Files>⟧.given files.old) (⟦<HostFiles<R> as Files>⟧.given files.new)
-        (⟦<HostSink<O> as Sink>⟧.taken out.old) (⟦<HostSink<O> as Sink>⟧.taken out.new) (⟦<HostSink<E> as Sink>⟧.taken err.old) (⟦<HostSink<E> as Sink>⟧.taken err.new)) }
-    ensures refusal { IfOk words (λ ws. (job : Job) → IsJob (texts_of ws.items) job → result ≡ 3
-        → RefusesByCalls job (⟦<HostFiles<R> as Files>⟧.given files.old) (⟦<HostFiles<R> as Files>⟧.given files.new)
-        (⟦<HostSink<O> as Sink>⟧.taken out.old) (⟦<HostSink<O> as Sink>⟧.taken out.new) (sink_change ⟦<HostSink<E> as Sink>⟧ err.old err.new)) }
-    ensures started { IfOk words (λ ws. IsStarted (texts_of ws.items) (file_work ⟦<HostFiles<R> as Files>⟧ files.old files.new) (files.new ≡ files.old) result
-        (sink_change ⟦<HostSink<O> as Sink>⟧ out.old out.new) (sink_change ⟦<HostSink<E> as Sink>⟧ err.old err.new)) }
+    ensures answer { IfOk words (λ ws. (job : Job) → IsJob (texts_of ws.items) job → result < 2 →
+        AnswersByCalls job result (⟦<HostFiles<R> as Files>⟧.given files.old)
+        (⟦<HostFiles<R> as Files>⟧.given files.new) (⟦<HostSink<O> as Sink>⟧.taken out.old)
+        (⟦<HostSink<O> as Sink>⟧.taken out.new) (⟦<HostSink<E> as Sink>⟧.taken err.old)
+        (⟦<HostSink<E> as Sink>⟧.taken err.new)) }
+    ensures refusal { IfOk words (λ ws. (job : Job) → IsJob (texts_of ws.items) job → result ≡ 3 →
+        RefusesByCalls job (⟦<HostFiles<R> as Files>⟧.given files.old)
+        (⟦<HostFiles<R> as Files>⟧.given files.new) (⟦<HostSink<O> as Sink>⟧.taken out.old)
+        (⟦<HostSink<O> as Sink>⟧.taken out.new)
+        (sink_change ⟦<HostSink<E> as Sink>⟧ err.old err.new)) }
+    ensures started { IfOk words (λ ws.
+        IsStarted (texts_of ws.items) (file_work ⟦<HostFiles<R> as Files>⟧ files.old files.new)
+        (files.new ≡ files.old) result (sink_change ⟦<HostSink<O> as Sink>⟧ out.old out.new)
+        (sink_change ⟦<HostSink<E> as Sink>⟧ err.old err.new)) }
     ensures no_files { IsErr words → files.new ≡ files.old }
-    ensures no_words { IsErr words → HasNoWords result (sink_change ⟦<HostSink<O> as Sink>⟧ out.old out.new) (sink_change ⟦<HostSink<E> as Sink>⟧ err.old err.new) }
+    ensures no_words { IsErr words →
+        HasNoWords result (sink_change ⟦<HostSink<O> as Sink>⟧ out.old out.new)
+        (sink_change ⟦<HostSink<E> as Sink>⟧ err.old err.new) }
 {
     start(alloc, words, files, out, err)
 }
@@ -195,17 +213,27 @@ pub fn run<F: Files, O: Sink, E: Sink>(
     out: &mut O,
     err: &mut E,
 ) -> Status
-    ensures run { IsRun (texts_of words.now) (file_work F.Files files.old files.new) result (sink_change O.Sink out.old out.new) (sink_change E.Sink err.old err.new) }
-    ensures files { (job : Job) → IsJob (texts_of words.now) job → UsesFiles (file_work F.Files files.old files.new) (file_words job) result }
-    ensures untouched { ((job : Job) → IsJob (texts_of words.now) job → file_words job ≡ []) → files.new ≡ files.old }
+    ensures run { IsRun (texts_of words.now) (file_work F.Files files.old files.new) result
+        (sink_change O.Sink out.old out.new) (sink_change E.Sink err.old err.new) }
+    ensures files { (job : Job) → IsJob (texts_of words.now) job →
+        UsesFiles (file_work F.Files files.old files.new) (file_words job) result }
+    ensures untouched { ((job : Job) → IsJob (texts_of words.now) job → file_words job ≡ []) →
+        files.new ≡ files.old }
     ensures read { result ≡ Status.ReadFault → Rose (F.faults files.old) (F.faults files.new) }
-    ensures write { result ≡ Status.WriteFault → Rose (O.faults out.old) (O.faults out.new) ⊎ Rose (E.faults err.old) (E.faults err.new) }
-    ensures steady { IsVerdictStatus result → (O.faults out.new ≡ O.faults out.old) × (E.faults err.new ≡ E.faults err.old) }
+    ensures write { result ≡ Status.WriteFault →
+        Rose (O.faults out.old) (O.faults out.new) ⊎ Rose (E.faults err.old) (E.faults err.new) }
+    ensures steady { IsVerdictStatus result →
+        (O.faults out.new ≡ O.faults out.old) × (E.faults err.new ≡ E.faults err.old) }
     ensures usage { result ≡ Status.Usage → (job : Job) → IsJob (texts_of words.now) job → ⊥ }
-    ensures output { (job : Job) → IsJob (texts_of words.now) job → IsVerdictStatus result → SaysOfJob job (known_between F.Files files.old files.new) result (sink_change O.Sink out.old out.new) }
-    ensures complete { (job : Job) → IsJob (texts_of words.now) job → IsReadable job (known_between F.Files files.old files.new)
-        → All (F.is_sure_name files.old) (file_words job) ⊎ (Rose (F.faults files.old) (F.faults files.new) → ⊥)
-        → IsComplete job (known_between F.Files files.old files.new) result (sink_change O.Sink out.old out.new) (sink_change E.Sink err.old err.new) }
+    ensures output { (job : Job) → IsJob (texts_of words.now) job → IsVerdictStatus result →
+        SaysOfJob job (known_between F.Files files.old files.new) result
+        (sink_change O.Sink out.old out.new) }
+    ensures complete { (job : Job) → IsJob (texts_of words.now) job →
+        IsReadable job (known_between F.Files files.old files.new) →
+        All (F.is_sure_name files.old) (file_words job)
+        ⊎ (Rose (F.faults files.old) (F.faults files.new) → ⊥) →
+        IsComplete job (known_between F.Files files.old files.new) result
+        (sink_change O.Sink out.old out.new) (sink_change E.Sink err.old err.new) }
 {
     write_answer(alloc, words, files, out, err)
 }
@@ -218,9 +246,12 @@ fn write_answer<F: Files, O: Sink, E: Sink>(
     out: &mut O,
     err: &mut E,
 ) -> Status
-    ensures run { IsRun (texts_of words.now) (file_work F.Files files.old files.new) result (sink_change O.Sink out.old out.new) (sink_change E.Sink err.old err.new) }
-    ensures files { (job : Job) → IsJob (texts_of words.now) job → UsesFiles (file_work F.Files files.old files.new) (file_words job) result }
-    ensures untouched { ((job : Job) → IsJob (texts_of words.now) job → file_words job ≡ []) → files.new ≡ files.old }
+    ensures run { IsRun (texts_of words.now) (file_work F.Files files.old files.new) result
+        (sink_change O.Sink out.old out.new) (sink_change E.Sink err.old err.new) }
+    ensures files { (job : Job) → IsJob (texts_of words.now) job →
+        UsesFiles (file_work F.Files files.old files.new) (file_words job) result }
+    ensures untouched { ((job : Job) → IsJob (texts_of words.now) job → file_words job ≡ []) →
+        files.new ≡ files.old }
     ensures read { result ≡ Status.ReadFault → Rose (F.faults files.old) (F.faults files.new) }
 {
     let end = answer_of(alloc, words, files);
@@ -229,7 +260,8 @@ fn write_answer<F: Files, O: Sink, E: Sink>(
 
 // Writes why there is no answer, as the words end then.
 fn write_stop<O: Sink, E: Sink>(stop: &JobStop, out: &mut O, err: &mut E) -> Status
-    ensures { IsDelivered (stop_end stop.now) result (sink_change O.Sink out.old out.new) (sink_change E.Sink err.old err.new) }
+    ensures { IsDelivered (stop_end stop.now) result (sink_change O.Sink out.old out.new)
+        (sink_change E.Sink err.old err.new) }
 {
     match stop {
         JobStop::Ended(answer) => deliver(answer.status, &answer.out, &answer.err, out, err),
@@ -239,7 +271,8 @@ fn write_stop<O: Sink, E: Sink>(stop: &JobStop, out: &mut O, err: &mut E) -> Sta
 
 // Writes what the words end with.
 fn write_end<O: Sink, E: Sink>(end: &Result<JobOutput, JobStop>, out: &mut O, err: &mut E) -> Status
-    ensures { IsDelivered (end_of end.now) result (sink_change O.Sink out.old out.new) (sink_change E.Sink err.old err.new) }
+    ensures { IsDelivered (end_of end.now) result (sink_change O.Sink out.old out.new)
+        (sink_change E.Sink err.old err.new) }
 {
     match end {
         Ok(answer) => deliver(answer.status, &answer.out, &answer.err, out, err),

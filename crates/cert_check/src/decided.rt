@@ -92,7 +92,8 @@ pub fn decide_rows(session: &Session, ratio: u32, budget: u64) -> Tail
 
 /// No value of a form is below its last entry, which fits its word.
 pub fn values_from(form: &Form)
-    ensures { (z : List ℤ) → length z ≡ integers_of form.now → neg_ℤ (pos (2 ^ 63)) ≤ℤ value_of form.now z }
+    ensures { (z : List ℤ) → length z ≡ integers_of form.now →
+        neg_ℤ (pos (2 ^ 63)) ≤ℤ value_of form.now z }
 {
     lower_sum_law(form);
     let _last = form.g;

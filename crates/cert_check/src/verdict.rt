@@ -40,10 +40,13 @@ fn said_of(decided: &Tail, tail: &Tail) -> Verdict
 /// are, each other integer vector, with any baseline, has a weighted sum of squares that is greater, and greater by the
 /// certificate's ratio. Nothing of the tail is read before the rows are decided.
 pub fn check(cert: &Cert) -> Verdict
-    ensures verdict { IsVerdictOf cert.now.session cert.now.ratio cert.now.budget cert.now.tail result }
+    ensures verdict { IsVerdictOf cert.now.session cert.now.ratio cert.now.budget cert.now.tail
+        result }
     ensures strictly_best { result ≡ Certified → IsBestIn cert.now.session cert.now.tail }
-    ensures by_ratio { result ≡ Certified → IsBestByRatioIn cert.now.ratio cert.now.session cert.now.tail }
-    ensures only { (v : Verdict) → IsVerdictOf cert.now.session cert.now.ratio cert.now.budget cert.now.tail v → v ≡ result }
+    ensures by_ratio { result ≡ Certified →
+        IsBestByRatioIn cert.now.ratio cert.now.session cert.now.tail }
+    ensures only { (v : Verdict) →
+        IsVerdictOf cert.now.session cert.now.ratio cert.now.budget cert.now.tail v → v ≡ result }
 {
     let decided = decide_rows(&cert.session, cert.ratio, cert.budget);
     said_of(&decided, &cert.tail)

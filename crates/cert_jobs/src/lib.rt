@@ -39,7 +39,8 @@ pub fn status_of(verdict: &Verdict) -> Status
 
 /// What a check that comes to this verdict answers.
 pub fn verdict_output(alloc: Global, verdict: &Verdict) -> Result<JobOutput, AllocError>
-    ensures ended { IfOk result (λ a. ending_of a ≡ ending (status_of verdict.now) (verdict_text verdict.now) []) }
+    ensures ended { IfOk result (λ a.
+        ending_of a ≡ ending (status_of verdict.now) (verdict_text verdict.now) []) }
     ensures verdict { IfOk result (λ a. IsVerdictStatus a.status) }
 {
     let mut out = Vec::new(alloc);

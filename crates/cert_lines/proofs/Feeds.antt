@@ -13,6 +13,7 @@ use Rattle.cert_words.proofs.TextLaws.{has_no_feed, AreLines, feed-append, numbe
 use Rattle.cert_lines.specs.Lines.{vector_line, arc_line, kind_text, row_numbers, row_lines, arc_lines, counted_arcs, count_line, pair_line, values_line, weak_line}
 use Rattle.cert_lines.specs.Places.{select}
 use Rattle.obs_rows.specs.Signals.{phase_bands}
+use Rattle.obs_rows.specs.declared.limits.TheConstants.{MOST_ARCS}
 use Rattle.cert_lines.proofs.Sizes.{row_small, shifts_small, entries_small, point_small, values_small, pair_small, weak_small}
 
 pub worded : (word : List ℕ) (zs : List ℤ) → has_no_feed word ≡ true → AreSmall zs → has_no_feed (word ++ behind_blanks zs) ≡ true
@@ -63,7 +64,7 @@ arcs_feed ss (a ∷ arcs) all = (arc_feed ss a (All-head IsArcInRange a arcs all
 pub counted_arcs_feed : (ss : List ℕ) (arcs : List Arc) → AreArcs arcs → AreLines (counted_arcs ss arcs)
 counted_arcs_feed ss arcs are = (count_feed (codes "arcs") (length arcs) refl (omega (arith, are.few)), arcs_feed ss arcs are.ranges)
 
-pub rows_feed : (ss : List ℕ) (arcs : List Arc) (number : ℕ) (rows : List Row) → length arcs ≤ 200 → All (IsOfPair arcs number) rows → AreLines (row_lines ss rows)
+pub rows_feed : (ss : List ℕ) (arcs : List Arc) (number : ℕ) (rows : List Row) → length arcs ≤ MOST_ARCS → All (IsOfPair arcs number) rows → AreLines (row_lines ss rows)
 rows_feed ss arcs number [] few all = tt
 rows_feed ss arcs number (r ∷ rows) few all = (
   worded (codes "row") (row_numbers ss r) refl (row_small ss arcs number r few (All-head (IsOfPair arcs number) r rows all)),

@@ -31,7 +31,7 @@ use Rattle.cert_lines.specs.Versions.{most_sat, group_limit, groups}
 use Rattle.cert_lines.proofs.Spreading.{bands_good}
 use Rattle.obs_rows.specs.declared.units.TheConstants.{SIGNALS, PHASES}
 use Rattle.obs_rows.specs.Unused.{HasUsedShifts}
-use Rattle.obs_rows.specs.declared.limits.TheConstants.{MOST_PAIRS, LAST_PAIR, MOST_COORDINATE, MOST_SATELLITES}
+use Rattle.obs_rows.specs.declared.limits.TheConstants.{MOST_PAIRS, LAST_PAIR, MOST_COORDINATE, MOST_SATELLITES, MOST_ARCS}
 use Rattle.rinex_head.specs.declared.place.Flaw.{Flaw}
 use Rattle.cert_lines.specs.Lengths.{IsWholeArc, IsWholeRow}
 use Rattle.cert_lines.proofs.Sizes.{below_small, row_small, shifts_small, select_in, point_small}
@@ -224,7 +224,7 @@ row_count ss r whole =
     let many : length chosen ≡ length ss = length-map ss (λ p. get_or r.y p (pos 0)) in
     omega (arith, length-append chosen (r.ry ∷ (r.u ++ r.ru)), length-append r.u r.ru, many, whole.u, whole.ru)
 
-pub row_spells : (ss : List ℕ) (arcs : List Arc) (number least : ℕ) (r : Row) → length arcs ≤ 200 → IsOfPair arcs number r → IsWholeRow r → least ≤ r.arc
+pub row_spells : (ss : List ℕ) (arcs : List Arc) (number least : ℕ) (r : Row) → length arcs ≤ MOST_ARCS → IsOfPair arcs number r → IsWholeRow r → least ≤ r.arc
     → row_in ss arcs number least (row_line ss r) ≡ Ok r.arc
 row_spells ss arcs number least r few of_pair whole from =
     let numbers = row_numbers ss r in

@@ -18,6 +18,7 @@ use Rattle.cert_lines.specs.Forms.{may_stand, arc_in, pair_head, pair_in, behind
 use Rattle.obs_rows.specs.declared.units.TheConstants.{SIGNALS}
 use Rattle.obs_rows.specs.Signals.{used_signals}
 use Rattle.obs_rows.specs.Unused.{HasUsedShifts, IsZeroOff}
+use Rattle.obs_rows.specs.declared.limits.TheConstants.{MOST_ARCS}
 use Rattle.cert_lines.specs.Lengths.{IsWholeArc, IsWholeRow}
 use Rattle.cert_lines.proofs.Sizes.{row_small}
 use Rattle.cert_lines.proofs.Spreading.{signals_good}
@@ -76,7 +77,7 @@ signals_line_same version a b old_a old_b e =
 abbrev pub HasUsedY : ℕ → ℕ → Row → Type 0
 HasUsedY l2 l5 r = IsZeroOff (used_signals l2 l5) r.y
 
-pub row_line_same : (l2 l5 : ℕ) (arcs arcs' : List Arc) (k k' : ℕ) (r s : Row) → length arcs ≤ 200 → length arcs' ≤ 200 → IsOfPair arcs k r → IsOfPair arcs' k' s → IsWholeRow r
+pub row_line_same : (l2 l5 : ℕ) (arcs arcs' : List Arc) (k k' : ℕ) (r s : Row) → length arcs ≤ MOST_ARCS → length arcs' ≤ MOST_ARCS → IsOfPair arcs k r → IsOfPair arcs' k' s → IsWholeRow r
     → IsWholeRow s → HasUsedY l2 l5 r → HasUsedY l2 l5 s
     → row_line (used_signals l2 l5) r ≡ row_line (used_signals l2 l5) s → r ≡ s
 row_line_same l2 l5 arcs arcs' k k' r s few few' of_r of_s wr ws ur us e =
@@ -96,7 +97,7 @@ row_line_same l2 l5 arcs arcs' k k' r s few few' of_r of_s wr ws ur us e =
     let split_same_way = split_same r.u r.ru s.u s.ru (wr.u ∙ sym ws.u) rest.1 in
     row_same r s arc same_signals rest.0 split_same_way.0 split_same_way.1
 
-pub rows_same : (l2 l5 : ℕ) (arcs arcs' : List Arc) (k k' : ℕ) (rows rows' : List Row) (rest rest' : List (List ℕ)) → length arcs ≤ 200 → length arcs' ≤ 200 → All (IsOfPair arcs k) rows
+pub rows_same : (l2 l5 : ℕ) (arcs arcs' : List Arc) (k k' : ℕ) (rows rows' : List Row) (rest rest' : List (List ℕ)) → length arcs ≤ MOST_ARCS → length arcs' ≤ MOST_ARCS → All (IsOfPair arcs k) rows
     → All (IsOfPair arcs' k') rows' → All IsWholeRow rows → All IsWholeRow rows'
     → All (HasUsedY l2 l5) rows → All (HasUsedY l2 l5) rows' → length rows ≡ length rows' → row_lines (used_signals l2 l5) rows ++ rest ≡ row_lines (used_signals l2 l5) rows' ++ rest'
     → (rows ≡ rows') × (rest ≡ rest')

@@ -9,7 +9,7 @@ use Rattle.obs_rows.specs.declared.rows.Row.{Row}
 use Rattle.obs_rows.specs.declared.pair_rows.PairRows.{PairRows}
 use Rattle.obs_rows.specs.Ranges.{IsWithin, IsBelow, IsRadius, IsPoint}
 use Rattle.obs_rows.specs.Arcs.{IsArcInRange, IsOfPair}
-use Rattle.obs_rows.specs.declared.limits.TheConstants.{MOST_COORDINATE}
+use Rattle.obs_rows.specs.declared.limits.TheConstants.{MOST_COORDINATE, MOST_ARCS}
 use Rattle.cert_words.proofs.NumberLaws.{AreSmall}
 use Rattle.cert_lines.specs.Lines.{row_numbers}
 use Rattle.cert_lines.proofs.Values.{small_append}
@@ -64,7 +64,7 @@ shifts_small bands a is = select_small (IsBelow (2 ^ 40)) bands a.shift (omega a
 
 -- ---- the numbers of a line
 
-pub row_small : (ss : List ℕ) (arcs : List Arc) (number : ℕ) (r : Row) → length arcs ≤ 200 → IsOfPair arcs number r → AreSmall (row_numbers ss r)
+pub row_small : (ss : List ℕ) (arcs : List Arc) (number : ℕ) (r : Row) → length arcs ≤ MOST_ARCS → IsOfPair arcs number r → AreSmall (row_numbers ss r)
 row_small ss arcs number r few is =
     let signals_small = select_small (IsWithin (2 ^ 34)) ss r.y (omega arith) (λ z h. within_small (2 ^ 34) z (omega arith) h) r.y_in in
     let directions_small = each_small (IsWithin (2 ^ 24)) r.u (λ z h. within_small (2 ^ 24) z (omega arith) h) r.u_in in

@@ -9,6 +9,7 @@ use Rattle.std.proofs.lemmas.Bool.Decides.{nat_tests}
 use Rattle.obs_rows.specs.declared.rows.Row.{Row}
 use Rattle.decimal_text.specs.Whole.{size_of}
 use Rattle.obs_rows.specs.declared.units.TheConstants.{SIGNALS}
+use Rattle.obs_rows.specs.declared.limits.TheConstants.{MOST_ARCS}
 use Rattle.obs_rows.specs.declared.bands.TheConstants.{L2_LETTERS, L5_LETTERS}
 use Rattle.obs_rows.specs.declared.arcs.Arc.{Arc}
 use Rattle.obs_rows.specs.Letters.{is_letter}
@@ -72,7 +73,7 @@ observations_small zs inside = in_small 17_179_869_184 OBSERVATIONS zs (lit< tt)
 
 pub row_spelled : (ss : List ℕ) (line : List ℕ) (ns s yn un rn : List Number) (x v : Number) (arc : ℕ) (y : List ℤ) (ry : ℤ) (u ru : List ℤ) → AreGood SIGNALS ss
     → Ok ns ≡ numbers_behind (codes "row") (behind_y ss + 7) line → length ns ≡ behind_y ss + 7 → s ≡ ns
-    → x ≡ number_at s 0 → x.value ≡ pos arc → arc < 200
+    → x ≡ number_at s 0 → x.value ≡ pos arc → arc < MOST_ARCS
     → yn ≡ take (length ss) (drop 1 s) → length yn ≡ length ss → Ok y ≡ put_within SIGNALS OBSERVATIONS ss yn
     → v ≡ number_at s (behind_y ss) → ry ≡ v.value → size_of ry < 2 ^ 64
     → un ≡ take 3 (drop (behind_y ss + 1) s) → Ok u ≡ all_within DIRECTIONS un → All (λ z. size_of z < 2 ^ 64) u

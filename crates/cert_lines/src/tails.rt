@@ -118,7 +118,8 @@ pub fn push_weak_line(
     column: u32,
     pivot: i64,
 ) -> Result<(), AllocError>
-    ensures { OnOk result (out.new.items ≡ out.old.items ++ text_of_lines (weak_line words.now column pivot ∷ [])) }
+    ensures { OnOk result
+        (out.new.items ≡ out.old.items ++ text_of_lines (weak_line words.now column pivot ∷ [])) }
 {
     out.extend_from_slice(words)?;
     push_number(out, column)?;
@@ -129,7 +130,8 @@ pub fn push_weak_line(
 
 /// Appends the line of these words, which end with a blank, and a name.
 pub fn push_named_line(out: &mut Vec<u8>, words: &[u8], name: &[u8]) -> Result<(), AllocError>
-    ensures { OnOk result (out.new.items ≡ out.old.items ++ text_of_lines (named_line words.now name.now ∷ [])) }
+    ensures { OnOk result
+        (out.new.items ≡ out.old.items ++ text_of_lines (named_line words.now name.now ∷ [])) }
 {
     out.extend_from_slice(words)?;
     out.extend_from_slice(name)?;
@@ -139,7 +141,8 @@ pub fn push_named_line(out: &mut Vec<u8>, words: &[u8], name: &[u8]) -> Result<(
 
 /// Appends the line of the values.
 pub fn push_values_line(out: &mut Vec<u8>, values: FormValues) -> Result<(), AllocError>
-    ensures { OnOk result (out.new.items ≡ out.old.items ++ text_of_lines (values_line values.h values.p1 values.p2 values.top ∷ [])) }
+    ensures { OnOk result (out.new.items ≡ out.old.items
+        ++ text_of_lines (values_line values.h values.p1 values.p2 values.top ∷ [])) }
 {
     out.extend_from_slice(b"values")?;
     push_number(out, values.h)?;

@@ -13,7 +13,8 @@ use std::alloc::AllocError;
 
 /// Appends a line of a word and one number that isn't below 0.
 pub fn push_count_line(out: &mut Vec<u8>, word: &[u8], number: u64) -> Result<(), AllocError>
-    ensures { OnOk result (out.new.items ≡ out.old.items ++ text_of_lines (count_line word.now number ∷ [])) }
+    ensures { OnOk result
+        (out.new.items ≡ out.old.items ++ text_of_lines (count_line word.now number ∷ [])) }
 {
     out.extend_from_slice(word)?;
     push_number(out, number)?;
@@ -23,7 +24,8 @@ pub fn push_count_line(out: &mut Vec<u8>, word: &[u8], number: u64) -> Result<()
 
 /// Appends a line of a word and numbers.
 pub fn push_vector_line(out: &mut Vec<u8>, word: &[u8], numbers: &[i64]) -> Result<(), AllocError>
-    ensures { OnOk result (out.new.items ≡ out.old.items ++ text_of_lines (vector_line word.now numbers.now ∷ [])) }
+    ensures { OnOk result
+        (out.new.items ≡ out.old.items ++ text_of_lines (vector_line word.now numbers.now ∷ [])) }
 {
     out.extend_from_slice(word)?;
     push_numbers(out, numbers)?;
@@ -33,7 +35,8 @@ pub fn push_vector_line(out: &mut Vec<u8>, word: &[u8], numbers: &[i64]) -> Resu
 
 /// Appends the line of the system.
 pub fn push_system_line(out: &mut Vec<u8>, system: u8) -> Result<(), AllocError>
-    ensures { OnOk result (out.new.items ≡ out.old.items ++ text_of_lines (system_line system ∷ [])) }
+    ensures { OnOk result
+        (out.new.items ≡ out.old.items ++ text_of_lines (system_line system ∷ [])) }
 {
     out.extend_from_slice(b"system")?;
     out.extend_from_slice(&[b' ', system, b'\n'])
@@ -41,7 +44,8 @@ pub fn push_system_line(out: &mut Vec<u8>, system: u8) -> Result<(), AllocError>
 
 /// Appends the line of the signals' letters.
 pub fn push_signals_line(out: &mut Vec<u8>, signals: Signals) -> Result<(), AllocError>
-    ensures { OnOk result (out.new.items ≡ out.old.items ++ text_of_lines (signals_line Two signals.l1 signals.l2 signals.l5 ∷ [])) }
+    ensures { OnOk result (out.new.items
+        ≡ out.old.items ++ text_of_lines (signals_line Two signals.l1 signals.l2 signals.l5 ∷ [])) }
 {
     let Signals { l1, l2, l5 } = signals;
     if l5 == 0 {
@@ -59,7 +63,8 @@ pub fn push_signals_line(out: &mut Vec<u8>, signals: Signals) -> Result<(), Allo
 /// Appends the line of an arc, whose shifts are as many as there are bands, with the shift of each band that is used.
 /// Outside this crate it serves tests alone.
 pub fn push_arc_line(out: &mut Vec<u8>, signals: Signals, arc: &Arc) -> Result<(), AllocError>
-    ensures text { OnOk result (out.new.items ≡ out.old.items ++ text_of_lines (arc_line (fine_signals signals) arc.now ∷ [])) }
+    ensures text { OnOk result (out.new.items
+        ≡ out.old.items ++ text_of_lines (arc_line (fine_signals signals) arc.now ∷ [])) }
     ensures whole { OnOk result (IsWholeArc arc.now) }
 {
     out.extend_from_slice(b"arc")?;
@@ -73,7 +78,8 @@ pub fn push_arc_line(out: &mut Vec<u8>, signals: Signals, arc: &Arc) -> Result<(
 }
 
 fn push_arc_lines(out: &mut Vec<u8>, signals: Signals, arcs: &[Arc]) -> Result<(), AllocError>
-    ensures text { OnOk result (out.new.items ≡ out.old.items ++ text_of_lines (arc_lines (fine_signals signals) arcs.now)) }
+    ensures text { OnOk result (out.new.items
+        ≡ out.old.items ++ text_of_lines (arc_lines (fine_signals signals) arcs.now)) }
     ensures whole { OnOk result (All IsWholeArc arcs.now) }
 {
     for arc in arcs {
@@ -84,7 +90,8 @@ fn push_arc_lines(out: &mut Vec<u8>, signals: Signals, arcs: &[Arc]) -> Result<(
 
 /// Appends the number of arcs, and the arcs.
 pub fn push_arcs(out: &mut Vec<u8>, signals: Signals, arcs: &[Arc]) -> Result<(), AllocError>
-    ensures text { OnOk result (out.new.items ≡ out.old.items ++ text_of_lines (counted_arcs (fine_signals signals) arcs.now)) }
+    ensures text { OnOk result (out.new.items
+        ≡ out.old.items ++ text_of_lines (counted_arcs (fine_signals signals) arcs.now)) }
     ensures whole { OnOk result (All IsWholeArc arcs.now) }
 {
     push_count_line(out, b"arcs", arcs.len() as u64)?;
@@ -100,7 +107,8 @@ fn kind_text(datum: bool) -> &'static [u8]
 /// Appends the line of a row, whose arrays have their lengths, with the observation of each signal of the bands that are
 /// used.
 pub fn push_row_line(out: &mut Vec<u8>, signals: Signals, row: &Row) -> Result<(), AllocError>
-    ensures text { OnOk result (out.new.items ≡ out.old.items ++ text_of_lines (row_line (fine_signals signals) row.now ∷ [])) }
+    ensures text { OnOk result (out.new.items
+        ≡ out.old.items ++ text_of_lines (row_line (fine_signals signals) row.now ∷ [])) }
     ensures whole { OnOk result (IsWholeRow row.now) }
 {
     out.extend_from_slice(b"row")?;
@@ -115,7 +123,8 @@ pub fn push_row_line(out: &mut Vec<u8>, signals: Signals, row: &Row) -> Result<(
 
 /// Appends the lines of rows.
 pub fn push_row_lines(out: &mut Vec<u8>, signals: Signals, rows: &[Row]) -> Result<(), AllocError>
-    ensures text { OnOk result (out.new.items ≡ out.old.items ++ text_of_lines (row_lines (fine_signals signals) rows.now)) }
+    ensures text { OnOk result (out.new.items
+        ≡ out.old.items ++ text_of_lines (row_lines (fine_signals signals) rows.now)) }
     ensures whole { OnOk result (All IsWholeRow rows.now) }
 {
     for row in rows {
@@ -126,7 +135,8 @@ pub fn push_row_lines(out: &mut Vec<u8>, signals: Signals, rows: &[Row]) -> Resu
 
 /// Appends the line of a pair.
 pub fn push_pair_head(out: &mut Vec<u8>, pair: &PairRows) -> Result<(), AllocError>
-    ensures { OnOk result (out.new.items ≡ out.old.items ++ text_of_lines (pair_line pair.now.number pair.now.tag.0 pair.now.group (length pair.now.rows) ∷ [])) }
+    ensures { OnOk result (out.new.items ≡ out.old.items ++ text_of_lines
+        (pair_line pair.now.number pair.now.tag.0 pair.now.group (length pair.now.rows) ∷ [])) }
 {
     out.extend_from_slice(b"pair")?;
     push_number(out, pair.number)?;
@@ -143,7 +153,8 @@ pub fn push_pair_lines(
     signals: Signals,
     pair: &PairRows,
 ) -> Result<(), AllocError>
-    ensures text { OnOk result (out.new.items ≡ out.old.items ++ text_of_lines (pair_lines (fine_signals signals) pair.now)) }
+    ensures text { OnOk result (out.new.items
+        ≡ out.old.items ++ text_of_lines (pair_lines (fine_signals signals) pair.now)) }
     ensures whole { OnOk result (IsWholePair pair.now) }
 {
     push_pair_head(out, pair)?;

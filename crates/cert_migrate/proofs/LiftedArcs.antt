@@ -12,6 +12,7 @@ use Rattle.obs_rows.specs.Ranges.{IsBelow}
 use Rattle.obs_rows.specs.Arcs.{is_free, free_count, free_before, IsArcInRange, AreArcs}
 use Rattle.obs_rows.specs.Integers.{integer, is_some_free, entry_at}
 use Rattle.obs_rows.specs.Unused.{IsZeroOff, HasUsedShifts}
+use Rattle.obs_rows.specs.declared.limits.TheConstants.{MOST_ARCS}
 use Rattle.cert_migrate.specs.declared.old_arcs.OldArc.{OldArc}
 use Rattle.cert_migrate.specs.OldArcs.{is_old_free, old_free_count, IsOldArcInRange, AreOldArcs}
 use Rattle.cert_migrate.specs.OldSums.{at, old_signals, is_some_old_free, old_integer}
@@ -80,7 +81,7 @@ in_range a h =
 pub arcs_lifted : (arcs : List OldArc) → AreOldArcs arcs → AreArcs (map lifted_arc arcs)
 arcs_lifted arcs h = record {
   some = subst (λ (n : ℕ). 2 ≤ n) (sym (length-map arcs lifted_arc)) h.some;
-  few = subst (λ (n : ℕ). n ≤ 200) (sym (length-map arcs lifted_arc)) h.few;
+  few = subst (λ (n : ℕ). n ≤ MOST_ARCS) (sym (length-map arcs lifted_arc)) h.few;
   some_free = subst (λ (n : ℕ). 1 ≤ n) (sym (count_same arcs)) h.some_free;
   few_free = subst (λ (n : ℕ). n ≤ 20) (sym (count_same arcs)) h.few_free;
   ranges = all_map lifted_arc IsOldArcInRange IsArcInRange in_range arcs h.ranges;

@@ -17,7 +17,7 @@ use Rattle.obs_rows.specs.Letters.{is_letter}
 use Rattle.obs_rows.specs.Ranges.{IsBelow}
 use Rattle.obs_rows.specs.Arcs.{is_free, free_count, IsArcInRange, AreArcs, IsOfPair}
 use Rattle.obs_rows.specs.Pairs.{HasItsArcs, ArePairs}
-use Rattle.obs_rows.specs.declared.limits.TheConstants.{MOST_PAIRS}
+use Rattle.obs_rows.specs.declared.limits.TheConstants.{MOST_PAIRS, MOST_ARCS}
 use Rattle.int_search.specs.declared.answer.TwoBest.{TwoBest}
 use Rattle.int_search.specs.Vectors.{IsSmall}
 use Rattle.cert_data.specs.declared.tails.Tail.{Tail}
@@ -69,7 +69,7 @@ arc_moved a h =
 pub arcs_moved : (arcs : List Arc) → AreArcs arcs → All (λ a. a.sat ≤ 32) arcs → AreOldArcs (map old_arc arcs)
 arcs_moved arcs h sats = record {
   some = subst (λ (n : ℕ). 2 ≤ n) (sym (length-map arcs old_arc)) h.some;
-  few = subst (λ (n : ℕ). n ≤ 200) (sym (length-map arcs old_arc)) h.few;
+  few = subst (λ (n : ℕ). n ≤ MOST_ARCS) (sym (length-map arcs old_arc)) h.few;
   some_free = subst (λ (n : ℕ). 1 ≤ n) (sym (count_moved arcs)) h.some_free;
   few_free = subst (λ (n : ℕ). n ≤ 20) (sym (count_moved arcs)) h.few_free;
   ranges = all_map old_arc IsOldSat IsOldArcInRange arc_moved arcs (λ k d inside. record { in_range = h.ranges k d inside; sat_to = sats k d inside });

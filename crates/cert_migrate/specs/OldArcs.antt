@@ -1,7 +1,7 @@
 -- The arcs of a certificate of version 1.
 use Rattle.std.specs.Prelude.{◌≡◌, ◌^◌, ◌<◌, ◌≤◌, ℕ, Bool, not, List, length, count_by, All, Some, slice_get}
 use Rattle.obs_rows.specs.Ranges.{IsBelow}
-use Rattle.obs_rows.specs.declared.limits.TheConstants.{MOST_PAIRS}
+use Rattle.obs_rows.specs.declared.limits.TheConstants.{MOST_PAIRS, MOST_ARCS}
 use Rattle.cert_migrate.specs.declared.old_arcs.OldArc.{OldArc}
 use Rattle.cert_migrate.specs.declared.old_rows.OldRow.{OldRow}
 
@@ -22,7 +22,7 @@ pub record IsOldArcInRange (a : OldArc) : Type 0 where
 -- 2 to 200 arcs, of which 1 to 20 are free
 pub record AreOldArcs (arcs : List OldArc) : Type 0 where
   pub some : 2 ≤ length arcs
-  pub few : length arcs ≤ 200
+  pub few : length arcs ≤ MOST_ARCS
   pub some_free : 1 ≤ old_free_count arcs
   pub few_free : old_free_count arcs ≤ 20
   pub ranges : All IsOldArcInRange arcs

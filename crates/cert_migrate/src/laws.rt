@@ -11,10 +11,12 @@ ghost use Rattle.cert_migrate.specs.OldSpelling.{old_spelling, IsWholeOld};
 
 /// No two certificates of the first version have the same spelling: what is written of one determines it.
 pub fn one_old_spelling_law()
-    ensures { (cert other : OldCert) → IsWholeOld cert → IsWholeOld other → old_spelling cert ≡ old_spelling other → cert ≡ other }
+    ensures { (cert other : OldCert) → IsWholeOld cert → IsWholeOld other →
+        old_spelling cert ≡ old_spelling other → cert ≡ other }
 {}
 
 /// The column and the reason of a refusal are those of the check of its own line.
 pub fn old_flaw_law()
-    ensures { (text : List ℕ) (at : At) → reading_as One text ≡ Err at → IsOwnFlaw old_rules (ended_lines text) at }
+    ensures { (text : List ℕ) (at : At) → reading_as One text ≡ Err at →
+        IsOwnFlaw old_rules (ended_lines text) at }
 {}

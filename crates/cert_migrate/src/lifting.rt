@@ -59,13 +59,15 @@ pub fn lift(alloc: Global, old: &OldCert) -> Result<Cert, AllocError>
     ensures budget { IfOk result (λ c. c.budget ≡ old.now.budget) }
     ensures session { IfOk result (λ c. IsLiftedSession old.now.session c.session) }
     ensures tail { IfOk result (λ c. IsRowDecision c.session c.ratio c.budget c.tail) }
-    ensures only { IfOk result (λ c. (t : Tail) → IsRowDecision c.session c.ratio c.budget t → IsSameTail t c.tail) }
+    ensures only { IfOk result (λ c. (t : Tail) → IsRowDecision c.session c.ratio c.budget t →
+        IsSameTail t c.tail) }
     ensures new_best { IfOk result (λ c. IsBestWhereFixed c.session c.tail) }
     ensures new_by_ratio { IfOk result (λ c. IsBestByRatioWhereFixed c.ratio c.session c.tail) }
     ensures boxes { IfOk result (λ c. HasScaledData old.now.session c.session) }
     ensures sums { IfOk result (λ c. HasScaledSums old.now.session c.session) }
     ensures best { IfOk result (λ c. IsOldBestWhereFixed old.now.session c.tail) }
-    ensures by_ratio { IfOk result (λ c. IsOldBestByRatioWhereFixed c.ratio old.now.session c.tail) }
+    ensures by_ratio { IfOk result (λ c.
+        IsOldBestByRatioWhereFixed c.ratio old.now.session c.tail) }
 {
     let session = lifted_session(alloc, &old.session)?;
     let tail = decide_rows(&session, old.ratio, old.budget);

@@ -1,5 +1,6 @@
 //! A certificate of the first version, read.
 ghost use Rattle.std.specs.Prelude.{◌≡◌, ◌≤◌, length, IfOk};
+ghost use Rattle.line_source.specs.declared.transfer.TheConstants.{MAX_FILE};
 ghost use Rattle.rinex_head.specs.LineRules.{Gives, OnRefusal, IfRefused};
 ghost use Rattle.cert_lines.specs.declared.version.Version.TheVariants.{One};
 ghost use Rattle.grammar_lines.specs.Beginnings.{NoneBegins};
@@ -16,10 +17,11 @@ use std::alloc::Global;
 
 /// The certificate that a text spells in the form of the first version, or the first place at which it is none.
 pub fn read_old(alloc: Global, text: &[u8]) -> Result<OldCert, TextFault>
-    requires { length text.now ≤ 67108864 }
+    requires { length text.now ≤ MAX_FILE }
     ensures ok { IfOk result (λ c. text.now ≡ old_spelling c) }
     ensures whole { IfOk result IsWholeOld }
-    ensures only { IfOk result (λ c. (d : OldCert) → IsWholeOld d → text.now ≡ old_spelling d → d ≡ c) }
+    ensures only { IfOk result (λ c. (d : OldCert) → IsWholeOld d → text.now ≡ old_spelling d →
+        d ≡ c) }
     ensures refused { OnRefusal result (IsOldCertificate text.now → ⊥) }
     ensures stuck { IfRefused result (λ at. NoneBegins IsOldCertificate text.now at.line) }
     ensures first { IfRefused result (λ at. BeginsBefore IsOldCertificate text.now at.line) }

@@ -70,7 +70,8 @@ fn sum_of(
     requires arcs { All (λ r. r.arc < length arcs.now) rows.now }
     requires few { length rows.now ≤ 15 }
     requires signal { signal < SIGNALS }
-    ensures value { result ≡ sum (map (centre arcs.now signals.now z.now moved.now signal) rows.now) }
+    ensures value { result
+        ≡ sum (map (centre arcs.now signals.now z.now moved.now signal) rows.now) }
     ensures size { unsigned_abs result ≤ 15 * 2 ^ 57 }
 {
     let mut sum: i128 = 0;
@@ -165,7 +166,8 @@ fn write_rows(
 ) -> Result<(), AllocError>
     requires shown { CanShow arcs.now signals.now z.now moved.now }
     requires arcs { HasItsArcs arcs.now pair.now }
-    ensures { OnOk result (out.new.items ≡ out.old.items ++ rows_text arcs.now signals.now z.now moved.now pair.now.number pair.now.rows pair.now.rows) }
+    ensures { OnOk result (out.new.items ≡ out.old.items ++ rows_text arcs.now signals.now z.now
+        moved.now pair.now.number pair.now.rows pair.now.rows) }
 {
     let rows = pair.rows.as_slice();
     for row in rows {
@@ -184,7 +186,8 @@ fn write_session(
     moved: &[i64; 3],
 ) -> Result<(), AllocError>
     requires { CanShow session.now.arcs (fine_signals session.now.signals) z.now moved.now }
-    ensures { OnOk result (out.new.items ≡ out.old.items ++ session_text session.now z.now moved.now) }
+    ensures { OnOk result
+        (out.new.items ≡ out.old.items ++ session_text session.now z.now moved.now) }
 {
     let arcs = session.arcs.as_slice();
     let signals = fine_signals(session.signals);
@@ -202,10 +205,12 @@ fn write_shown(
     best: &TwoBest,
     moved: &[i64; 3],
 ) -> Result<bool, AllocError>
-    requires size { best.now.size ≡ integer_count session.now.arcs (fine_signals session.now.signals) }
+    requires size { best.now.size
+        ≡ integer_count session.now.arcs (fine_signals session.now.signals) }
     requires small { IsSmall best.now.first }
     requires moved { All (IsBelow (2 ^ 46)) moved.now }
-    ensures text { OnOk result (out.new.items ≡ out.old.items ++ session_text session.now (first_of best.now) moved.now) }
+    ensures text { OnOk result
+        (out.new.items ≡ out.old.items ++ session_text session.now (first_of best.now) moved.now) }
     ensures shown { IfOk result (λ shown. shown ≡ true) }
 {
     write_session(alloc, out, session, &best.first[..best.size], moved)?;

@@ -32,7 +32,8 @@ fn push_head(
     point: &[i64; 3],
     signals: Signals,
 ) -> Result<(), AllocError>
-    ensures text { OnOk result (out.new.items ≡ out.old.items ++ text_of_lines (head_lines Two ratio budget system base.now point.now signals)) }
+    ensures text { OnOk result (out.new.items ≡ out.old.items
+        ++ text_of_lines (head_lines Two ratio budget system base.now point.now signals)) }
     ensures base { length base.now ≡ 3 }
     ensures point { length point.now ≡ 3 }
 {
@@ -50,7 +51,8 @@ fn push_all_pair_lines(
     signals: Signals,
     pairs: &[PairRows],
 ) -> Result<(), AllocError>
-    ensures text { OnOk result (out.new.items ≡ out.old.items ++ text_of_lines (all_pair_lines (fine_signals signals) pairs.now)) }
+    ensures text { OnOk result (out.new.items
+        ≡ out.old.items ++ text_of_lines (all_pair_lines (fine_signals signals) pairs.now)) }
     ensures whole { OnOk result (All IsWholePair pairs.now) }
 {
     for pair in pairs {
@@ -61,7 +63,8 @@ fn push_all_pair_lines(
 
 // Appends the number of pairs, and the pairs with their rows.
 fn push_pairs(out: &mut Vec<u8>, signals: Signals, pairs: &[PairRows]) -> Result<(), AllocError>
-    ensures text { OnOk result (out.new.items ≡ out.old.items ++ text_of_lines (counted_pairs (fine_signals signals) pairs.now)) }
+    ensures text { OnOk result (out.new.items
+        ≡ out.old.items ++ text_of_lines (counted_pairs (fine_signals signals) pairs.now)) }
     ensures whole { OnOk result (All IsWholePair pairs.now) }
 {
     push_count_line(out, b"pairs", pairs.len() as u64)?;
@@ -75,7 +78,8 @@ pub(crate) fn push_session(
     budget: u64,
     session: &Session,
 ) -> Result<(), AllocError>
-    ensures text { OnOk result (out.new.items ≡ out.old.items ++ text_of_lines (session_lines Two ratio budget session.now)) }
+    ensures text { OnOk result (out.new.items
+        ≡ out.old.items ++ text_of_lines (session_lines Two ratio budget session.now)) }
     ensures whole { OnOk result (IsWholeSession session.now) }
 {
     push_head(

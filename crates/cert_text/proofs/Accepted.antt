@@ -13,7 +13,7 @@ use Rattle.cert_lines.specs.declared.version.Version.{Version}
 use Rattle.cert_lines.specs.declared.version.Version.TheVariants.{One, Two}
 use Rattle.cert_lines.specs.Versions.{form_line, group_limit, groups}
 use Rattle.obs_rows.specs.Signals.{fine_signals}
-use Rattle.obs_rows.specs.declared.limits.TheConstants.{MOST_PAIRS, MOST_RATIO, MOST_BUDGET}
+use Rattle.obs_rows.specs.declared.limits.TheConstants.{MOST_PAIRS, MOST_RATIO, MOST_BUDGET, MOST_ARCS}
 use Rattle.cert_data.specs.declared.certs.Cert.{Cert}
 use Rattle.cert_spelling.specs.Spelling.{system_lines, head_lines, all_pair_lines, counted_pairs, tail_lines, lines_of_cert, spelling_as}
 use Rattle.rinex_head.specs.Places.{and_then}
@@ -43,7 +43,7 @@ use Rattle.cert_text.proofs.LineLaws.{arcs_taken, rows_taken}
 abbrev HasGroupOf : Version → PairRows → Type 0
 HasGroupOf version p = unsigned_abs p.group < group_limit version
 
-pairs_accepted : (f : Frame) (arcs : List Arc) (least : ℕ) (pairs : List PairRows) (rest : List (List ℕ)) → length f.ss ≤ SIGNALS → length arcs ≤ 200 → All (HasItsArcs arcs) pairs
+pairs_accepted : (f : Frame) (arcs : List Arc) (least : ℕ) (pairs : List PairRows) (rest : List (List ℕ)) → length f.ss ≤ SIGNALS → length arcs ≤ MOST_ARCS → All (HasItsArcs arcs) pairs
     → All IsWholePair pairs → All (HasGroupOf f.version) pairs → RisesFrom (λ p. p.number) least pairs
     → AreAccepted cert_rules (Tail f arcs) rest → AreAccepted cert_rules (before_pairs f arcs (length pairs) least) (all_pair_lines f.ss pairs ++ rest)
 pairs_accepted f arcs least [] rest signals few has whole groups rising behind = behind

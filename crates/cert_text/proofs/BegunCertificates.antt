@@ -4,7 +4,7 @@ use Rattle.std.proofs.lemmas.List.{append-nil, take_at}
 use Rattle.std.proofs.lemmas.List.Elements.{All-head, All-tail}
 use Rattle.obs_rows.specs.declared.arcs.Arc.{Arc}
 use Rattle.obs_rows.specs.Arcs.{free_count}
-use Rattle.obs_rows.specs.declared.limits.TheConstants.{MOST_PAIRS, MOST_RATIO, MOST_BUDGET}
+use Rattle.obs_rows.specs.declared.limits.TheConstants.{MOST_PAIRS, MOST_RATIO, MOST_BUDGET, MOST_ARCS}
 use Rattle.rinex_head.specs.declared.place.Flaw.{Flaw}
 use Rattle.rinex_head.specs.declared.place.At.{At}
 use Rattle.rinex_head.specs.declared.place.TextFault.{TextFault}
@@ -351,8 +351,8 @@ next_held (Letters v budget) next front line held other e =
       ),
     ))
 next_held (ArcCount f) next front line held other e =
-    by_line f.version (front ++ line ∷ []) (count_in (codes "arcs") 2 200 line) (λ n. before_arcs f n []) next e (λ n is.
-    let read = count_was (codes "arcs") 2 200 line n (omega arith) is in
+    by_line f.version (front ++ line ∷ []) (count_in (codes "arcs") 2 MOST_ARCS line) (λ n. before_arcs f n []) next e (λ n is.
+    let read = count_was (codes "arcs") 2 MOST_ARCS line n (omega arith) is in
     let first_arc = held.0 in
     let none : n ≡ 0 + n = omega arith in
     arcs_next f n [] (front ++ line ∷ []) (record {

@@ -18,7 +18,7 @@ use Rattle.obs_rows.specs.Arcs.{IsOfPair, AreArcs, free_count}
 use Rattle.obs_rows.specs.Pairs.{HasItsArcs}
 use Rattle.obs_rows.specs.Unused.{IsZeroOff, HasUsedRows}
 use Rattle.obs_rows.specs.Signals.{fine_signals}
-use Rattle.obs_rows.specs.declared.limits.TheConstants.{MOST_PAIRS, MOST_RATIO, MOST_BUDGET, MOST_COORDINATE}
+use Rattle.obs_rows.specs.declared.limits.TheConstants.{MOST_PAIRS, MOST_RATIO, MOST_BUDGET, MOST_COORDINATE, MOST_ARCS}
 use Rattle.cert_lines.specs.declared.version.Version.{Version}
 use Rattle.cert_lines.specs.declared.version.Version.TheVariants.{One, Two}
 use Rattle.cert_lines.specs.Versions.{most_sat, group_limit}
@@ -87,12 +87,12 @@ any_head version = record {
 -- these arcs, and the number of those that are to come
 pub record AreBegun (version : Version) (ss : List ℕ) (left : ℕ) (arcs : List Arc) : Type 0 where
   pub some : 2 ≤ length arcs + left
-  pub few : length arcs + left ≤ 200
+  pub few : length arcs + left ≤ MOST_ARCS
   pub some_free : (1 ≤ left) ⊎ (1 ≤ free_count arcs)
   pub few_free : free_count arcs ≤ MOST_FREE_ARCS
   pub each : All (IsArcOf version ss) arcs
 
-pub none_begun : (version : Version) (ss : List ℕ) (left : ℕ) → 2 ≤ left → left ≤ 200 → AreBegun version ss left []
+pub none_begun : (version : Version) (ss : List ℕ) (left : ℕ) → 2 ≤ left → left ≤ MOST_ARCS → AreBegun version ss left []
 none_begun version ss left some few = record { some = omega arith; few = omega arith; some_free = inl (omega arith); few_free = omega arith; each = All-nil (IsArcOf version ss) }
 
 -- one more

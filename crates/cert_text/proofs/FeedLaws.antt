@@ -13,7 +13,7 @@ use Rattle.cert_lines.specs.declared.version.Version.{Version}
 use Rattle.cert_lines.specs.declared.version.Version.TheVariants.{One, Two}
 use Rattle.cert_lines.specs.Versions.{form_line}
 use Rattle.obs_rows.specs.Signals.{fine_signals}
-use Rattle.obs_rows.specs.declared.limits.TheConstants.{MOST_RATIO, MOST_BUDGET}
+use Rattle.obs_rows.specs.declared.limits.TheConstants.{MOST_RATIO, MOST_BUDGET, MOST_ARCS}
 use Rattle.cert_data.specs.declared.certs.Cert.{Cert}
 use Rattle.cert_data.specs.declared.tails.Tail.{Tail}
 use Rattle.cert_data.specs.declared.tails.Tail.TheVariants.{Fixed, Unseparated, Weak, Overwidth, Unsettled, Spent}
@@ -32,7 +32,7 @@ system_feed : (version : Version) (system : ℕ) → IsSystem system → AreLine
 system_feed One system is = tt
 system_feed Two system is = (system_line_feed system is, tt)
 
-pairs_feed : (ss : List ℕ) (arcs : List Arc) (pairs : List PairRows) → length arcs ≤ 200 → All (HasItsArcs arcs) pairs → AreLines (all_pair_lines ss pairs)
+pairs_feed : (ss : List ℕ) (arcs : List Arc) (pairs : List PairRows) → length arcs ≤ MOST_ARCS → All (HasItsArcs arcs) pairs → AreLines (all_pair_lines ss pairs)
 pairs_feed ss arcs [] few all = tt
 pairs_feed ss arcs (p ∷ pairs) few all =
     lines-append (pair_lines ss p) (all_pair_lines ss pairs) (pair_line_feed p, rows_feed ss arcs p.number p.rows few (All-head (HasItsArcs arcs) p pairs all))

@@ -15,7 +15,7 @@ use Rattle.cert_data.specs.declared.tails.Tail.TheVariants.{Fixed, Unseparated, 
 use Rattle.cert_data.specs.Tails.{AreVectors, IsTailOf, tail_of_vectors}
 use Rattle.cert_spelling.specs.Spelling.{system_lines, all_pair_lines, counted_pairs, vectors_lines, tail_lines, lines_of_cert, unsettled_line, spent_line, spelling_as}
 use Rattle.obs_rows.specs.Unused.{HasUsedShifts, HasUsedRows}
-use Rattle.obs_rows.specs.declared.limits.TheConstants.{MOST_BUDGET}
+use Rattle.obs_rows.specs.declared.limits.TheConstants.{MOST_BUDGET, MOST_ARCS}
 use Rattle.cert_lines.specs.TailForms.{last_in}
 use Rattle.cert_text.specs.TailForms.{declined_in}
 use Rattle.cert_spelling.specs.Lengths.{AreWholeVectors, IsWholeTail, IsWhole}
@@ -35,7 +35,7 @@ use Rattle.cert_spelling.proofs.SameVectors.{bests_same}
 
 -- ---- pairs
 
-pub pairs_same : (l2 l5 : ℕ) (arcs arcs' : List Arc) (pairs pairs' : List PairRows) (rest rest' : List (List ℕ)) → length arcs ≤ 200 → length arcs' ≤ 200 → All (HasItsArcs arcs) pairs
+pub pairs_same : (l2 l5 : ℕ) (arcs arcs' : List Arc) (pairs pairs' : List PairRows) (rest rest' : List (List ℕ)) → length arcs ≤ MOST_ARCS → length arcs' ≤ MOST_ARCS → All (HasItsArcs arcs) pairs
     → All (HasItsArcs arcs') pairs' → All IsWholePair pairs → All IsWholePair pairs'
     → All (HasUsedRows (used_signals l2 l5)) pairs → All (HasUsedRows (used_signals l2 l5)) pairs' → length pairs ≡ length pairs'
     → all_pair_lines (used_signals l2 l5) pairs ++ rest ≡ all_pair_lines (used_signals l2 l5) pairs' ++ rest' → (pairs ≡ pairs') × (rest ≡ rest')

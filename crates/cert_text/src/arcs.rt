@@ -23,8 +23,11 @@ pub(crate) fn read_arcs(
     version: Version,
     signals: Signals,
 ) -> Result<ArcList, TextFault>
-    ensures reads { (budget : ℕ) → Reads cert_rules lines.old lines.new (ArcCount (frame version budget (fine_signals signals))) (λ arcs. PairCount (frame version budget (fine_signals signals)) arcs) result }
-    ensures took { IfOk result (λ arcs. lines.old.left ≡ counted_arcs (fine_signals signals) arcs ++ lines.new.left) }
+    ensures reads { (budget : ℕ) → Reads cert_rules lines.old lines.new
+        (ArcCount (frame version budget (fine_signals signals))) (λ arcs.
+        PairCount (frame version budget (fine_signals signals)) arcs) result }
+    ensures took { IfOk result (λ arcs.
+        lines.old.left ≡ counted_arcs (fine_signals signals) arcs ++ lines.new.left) }
     ensures are { IfOk result AreArcs }
     ensures of_version { IfOk result (All (λ a. a.sat ≤ most_sat version)) }
     ensures used { IfOk result (All (HasUsedShifts (fine_signals signals))) }

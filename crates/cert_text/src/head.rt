@@ -27,7 +27,8 @@ pub(crate) struct Head {
 
 // The system, which the first version didn't say.
 fn read_system(lines: &mut Lines<'_>, version: Version) -> Result<u8, At>
-    ensures reads { (budget : ℕ) → ReadsFree cert_rules lines.old lines.new (behind_budget version budget) (λ s. Base version budget) result }
+    ensures reads { (budget : ℕ) → ReadsFree cert_rules lines.old lines.new
+        (behind_budget version budget) (λ s. Base version budget) result }
     ensures took { IfOk result (λ s. lines.old.left ≡ system_lines version s ++ lines.new.left) }
     ensures system { IfOk result IsSystem }
     ensures of_version { IfOk result (λ s. version ≡ One → s ≡ 71) }
@@ -40,8 +41,10 @@ fn read_system(lines: &mut Lines<'_>, version: Version) -> Result<u8, At>
 
 /// Reads the head.
 pub(crate) fn read_head(lines: &mut Lines<'_>, version: Version) -> Result<Head, At>
-    ensures reads { ReadsFree cert_rules lines.old lines.new (Form version) (λ h. ArcCount (frame version h.budget (fine_signals h.signals))) result }
-    ensures took { IfOk result (λ h. lines.old.left ≡ head_lines version h.ratio h.budget h.system h.base h.point h.signals ++ lines.new.left) }
+    ensures reads { ReadsFree cert_rules lines.old lines.new (Form version) (λ h.
+        ArcCount (frame version h.budget (fine_signals h.signals))) result }
+    ensures took { IfOk result (λ h. lines.old.left
+        ≡ head_lines version h.ratio h.budget h.system h.base h.point h.signals ++ lines.new.left) }
     ensures ratio { IfOk result (λ h. (1000 ≤ h.ratio) × (h.ratio ≤ MOST_RATIO)) }
     ensures budget { IfOk result (λ h. (1 ≤ h.budget) × (h.budget ≤ MOST_BUDGET)) }
     ensures system { IfOk result (λ h. IsSystem h.system) }

@@ -10,10 +10,12 @@ ghost use Rattle.cert_text.specs.Rules.{cert_rules, reading_of};
 
 /// No two certificates have the same spelling: what is written of one determines it.
 pub fn one_spelling_law()
-    ensures { (cert other : Cert) → IsWhole cert → IsWhole other → spelling cert ≡ spelling other → cert ≡ other }
+    ensures { (cert other : Cert) → IsWhole cert → IsWhole other → spelling cert ≡ spelling other →
+        cert ≡ other }
 {}
 
 /// The column and the reason of a refusal are those of the check of its own line.
 pub fn cert_flaw_law()
-    ensures { (text : List ℕ) (at : At) → reading_of text ≡ Err at → IsOwnFlaw cert_rules (ended_lines text) at }
+    ensures { (text : List ℕ) (at : At) → reading_of text ≡ Err at →
+        IsOwnFlaw cert_rules (ended_lines text) at }
 {}

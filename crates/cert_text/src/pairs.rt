@@ -1,8 +1,10 @@
 //! The pairs of a certificate, with their rows.
 ghost use Rattle.std.specs.Prelude.{◌≡◌, ◌≤◌, ◌<◌, ◌+◌, ◌-◌, ◌++◌, [], ℕ, All, length, unsigned_abs, IfOk};
 ghost use Rattle.obs_rows.specs.Pairs.{HasItsArcs};
+ghost use Rattle.obs_rows.specs.Heads.{KeepsHead, HasHeadOf};
 ghost use Rattle.obs_rows.specs.Signals.{fine_signals};
 ghost use Rattle.obs_rows.specs.Unused.{HasUsedRows};
+ghost use Rattle.obs_rows.specs.declared.limits.TheConstants.{MOST_ARCS};
 ghost use Rattle.cert_lines.specs.Versions.{group_limit};
 ghost use Rattle.rinex_head.specs.LineRules.{Reads};
 ghost use Rattle.cert_lines.specs.Lines.{pair_lines};
@@ -30,9 +32,13 @@ fn next_pair(
 ) -> Result<PairRows, TextFault>
     requires left { 1 ≤ left }
     requires some { 1 ≤ length arcs.now }
-    requires few { length arcs.now ≤ 200 }
-    ensures reads { (budget : ℕ) → Reads cert_rules lines.old lines.new (before_pairs (frame version budget (fine_signals signals)) arcs.now left least) (λ p. before_pairs (frame version budget (fine_signals signals)) arcs.now (left - 1) (p.number + 1)) result }
-    ensures took { IfOk result (λ p. lines.old.left ≡ pair_lines (fine_signals signals) p ++ lines.new.left) }
+    requires few { length arcs.now ≤ MOST_ARCS }
+    ensures reads { (budget : ℕ) → Reads cert_rules lines.old lines.new
+        (before_pairs (frame version budget (fine_signals signals)) arcs.now left least) (λ p.
+        before_pairs (frame version budget (fine_signals signals)) arcs.now (left - 1)
+        (p.number + 1)) result }
+    ensures took { IfOk result (λ p.
+        lines.old.left ≡ pair_lines (fine_signals signals) p ++ lines.new.left) }
     ensures least { IfOk result (λ p. least ≤ p.number) }
     ensures arcs { IfOk result (λ p. HasItsArcs arcs.now p) }
     ensures of_version { IfOk result (λ p. unsigned_abs p.group < group_limit version) }
@@ -53,17 +59,16 @@ fn read_all_pairs(
 ) -> Result<SessionBuilder, TextFault>
     requires none { session.pairs ≡ [] }
     requires few { count ≤ MOST_PAIRS }
-    ensures reads { (budget : ℕ) → Reads cert_rules lines.old lines.new (before_pairs (frame version budget (fine_signals session.signals)) session.arcs count 0) (λ s. Tail (frame version budget (fine_signals session.signals)) session.arcs) result }
-    ensures took { IfOk result (λ s. lines.old.left ≡ all_pair_lines (fine_signals session.signals) s.pairs ++ lines.new.left) }
+    ensures reads { (budget : ℕ) → Reads cert_rules lines.old lines.new
+        (before_pairs (frame version budget (fine_signals session.signals)) session.arcs count 0)
+        (λ s. Tail (frame version budget (fine_signals session.signals)) session.arcs) result }
+    ensures took { IfOk result (λ s.
+        lines.old.left ≡ all_pair_lines (fine_signals session.signals) s.pairs ++ lines.new.left) }
     ensures count { IfOk result (λ s. length s.pairs ≡ count) }
-    ensures of_version { IfOk result (λ s. All (λ p. unsigned_abs p.group < group_limit version) s.pairs) }
+    ensures of_version { IfOk result (λ s.
+        All (λ p. unsigned_abs p.group < group_limit version) s.pairs) }
     ensures whole { IfOk result (λ s. All IsWholePair s.pairs) }
-    ensures scale { IfOk result (λ s. s.scale ≡ session.scale) }
-    ensures system { IfOk result (λ s. s.system ≡ session.system) }
-    ensures base { IfOk result (λ s. s.base ≡ session.base) }
-    ensures point { IfOk result (λ s. s.point ≡ session.point) }
-    ensures signals { IfOk result (λ s. s.signals ≡ session.signals) }
-    ensures arcs { IfOk result (λ s. s.arcs ≡ session.arcs) }
+    ensures head { IfOk result (KeepsHead session) }
 {
     let signals = session.signals;
     let mut least = 0;
@@ -93,16 +98,15 @@ pub(crate) fn read_pairs(
     session: SessionBuilder,
 ) -> Result<Session, TextFault>
     requires { session.pairs ≡ [] }
-    ensures reads { (budget : ℕ) → Reads cert_rules lines.old lines.new (PairCount (frame version budget (fine_signals session.signals)) session.arcs) (λ s. Tail (frame version budget (fine_signals session.signals)) session.arcs) result }
-    ensures took { IfOk result (λ s. lines.old.left ≡ counted_pairs (fine_signals session.signals) s.pairs ++ lines.new.left) }
-    ensures of_version { IfOk result (λ s. All (λ p. unsigned_abs p.group < group_limit version) s.pairs) }
+    ensures reads { (budget : ℕ) → Reads cert_rules lines.old lines.new
+        (PairCount (frame version budget (fine_signals session.signals)) session.arcs) (λ s.
+        Tail (frame version budget (fine_signals session.signals)) session.arcs) result }
+    ensures took { IfOk result (λ s.
+        lines.old.left ≡ counted_pairs (fine_signals session.signals) s.pairs ++ lines.new.left) }
+    ensures of_version { IfOk result (λ s.
+        All (λ p. unsigned_abs p.group < group_limit version) s.pairs) }
     ensures whole { IfOk result (λ s. All IsWholePair s.pairs) }
-    ensures scale { IfOk result (λ s. s.scale ≡ session.scale) }
-    ensures system { IfOk result (λ s. s.system ≡ session.system) }
-    ensures base { IfOk result (λ s. s.base ≡ session.base) }
-    ensures point { IfOk result (λ s. s.point ≡ session.point) }
-    ensures signals { IfOk result (λ s. s.signals ≡ session.signals) }
-    ensures arcs { IfOk result (λ s. s.arcs ≡ session.arcs) }
+    ensures head { IfOk result (HasHeadOf session) }
 {
     let count = next_count::<CertText>(lines, b"pairs", 1, MOST_PAIRS as u64)?;
     let whole = read_all_pairs(alloc, lines, version, session, count as u32)?;

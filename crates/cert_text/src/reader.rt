@@ -1,5 +1,6 @@
 //! A certificate, read.
 ghost use Rattle.std.specs.Prelude.{◌≡◌, ◌≤◌, [], length, Ok, Err, IfOk, MatchResult};
+ghost use Rattle.line_source.specs.declared.transfer.TheConstants.{MAX_FILE};
 ghost use Rattle.rinex_head.specs.LineRules.{rest_gives, Gives, OnRefusal, IfRefused};
 ghost use Rattle.cert_data.specs.declared.certs.Cert.{Cert};
 ghost use Rattle.cert_spelling.specs.Spelling.{lines_of_cert, spelling_as, spelling};
@@ -61,14 +62,16 @@ fn read_lines(alloc: Global, version: Version, mut lines: Lines<'_>) -> Result<C
 
 /// The certificate that a text spells in the form of a version, or the first place at which it is none.
 pub fn read_as(alloc: Global, version: Version, text: &[u8]) -> Result<Cert, TextFault>
-    requires { length text.now ≤ 67108864 }
+    requires { length text.now ≤ MAX_FILE }
     ensures ok { IfOk result (λ c. text.now ≡ spelling_as version c) }
     ensures whole { IfOk result IsWhole }
     ensures of_version { IfOk result (IsOfVersion version) }
-    ensures only { IfOk result (λ c. (d : Cert) → IsWhole d → IsOfVersion version d → text.now ≡ spelling_as version d → d ≡ c) }
+    ensures only { IfOk result (λ c. (d : Cert) → IsWhole d → IsOfVersion version d →
+        text.now ≡ spelling_as version d → d ≡ c) }
     ensures refused { OnRefusal result (IsCertificateAs version text.now → ⊥) }
     ensures stuck { IfRefused result (λ at. NoneBegins (IsCertificateAs version) text.now at.line) }
-    ensures first { IfRefused result (λ at. BeginsBefore (IsCertificateAs version) text.now at.line) }
+    ensures first { IfRefused result (λ at.
+        BeginsBefore (IsCertificateAs version) text.now at.line) }
     ensures exact { Gives (reading_as version text.now) (λ c. tt) result }
 {
     read_lines(alloc, version, Lines::strict(text))
@@ -76,7 +79,7 @@ pub fn read_as(alloc: Global, version: Version, text: &[u8]) -> Result<Cert, Tex
 
 /// The certificate that a text spells, or the first place at which it is none.
 pub fn read_cert(alloc: Global, text: &[u8]) -> Result<Cert, TextFault>
-    requires { length text.now ≤ 67108864 }
+    requires { length text.now ≤ MAX_FILE }
     ensures ok { IfOk result (λ c. text.now ≡ spelling c) }
     ensures whole { IfOk result IsWhole }
     ensures only { IfOk result (λ c. (d : Cert) → IsWhole d → text.now ≡ spelling d → d ≡ c) }

@@ -32,8 +32,10 @@ fn read_vectors(
     requires small { IsSmall first }
     requires rest { IsZeroFrom count first }
     ensures reads { ReadsFree cert_rules lines.old lines.new (Second count) (λ t. End) result }
-    ensures took { IfOk result (λ t. vector_line (codes "z1") (take count first) ∷ lines.old.left ≡ tail_lines t ++ lines.new.left) }
-    ensures fits { IfOk result (λ t. (ss : List ℕ) (arcs : List Arc) (budget : ℕ) → count ≡ integer_count arcs ss → IsTailOf ss arcs budget t) }
+    ensures took { IfOk result (λ t. vector_line (codes "z1") (take count first) ∷ lines.old.left
+        ≡ tail_lines t ++ lines.new.left) }
+    ensures fits { IfOk result (λ t. (ss : List ℕ) (arcs : List Arc) (budget : ℕ) →
+        count ≡ integer_count arcs ss → IsTailOf ss arcs budget t) }
     ensures column { (version : Version) → IfOk result (IsColumnOf version) }
     ensures whole { IfOk result IsWholeTail }
 {
@@ -59,9 +61,12 @@ pub(crate) fn read_tail(
     count: usize,
 ) -> Result<Tail, At>
     requires { count ≤ MOST_INTEGERS }
-    ensures reads { (ss : List ℕ) (arcs : List Arc) → count ≡ integer_count arcs ss → ReadsFree cert_rules lines.old lines.new (TailStart (frame version budget ss) arcs) (λ t. End) result }
+    ensures reads { (ss : List ℕ) (arcs : List Arc) → count ≡ integer_count arcs ss →
+        ReadsFree cert_rules lines.old lines.new (TailStart (frame version budget ss) arcs) (λ t.
+        End) result }
     ensures took { IfOk result (λ t. lines.old.left ≡ tail_lines t ++ lines.new.left) }
-    ensures fits { IfOk result (λ t. (ss : List ℕ) (arcs : List Arc) → count ≡ integer_count arcs ss → IsTailOf ss arcs budget t) }
+    ensures fits { IfOk result (λ t. (ss : List ℕ) (arcs : List Arc) →
+        count ≡ integer_count arcs ss → IsTailOf ss arcs budget t) }
     ensures column { IfOk result (IsColumnOf version) }
     ensures whole { IfOk result IsWholeTail }
 {

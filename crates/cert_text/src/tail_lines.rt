@@ -17,7 +17,8 @@ fn weak_tail_in(version: Version, line: &[u8]) -> Result<Tail, Flaw>
     requires { length line.now ≤ 4096 }
     ensures value { result ≡ weak_tail_in version line.now }
     ensures spelled { IfOk result (λ t. line.now ∷ [] ≡ tail_lines t) }
-    ensures fits { IfOk result (λ t. (ss : List ℕ) (arcs : List Arc) (budget : ℕ) → IsTailOf ss arcs budget t) }
+    ensures fits { IfOk result (λ t. (ss : List ℕ) (arcs : List Arc) (budget : ℕ) →
+        IsTailOf ss arcs budget t) }
     ensures column { IfOk result (IsColumnOf version) }
     ensures whole { IfOk result IsWholeTail }
 {
@@ -29,7 +30,8 @@ fn unsettled_in(line: &[u8]) -> Result<Tail, Flaw>
     requires { length line.now ≤ 4096 }
     ensures value { result ≡ unsettled_in line.now }
     ensures spelled { IfOk result (λ t. line.now ∷ [] ≡ tail_lines t) }
-    ensures fits { IfOk result (λ t. (ss : List ℕ) (arcs : List Arc) (budget : ℕ) → IsTailOf ss arcs budget t) }
+    ensures fits { IfOk result (λ t. (ss : List ℕ) (arcs : List Arc) (budget : ℕ) →
+        IsTailOf ss arcs budget t) }
     ensures column { (version : Version) → IfOk result (IsColumnOf version) }
     ensures whole { IfOk result IsWholeTail }
 {
@@ -52,7 +54,8 @@ fn spent_in(budget: u64, line: &[u8]) -> Result<Tail, Flaw>
 fn overwidth_in(line: &[u8]) -> Result<Tail, Flaw>
     ensures value { result ≡ overwidth_in line.now }
     ensures spelled { IfOk result (λ t. line.now ∷ [] ≡ tail_lines t) }
-    ensures fits { IfOk result (λ t. (ss : List ℕ) (arcs : List Arc) (budget : ℕ) → IsTailOf ss arcs budget t) }
+    ensures fits { IfOk result (λ t. (ss : List ℕ) (arcs : List Arc) (budget : ℕ) →
+        IsTailOf ss arcs budget t) }
     ensures column { (version : Version) → IfOk result (IsColumnOf version) }
     ensures whole { IfOk result IsWholeTail }
 {

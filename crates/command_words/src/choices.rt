@@ -20,8 +20,9 @@ pub struct SignalChoice {
 
 // The system that is given, or the default.
 fn system_for(given: &[Given]) -> Option<u8>
-    ensures set { MatchOption result ((n : ℕ) → IsChosenBy (numbers_for Setting.System given.now) IsSystem DEFAULT_SYSTEM n → ⊥)
-        (λ n. IsChosenBy (numbers_for Setting.System given.now) IsSystem DEFAULT_SYSTEM n) }
+    ensures set { MatchOption result ((n : ℕ) →
+        IsChosenBy (numbers_for Setting.System given.now) IsSystem DEFAULT_SYSTEM n →
+        ⊥) (λ n. IsChosenBy (numbers_for Setting.System given.now) IsSystem DEFAULT_SYSTEM n) }
     ensures system { IfSome result IsSystem }
 {
     match numbers_found(given, Setting::System) {
@@ -41,8 +42,9 @@ fn are_bands_of(system: u8, bands: u16) -> bool
 // The bands that are given and go with the system, or its default.
 fn bands_for(given: &[Given], system: u8) -> Option<u16>
     requires { IsSystem system }
-    ensures set { MatchOption result ((n : ℕ) → IsChosenBy (numbers_for Setting.Bands given.now) (AreBandsOf system) (default_bands system) n → ⊥)
-        (λ n. IsChosenBy (numbers_for Setting.Bands given.now) (AreBandsOf system) (default_bands system) n) }
+    ensures set { MatchOption result ((n : ℕ) → IsChosenBy (numbers_for Setting.Bands
+        given.now) (AreBandsOf system) (default_bands system) n → ⊥) (λ n. IsChosenBy
+        (numbers_for Setting.Bands given.now) (AreBandsOf system) (default_bands system) n) }
     ensures bands { IfSome result (AreBandsOf system) }
 {
     match numbers_found(given, Setting::Bands) {
@@ -56,7 +58,8 @@ fn bands_for(given: &[Given], system: u8) -> Option<u16>
 
 /// The system and its bands: the default system where none is given, and its default bands where none are.
 pub fn signal_choice_of(given: &[Given]) -> Option<SignalChoice>
-    ensures { MatchOption result ((system bands : ℕ) → IsSignalChoice given.now system bands → ⊥) (λ c. IsSignalChoice given.now c.system c.bands) }
+    ensures { MatchOption result ((system bands : ℕ) → IsSignalChoice given.now system bands →
+        ⊥) (λ c. IsSignalChoice given.now c.system c.bands) }
 {
     let system = system_for(given)?;
     let bands = bands_for(given, system)?;
@@ -65,7 +68,8 @@ pub fn signal_choice_of(given: &[Given]) -> Option<SignalChoice>
 
 /// The bands and the system of a simulated session; None where another option is given.
 pub fn sim_choice_of(given: &[Given]) -> Option<SignalChoice>
-    ensures { MatchOption result ((system bands : ℕ) → IsSimChoice given.now system bands → ⊥) (λ c. IsSimChoice given.now c.system c.bands) }
+    ensures { MatchOption result ((system bands : ℕ) → IsSimChoice given.now system bands →
+        ⊥) (λ c. IsSimChoice given.now c.system c.bands) }
 {
     if !are_of_sim(given) {
         return None;

@@ -87,7 +87,8 @@ pub enum Job {
 pub fn read_words(alloc: Global, words: &[String]) -> Result<Job, WordFault>
     ensures job { IfOk result (λ job. IsJob (texts_of words.now) job) }
     ensures range { IfOk result IsInRange }
-    ensures usage { IsErrOf result WordFault.Usage → (job : Job) → IsJob (texts_of words.now) job → ⊥ }
+    ensures usage { IsErrOf result WordFault.Usage → (job : Job) → IsJob (texts_of words.now) job →
+        ⊥ }
 {
     let line = split(alloc, words)?;
     let parted = parted_of(alloc, &line.matches)?;
@@ -96,8 +97,10 @@ pub fn read_words(alloc: Global, words: &[String]) -> Result<Job, WordFault>
 
 // The job of the command of that name with these words.
 fn job_of(alloc: Global, name: &str, parted: &Parted) -> Result<Job, WordFault>
-    ensures job { IfOk result (λ job. IsJobOf name.now parted.now.plain.items parted.now.given.items job) }
-    ensures usage { IsErrOf result WordFault.Usage → (job : Job) → IsJobOf name.now parted.now.plain.items parted.now.given.items job → ⊥ }
+    ensures job { IfOk result (λ job.
+        IsJobOf name.now parted.now.plain.items parted.now.given.items job) }
+    ensures usage { IsErrOf result WordFault.Usage → (job : Job) →
+        IsJobOf name.now parted.now.plain.items parted.now.given.items job → ⊥ }
 {
     match CommandName::named(name) {
         Some(command) => job_of_command(alloc, command, &parted.plain, &parted.given),
@@ -113,7 +116,8 @@ fn job_of_command(
     given: &[Given],
 ) -> Result<Job, WordFault>
     ensures job { IfOk result (λ job. IsJobOf (name_of_command command) plain.now given.now job) }
-    ensures usage { IsErrOf result WordFault.Usage → (job : Job) → IsJobOf (name_of_command command) plain.now given.now job → ⊥ }
+    ensures usage { IsErrOf result WordFault.Usage → (job : Job) →
+        IsJobOf (name_of_command command) plain.now given.now job → ⊥ }
 {
     match command {
         CommandName::Fix => fix_job(alloc, plain, given),
@@ -182,8 +186,10 @@ fn three_files(alloc: Global, plain: &[Word]) -> Result<ThreeFiles, WordFault>
 
 // The job of the command `fix`.
 fn fix_job(alloc: Global, plain: &[Word], given: &[Given]) -> Result<Job, WordFault>
-    ensures job { IfOk result (λ job. IsJobOf (name_of_command CommandName.Fix) plain.now given.now job) }
-    ensures usage { IsErrOf result WordFault.Usage → (job : Job) → IsJobOf (name_of_command CommandName.Fix) plain.now given.now job → ⊥ }
+    ensures job { IfOk result (λ job.
+        IsJobOf (name_of_command CommandName.Fix) plain.now given.now job) }
+    ensures usage { IsErrOf result WordFault.Usage → (job : Job) →
+        IsJobOf (name_of_command CommandName.Fix) plain.now given.now job → ⊥ }
 {
     let Some(options) = options_of(given) else {
         return Err(WordFault::Usage);
@@ -199,8 +205,10 @@ fn fix_job(alloc: Global, plain: &[Word], given: &[Given]) -> Result<Job, WordFa
 
 // The job of the command `track`.
 fn track_job(alloc: Global, plain: &[Word], given: &[Given]) -> Result<Job, WordFault>
-    ensures job { IfOk result (λ job. IsJobOf (name_of_command CommandName.Track) plain.now given.now job) }
-    ensures usage { IsErrOf result WordFault.Usage → (job : Job) → IsJobOf (name_of_command CommandName.Track) plain.now given.now job → ⊥ }
+    ensures job { IfOk result (λ job.
+        IsJobOf (name_of_command CommandName.Track) plain.now given.now job) }
+    ensures usage { IsErrOf result WordFault.Usage → (job : Job) →
+        IsJobOf (name_of_command CommandName.Track) plain.now given.now job → ⊥ }
 {
     let Some(options) = options_of(given) else {
         return Err(WordFault::Usage);
@@ -216,8 +224,10 @@ fn track_job(alloc: Global, plain: &[Word], given: &[Given]) -> Result<Job, Word
 
 // The job of the command `arcs`.
 fn arcs_job(alloc: Global, plain: &[Word], given: &[Given]) -> Result<Job, WordFault>
-    ensures job { IfOk result (λ job. IsJobOf (name_of_command CommandName.Arcs) plain.now given.now job) }
-    ensures usage { IsErrOf result WordFault.Usage → (job : Job) → IsJobOf (name_of_command CommandName.Arcs) plain.now given.now job → ⊥ }
+    ensures job { IfOk result (λ job.
+        IsJobOf (name_of_command CommandName.Arcs) plain.now given.now job) }
+    ensures usage { IsErrOf result WordFault.Usage → (job : Job) →
+        IsJobOf (name_of_command CommandName.Arcs) plain.now given.now job → ⊥ }
 {
     let Some(options) = pair_options_of(given) else {
         return Err(WordFault::Usage);
@@ -233,8 +243,10 @@ fn arcs_job(alloc: Global, plain: &[Word], given: &[Given]) -> Result<Job, WordF
 
 // The job of the command `orbit`.
 fn orbit_job(alloc: Global, plain: &[Word], given: &[Given]) -> Result<Job, WordFault>
-    ensures job { IfOk result (λ job. IsJobOf (name_of_command CommandName.Orbit) plain.now given.now job) }
-    ensures usage { IsErrOf result WordFault.Usage → (job : Job) → IsJobOf (name_of_command CommandName.Orbit) plain.now given.now job → ⊥ }
+    ensures job { IfOk result (λ job.
+        IsJobOf (name_of_command CommandName.Orbit) plain.now given.now job) }
+    ensures usage { IsErrOf result WordFault.Usage → (job : Job) →
+        IsJobOf (name_of_command CommandName.Orbit) plain.now given.now job → ⊥ }
 {
     let [nav, sat, tick] = plain else {
         return Err(WordFault::Usage);
@@ -259,8 +271,10 @@ fn orbit_job(alloc: Global, plain: &[Word], given: &[Given]) -> Result<Job, Word
 
 // The job of the command `sim`.
 fn sim_job(plain: &[Word], given: &[Given]) -> Result<Job, WordFault>
-    ensures job { IfOk result (λ job. IsJobOf (name_of_command CommandName.Sim) plain.now given.now job) }
-    ensures usage { IsErrOf result WordFault.Usage → (job : Job) → IsJobOf (name_of_command CommandName.Sim) plain.now given.now job → ⊥ }
+    ensures job { IfOk result (λ job.
+        IsJobOf (name_of_command CommandName.Sim) plain.now given.now job) }
+    ensures usage { IsErrOf result WordFault.Usage → (job : Job) →
+        IsJobOf (name_of_command CommandName.Sim) plain.now given.now job → ⊥ }
 {
     match plain {
         [part, seed, epochs, sats] => sim_by_words(part, seed, epochs, sats, given),
@@ -276,9 +290,11 @@ fn sim_by_words(
     sats: &Word,
     given: &[Given],
 ) -> Result<Job, WordFault>
-    ensures job { IfOk result (λ job. IsJobOf (name_of_command CommandName.Sim) (part.now ∷ seed.now ∷ epochs.now ∷ sats.now ∷ []) given.now job) }
-    ensures usage { IsErrOf result WordFault.Usage
-        → (job : Job) → IsJobOf (name_of_command CommandName.Sim) (part.now ∷ seed.now ∷ epochs.now ∷ sats.now ∷ []) given.now job → ⊥ }
+    ensures job { IfOk result (λ job. IsJobOf (name_of_command CommandName.Sim)
+        (part.now ∷ seed.now ∷ epochs.now ∷ sats.now ∷ []) given.now job) }
+    ensures usage { IsErrOf result WordFault.Usage → (job : Job) →
+        IsJobOf (name_of_command CommandName.Sim)
+        (part.now ∷ seed.now ∷ epochs.now ∷ sats.now ∷ []) given.now job → ⊥ }
 {
     let Some(choice) = sim_choice_of(given) else {
         return Err(WordFault::Usage);

@@ -5,5 +5,6 @@ ghost use Rattle.command_words.specs.Words.{IsJob};
 
 /// The words of a command line ask for one job at most.
 pub fn one_job_law()
-    ensures { (words : List (List ℕ)) (job other : Job) → IsJob words job → IsJob words other → job ≡ other }
+    ensures { (words : List (List ℕ)) (job other : Job) → IsJob words job → IsJob words other →
+        job ≡ other }
 {}

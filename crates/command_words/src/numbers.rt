@@ -53,7 +53,8 @@ fn letter_of(word: &[u8]) -> Option<u64>
 
 /// What a word sets the setting to: a system by its letter, and each other by a number.
 pub fn value_of_setting(setting: Setting, word: &[u8]) -> Option<u64>
-    ensures { MatchOption result ((n : ℕ) → IsValue setting word.now n → ⊥) (λ n. IsValue setting word.now n) }
+    ensures { MatchOption result ((n : ℕ) → IsValue setting word.now n →
+        ⊥) (λ n. IsValue setting word.now n) }
 {
     match setting {
         Setting::System => letter_of(word),
@@ -72,7 +73,8 @@ pub fn value_of_setting(setting: Setting, word: &[u8]) -> Option<u64>
 
 /// The satellite that a word names.
 pub fn satellite_of(word: &[u8]) -> Option<Satellite>
-    ensures { MatchOption result ((system n : ℕ) → IsSatellite word.now system n → ⊥) (λ s. IsSatellite word.now s.system s.number) }
+    ensures { MatchOption result ((system n : ℕ) → IsSatellite word.now system n →
+        ⊥) (λ s. IsSatellite word.now s.system s.number) }
 {
     let [letter, tens, ones] = word else {
         return None;

@@ -67,7 +67,8 @@ const COUNT: Limits = Limits {
 
 /// The options with the numbers that are given, and the defaults of the others.
 pub fn options_of(given: &[Given]) -> Option<Options>
-    ensures { MatchOption result ((o : Options) → AreOptions given.now o → ⊥) (λ o. AreOptions given.now o) }
+    ensures { MatchOption result ((o : Options) → AreOptions given.now o →
+        ⊥) (λ o. AreOptions given.now o) }
 {
     let ratio = number_for(given, Setting::Ratio, &RATIO)?;
     let budget = number_for(given, Setting::Budget, &BUDGET)?;
@@ -96,7 +97,8 @@ pub fn options_of(given: &[Given]) -> Option<Options>
 
 /// The options of a command that searches nothing: None where a ratio or a budget is given.
 pub fn pair_options_of(given: &[Given]) -> Option<Options>
-    ensures { MatchOption result ((o : Options) → ArePairOptions given.now o → ⊥) (λ o. ArePairOptions given.now o) }
+    ensures { MatchOption result ((o : Options) → ArePairOptions given.now o →
+        ⊥) (λ o. ArePairOptions given.now o) }
 {
     if !is_left_out(given, Setting::Ratio) || !is_left_out(given, Setting::Budget) {
         return None;

@@ -39,8 +39,10 @@ fn push(given: &mut Vec<Given>, one: Given) -> Result<(), AllocError>
 }
 
 fn take_numbers(given: &mut Vec<Given>, setting: Setting, texts: &[&str]) -> Result<(), WordFault>
-    ensures numbers { OnOk result (TakesNumbers setting (map (λ v. v.now) texts.now) given.old.items given.new.items) }
-    ensures usage { IsErrOf result WordFault.Usage → AreAll setting (map (λ v. v.now) texts.now) → ⊥ }
+    ensures numbers { OnOk result
+        (TakesNumbers setting (map (λ v. v.now) texts.now) given.old.items given.new.items) }
+    ensures usage { IsErrOf result WordFault.Usage → AreAll setting (map (λ v. v.now) texts.now) →
+        ⊥ }
 {
     for text in texts {
         let Some(number) = value_of_setting(setting, text.as_bytes()) else {
@@ -57,8 +59,10 @@ fn take_setting(
     setting: Setting,
     matches: &ArgMatches<'_>,
 ) -> Result<(), WordFault>
-    ensures numbers { OnOk result (TakesNumbers setting (values_in (name_of setting) (rows_of (found_of matches.now))) given.old.items given.new.items) }
-    ensures usage { IsErrOf result WordFault.Usage → AreAll setting (values_in (name_of setting) (rows_of (found_of matches.now))) → ⊥ }
+    ensures numbers { OnOk result (TakesNumbers setting (values_in (name_of setting)
+        (rows_of (found_of matches.now))) given.old.items given.new.items) }
+    ensures usage { IsErrOf result WordFault.Usage →
+        AreAll setting (values_in (name_of setting) (rows_of (found_of matches.now))) → ⊥ }
 {
     match matches.get_raw(setting.name()) {
         Some(texts) => take_numbers(given, setting, texts),
@@ -69,7 +73,8 @@ fn take_setting(
 // The options with their numbers.
 fn numbers_in(alloc: Global, matches: &ArgMatches<'_>) -> Result<Vec<Given>, WordFault>
     ensures given { IfOk result (λ given. HasNumbers (rows_of (found_of matches.now)) given.items) }
-    ensures usage { IsErrOf result WordFault.Usage → ((s : Setting) → AreAll s (values_in (name_of s) (rows_of (found_of matches.now)))) → ⊥ }
+    ensures usage { IsErrOf result WordFault.Usage →
+        ((s : Setting) → AreAll s (values_in (name_of s) (rows_of (found_of matches.now)))) → ⊥ }
 {
     let mut given = Vec::new(alloc);
     for place in 0..11 {
@@ -80,7 +85,8 @@ fn numbers_in(alloc: Global, matches: &ArgMatches<'_>) -> Result<Vec<Given>, Wor
 
 // The ordinary words.
 fn words_in(alloc: Global, matches: &ArgMatches<'_>) -> Result<Vec<Word>, AllocError>
-    ensures { IfOk result (λ words. words.items ≡ values_in word_id (rows_of (found_of matches.now))) }
+    ensures { IfOk result (λ words.
+        words.items ≡ values_in word_id (rows_of (found_of matches.now))) }
 {
     match matches.get_raw("word") {
         Some(texts) => copies_of(alloc, texts),
@@ -90,9 +96,11 @@ fn words_in(alloc: Global, matches: &ArgMatches<'_>) -> Result<Vec<Word>, AllocE
 
 /// The ordinary words and the options with their values. `Usage` exactly where a word is no value of its option.
 pub fn parted_of(alloc: Global, matches: &ArgMatches<'_>) -> Result<Parted, WordFault>
-    ensures plain { IfOk result (λ p. p.plain.items ≡ values_in word_id (rows_of (found_of matches.now))) }
+    ensures plain { IfOk result (λ p.
+        p.plain.items ≡ values_in word_id (rows_of (found_of matches.now))) }
     ensures given { IfOk result (λ p. HasNumbers (rows_of (found_of matches.now)) p.given.items) }
-    ensures usage { IsErrOf result WordFault.Usage → ((s : Setting) → AreAll s (values_in (name_of s) (rows_of (found_of matches.now)))) → ⊥ }
+    ensures usage { IsErrOf result WordFault.Usage →
+        ((s : Setting) → AreAll s (values_in (name_of s) (rows_of (found_of matches.now)))) → ⊥ }
 {
     let given = numbers_in(alloc, matches)?;
     let plain = words_in(alloc, matches)?;

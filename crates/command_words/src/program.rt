@@ -16,7 +16,8 @@ fn with_option<'a>(
     command: Command<'a>,
     option: &'a str,
 ) -> Result<Command<'a>, AllocError>
-    ensures { IfOk result (λ c. app_of c ≡ with_rule (app_of command.entry) (option_rule option.now)) }
+    ensures { IfOk result (λ c.
+        app_of c ≡ with_rule (app_of command.entry) (option_rule option.now)) }
 {
     let arg = Arg::new(alloc, option)
         .long(option)
@@ -38,7 +39,8 @@ fn command_with<'a>(
     name: &'a str,
     settings: &[Setting],
 ) -> Result<Command<'a>, AllocError>
-    ensures { IfOk result (λ c. app_of c ≡ record { top = command_shape name.now (map name_of settings.now); subs = [] }) }
+    ensures { IfOk result (λ c.
+        app_of c ≡ record { top = command_shape name.now (map name_of settings.now); subs = [] }) }
 {
     let mut command = Command::new(alloc, name);
     for setting in settings {
@@ -54,7 +56,8 @@ fn with_command<'a>(
     name: &'a str,
     settings: &[Setting],
 ) -> Result<Command<'a>, AllocError>
-    ensures { IfOk result (λ c. app_of c ≡ with_subcommand (app_of program.entry) (command_shape name.now (map name_of settings.now))) }
+    ensures { IfOk result (λ c. app_of c ≡ with_subcommand (app_of program.entry)
+        (command_shape name.now (map name_of settings.now))) }
 {
     let command = command_with(alloc, name, settings)?;
     program.subcommand(command)

@@ -134,8 +134,9 @@ pub fn numbers_found(given: &[Given], setting: Setting) -> Found
 pub fn number_for(given: &[Given], setting: Setting, limits: &Limits) -> Option<u64>
     requires plain_from { limits.now.least ≤ limits.now.plain }
     requires plain_to { limits.now.plain ≤ limits.now.most }
-    ensures set { MatchOption result ((n : ℕ) → IsSetBy (numbers_for setting given.now) limits.now.least limits.now.most limits.now.plain n → ⊥)
-        (λ n. IsSetBy (numbers_for setting given.now) limits.now.least limits.now.most limits.now.plain n) }
+    ensures set { MatchOption result ((n : ℕ) → IsSetBy (numbers_for setting
+        given.now) limits.now.least limits.now.most limits.now.plain n → ⊥) (λ n. IsSetBy
+        (numbers_for setting given.now) limits.now.least limits.now.most limits.now.plain n) }
     ensures from { IfSome result (λ n. limits.now.least ≤ n) }
     ensures to { IfSome result (λ n. n ≤ limits.now.most) }
 {

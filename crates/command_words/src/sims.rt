@@ -37,7 +37,8 @@ pub struct Sim {
 }
 
 fn number_in(word: &Word, least: u32, most: u32) -> Option<u32>
-    ensures { MatchOption result ((n : ℕ) → IsNumberIn least most word.now n → ⊥) (λ n. IsNumberIn least most word.now n) }
+    ensures { MatchOption result ((n : ℕ) → IsNumberIn least most word.now n →
+        ⊥) (λ n. IsNumberIn least most word.now n) }
 {
     let number = number_of(word.as_bytes())?;
     if least as u64 <= number && number <= most as u64 {
@@ -48,7 +49,8 @@ fn number_in(word: &Word, least: u32, most: u32) -> Option<u32>
 }
 
 fn part_of(word: &[u8]) -> Option<Part>
-    ensures { MatchOption result ((p : Part) → word.now ≡ name_of_part p → ⊥) (λ p. word.now ≡ name_of_part p) }
+    ensures { MatchOption result ((p : Part) → word.now ≡ name_of_part p →
+        ⊥) (λ p. word.now ≡ name_of_part p) }
 {
     if word == b"base".as_slice() {
         return Some(Part::File(File::Base));
@@ -73,7 +75,8 @@ pub fn sim_of(
     sats: &Word,
     choice: SignalChoice,
 ) -> Option<Sim>
-    ensures sim { MatchOption result ((s : Sim) → IsSim part.now seed.now epochs.now sats.now s → ⊥) (λ s. IsSim part.now seed.now epochs.now sats.now s) }
+    ensures sim { MatchOption result ((s : Sim) → IsSim part.now seed.now epochs.now sats.now s →
+        ⊥) (λ s. IsSim part.now seed.now epochs.now sats.now s) }
     ensures bands { IfSome result (λ s. s.bands ≡ choice.bands) }
     ensures system { IfSome result (λ s. s.system ≡ choice.system) }
 {

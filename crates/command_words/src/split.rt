@@ -59,8 +59,10 @@ fn fault_of(error: &Error) -> WordFault
 
 /// The words after the program's name, split. `Usage` exactly where they aren't split so.
 pub fn split<'a>(alloc: Global, words: &'a [String]) -> Result<CommandLine<'a>, WordFault>
-    ensures ok { IfOk result (λ s. IsSplit (map (λ w. string_bytes w) words.now) s.command.now (rows_of (found_of s.matches))) }
-    ensures usage { IsErrOf result WordFault.Usage → (command : Text) (rows : List Row) → IsSplit (map (λ w. string_bytes w) words.now) command rows → ⊥ }
+    ensures ok { IfOk result (λ s. IsSplit (map (λ w. string_bytes w) words.now) s.command.now
+        (rows_of (found_of s.matches))) }
+    ensures usage { IsErrOf result WordFault.Usage → (command : Text) (rows : List Row) →
+        IsSplit (map (λ w. string_bytes w) words.now) command rows → ⊥ }
 {
     if has_short_word(words) {
         return Err(WordFault::Usage);

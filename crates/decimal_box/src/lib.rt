@@ -35,7 +35,8 @@ fn whole_number(mant: i64, power: u32) -> i128
 // The box of mant · 10^power. Past 10^19 only 0 is small enough, so the power may be cut there.
 fn whole_box<const K: u32>(mant: i64, power: u32) -> Iv<K>
     requires scale { K ≤ 60 }
-    requires small { IsAtMostInSize (of_scale K (pos (2 ^ 62))) (of_whole (mant *ℤ pos (10 ^ power))) }
+    requires small { IsAtMostInSize (of_scale K (pos (2 ^ 62)))
+        (of_whole (mant *ℤ pos (10 ^ power))) }
     ensures least { IsLeastBox result (of_whole (mant *ℤ pos (10 ^ power))) }
     ensures narrow { width_of result ≤ℤ pos 1 }
 {

@@ -25,7 +25,8 @@ pub(crate) fn turn_numbers(a: i64, b: i64, factor: i64) -> Option<TurnNumbers>
     requires a { IsWeight a }
     requires b { IsWeight b }
     requires factor { unsigned_abs factor < 2 ^ 52 }
-    ensures { MatchOption result (IsTurnable a b (left_of factor) → ⊥) (λ t. AreNumbersOf a b (left_of factor) t) }
+    ensures { MatchOption result (IsTurnable a b (left_of factor) →
+        ⊥) (λ t. AreNumbersOf a b (left_of factor) t) }
 {
     let rest = left_of(factor);
     if !gains(a, b, rest) {

@@ -7,7 +7,8 @@ pub mod TableLaws
 pub mod KeptLaws
 pub mod FinishLaws
 pub mod NewRows
-pub mod Guesses
+mod ProductUnits
 pub mod RowStepLaws
+pub mod FrontStepLaws
 pub mod RowWords
-mod ThreeSteps
+mod QuotientSteps

@@ -22,13 +22,6 @@ pub other_same : (t u : List (List ℤ)) (j a r c : ℕ) → entry u r c ≡ ent
 other_same t u j a r c x p q = ap (λ z. z -ℤ nearest_div (entry u j r *ℤ entry u j c) a) x ∙ ap (λ z. entry t r c -ℤ nearest_div (z *ℤ entry u j c) a) p
     ∙ ap (λ z. entry t r c -ℤ nearest_div (entry t j r *ℤ z) a) q
 
-pub own_is : (e p n a : ℤ) (t : List (List ℤ)) (j r m : ℕ) (f : ℤ) → e ≡ entry t r r → p ≡ entry t j r → n ≡ pos m → a ≡ pos (unsigned_abs a) →
-    f ≡ ((e -ℤ ceil_div (p *ℤ p) (unsigned_abs a)) -ℤ n) -ℤ ceil_div (n *ℤ a) (2 ^ 42) → f ≡ own_entry t j (unsigned_abs a) (pos m) r
-own_is e p n a t j r m f x y z w h = h ∙ ap (λ v. ((v -ℤ ceil_div (p *ℤ p) (unsigned_abs a)) -ℤ n) -ℤ ceil_div (n *ℤ a) (2 ^ 42)) x
-    ∙ ap (λ v. ((entry t r r -ℤ ceil_div (v *ℤ v) (unsigned_abs a)) -ℤ n) -ℤ ceil_div (n *ℤ a) (2 ^ 42)) y
-    ∙ ap (λ v. ((entry t r r -ℤ ceil_div (entry t j r *ℤ entry t j r) (unsigned_abs a)) -ℤ v) -ℤ ceil_div (v *ℤ a) (2 ^ 42)) z
-    ∙ ap (λ v. ((entry t r r -ℤ ceil_div (entry t j r *ℤ entry t j r) (unsigned_abs a)) -ℤ pos m) -ℤ ceil_div (pos m *ℤ v) (2 ^ 42)) w
-
 pub positive_is : (a : ℤ) → pos 0 <ℤ a → a ≡ pos (unsigned_abs a)
 positive_is a h = omega (arith, ints)
 

@@ -1,10 +1,10 @@
 -- Whether all entries of a list and of a form are small, by their places.
-use Rattle.std.proofs.Common.{◌≡◌, ⊎_elim, ℕ, zero, suc, ◌+◌, ◌^◌, ◌<◌, ◌≤◌, Bool, true, false, ◌&&◌, unsigned_abs, ℤ, arith, refl, sym, subst, eq-or-lt_of_le}
+use Rattle.std.proofs.Common.{◌≡◌, ⊎_elim, ℕ, zero, suc, ◌+◌, ◌^◌, ◌<◌, ◌≤◌, Bool, true, false, ◌&&◌, unsigned_abs, ℤ, Some, None, arith, refl, sym, subst, eq-or-lt_of_le}
 use borrow.Author.Tests.{ltb-true}
 use Rattle.std.proofs.lemmas.Bool.{and_left, and_right, and_from}
 use Rattle.quadratic_form.specs.Elimination.{all_small, form_small}
 use Rattle.quadratic_form.specs.Places.{list_from, form_from}
-use Rattle.elimination.specs.StepEntries.{is_small}
+use Rattle.elimination.specs.StepEntries.{is_small, IsSmallOnly}
 
 pub list_small : (f : ℕ → ℤ) (j k : ℕ) → ((c : ℕ) → j ≤ c → c < j + k → is_small (f c) ≡ true) → all_small (list_from f j k) ≡ true
 list_small f j zero h = refl
@@ -45,3 +45,10 @@ small_size x e = omega (arith, ltb-true)
 
 pub small_entry : (x : ℤ) → is_small x ≡ true → unsigned_abs x ≤ 2 ^ 52
 small_entry x e = omega (arith, ltb-true)
+
+-- ---- an answer that gives a number where it is small
+pub small_given : (x y : ℤ) → y ≡ x → is_small y ≡ true → IsSmallOnly x (Some y)
+small_given x y e small = record { value = e; small = small; refused = λ n. absurd cc }
+
+pub none_given : (x : ℤ) → is_small x ≡ false → IsSmallOnly x None
+none_given x wide = record { value = tt; small = tt; refused = λ n. wide }

@@ -24,6 +24,15 @@ unfoldable pub left_after : List (List ℤ) → ℕ → ℕ → ℕ → ℕ → 
 left_after q n r c zero x = x
 left_after q n r c (suc k) x = left_entry q n r c k (left_after q n r c k x)
 
+-- x is that, and each step leaves a small entry
+pub record IsLeft (q : List (List ℤ)) (n r c k : ℕ) (z x : ℤ) : Type 0 where
+  pub value : x ≡ left_after q n r c k z
+  pub small : (j : ℕ) → j < k → is_small (left_after q n r c (suc j) z) ≡ true
+
+-- the entries y are that of the entries x of row r after its own, in n columns
+abbrev pub AreLeft : List (List ℤ) → ℕ → ℕ → ℕ → (ℕ → ℤ) → (ℕ → ℤ) → Type 0
+AreLeft q n r k x y = (c : ℕ) → r < c → c < n → IsLeft q n r c k (x c) (y c)
+
 -- of the form with the entries e
 abbrev pub row_entry : (ℕ → ℕ → ℤ) → List (List ℤ) → ℕ → ℕ → ℕ → ℕ → ℤ
 row_entry e q n k r c = left_after q n r c k (e r c)

@@ -1,11 +1,29 @@
 -- The entries of one step, by their places in a table.
-use Rattle.std.specs.Prelude.{ℕ, ◌^◌, Bool, nat_lt, nat_eq, cond, List, ℤ, pos, ◌-ℤ◌, ◌*ℤ◌, unsigned_abs}
+use Rattle.std.specs.Prelude.{◌≡◌, ℕ, ◌^◌, ◌≤◌, Bool, true, false, nat_lt, nat_eq, cond, Option, IfSome, IsNone, List, ℤ, pos, ◌-ℤ◌, ◌*ℤ◌, unsigned_abs}
 use Rattle.whole_math.specs.Rounding.{nearest_div, ceil_div}
 use Rattle.form_tables.specs.Tables.{entry}
 
 -- below 2^52 in size
 abbrev pub is_small : ℤ → Bool
 is_small x = nat_lt (unsigned_abs x) (2 ^ 52)
+
+-- an answer that gives x where it is small
+pub record IsSmallOnly (x : ℤ) (o : Option ℤ) : Type 0 where
+  pub value : IfSome o (λ y. y ≡ x)
+  pub small : IfSome o (λ y. is_small y ≡ true)
+  pub refused : IsNone o → is_small x ≡ false
+
+-- p · q / a to the nearest
+abbrev pub nearest_quotient : ℤ → ℤ → ℤ → ℤ
+nearest_quotient p q a = nearest_div (p *ℤ q) (unsigned_abs a)
+
+-- p² / a upward
+abbrev pub square_over : ℤ → ℤ → ℤ
+square_over p a = ceil_div (p *ℤ p) (unsigned_abs a)
+
+-- a ratio in units of 2^-61 is within one of them of p / a
+abbrev pub IsWithinUnit : ℤ → ℤ → ℤ → Type 0
+IsWithinUnit ratio p a = unsigned_abs ((ratio *ℤ a) -ℤ (pos (2 ^ 61) *ℤ p)) ≤ unsigned_abs a
 
 -- the factor of column c, at the pivot a of column j
 abbrev pub factor_entry : List (List ℤ) → ℕ → ℕ → ℕ → ℤ

@@ -10,24 +10,22 @@
 //! `front_factors` and `first_kept` hand on what the steps of the baseline's columns left. `step_through` takes one row of a
 //! form through the steps of the baseline's columns by the rows of these columns (`PivotRows`), in 64 bits, and `put_row`
 //! writes it into a form. No memory is taken.
+//!
+//! A rounded quotient is read from a product with a ratio that was tested (`quotients`), and where the product doesn't say it,
+//! there is one exact division (`entries`).
 #![tactic(auto)]
 
 mod entries;
 mod finished;
-mod near_entries;
-mod near_rows;
-mod row_entries;
+mod quotients;
 mod row_steps;
-mod shares;
 mod step;
 mod steps;
 mod tables;
-mod three_steps;
 
 pub use entries::is_small;
 pub use finished::finish;
-pub use near_rows::step_through;
-pub use row_steps::{PivotRows, PivotTable};
+pub use row_steps::{PivotRows, PivotTable, step_through};
 pub use step::StepFault;
 pub use steps::{Stopped, take_steps};
 pub use tables::{fill_form_table, first_kept, form_table, front_factors, put_row};

@@ -53,13 +53,22 @@ pub fn take_steps(
     requires order { from ≤ end }
     requires end_in { end < columns }
     requires columns_in { columns ≤ MOST_COLUMNS }
-    requires entries { (r c : ℕ) → from ≤ r → r ≤ c → c < columns → unsigned_abs (entry table.old r c) ≤ 2 ^ 52 }
-    ensures taken { OnOk result (steps from (end - from) (form_from (entry table.old) from (columns - from)) ≡ Ok (stored kept.new factors.new columns from (end - from), form_from (entry table.new) end (columns - end))) }
-    ensures factors_outside { (r i : ℕ) → ((i < from) ⊎ (end ≤ i)) ⊎ ((r ≤ i) ⊎ (columns ≤ r)) → entry factors.new r i ≡ entry factors.old r i }
-    ensures kept_outside { (i : ℕ) → (i < from) ⊎ (end ≤ i) → slice_index_or kept.new i (pos 0) ≡ slice_index_or kept.old i (pos 0) }
+    requires entries { (r c : ℕ) → from ≤ r → r ≤ c → c < columns →
+        unsigned_abs (entry table.old r c) ≤ 2 ^ 52 }
+    ensures taken { OnOk result
+        (steps from (end - from) (form_from (entry table.old) from (columns - from)) ≡ Ok (
+          stored kept.new factors.new columns from (end - from),
+          form_from (entry table.new) end (columns - end),
+        )) }
+    ensures factors_outside { (r i : ℕ) → ((i < from) ⊎ (end ≤ i)) ⊎ ((r ≤ i) ⊎ (columns ≤ r)) →
+        entry factors.new r i ≡ entry factors.old r i }
+    ensures kept_outside { (i : ℕ) → (i < from) ⊎ (end ≤ i) →
+        slice_index_or kept.new i (pos 0) ≡ slice_index_or kept.old i (pos 0) }
     ensures column { IfErr result (λ e. e.column < columns) }
     ensures pivot { IfErr result (λ e. unsigned_abs e.pivot ≤ 2 ^ 52) }
-    ensures refused { IfErr result (λ e. steps from (end - from) (form_from (entry table.old) from (columns - from)) ≡ Err (refusal_of e.column e.pivot e.stop)) }
+    ensures refused { IfErr result (λ e.
+        steps from (end - from) (form_from (entry table.old) from (columns - from))
+        ≡ Err (refusal_of e.column e.pivot e.stop)) }
 {
     for j in from..end {
         let pivot = table.at(j, j);

@@ -17,7 +17,8 @@ fn set_both(p: &mut FormTable, r: usize, c: usize, value: i64)
     requires column_in { c < MOST_FORM_COLUMNS }
     requires symmetric { IsSymmetric p.old }
     ensures there { entry p.new r c ≡ value }
-    ensures others { (i j : ℕ) → (i ≢ r) ⊎ (j ≢ c) → (i ≢ c) ⊎ (j ≢ r) → entry p.new i j ≡ entry p.old i j }
+    ensures others { (i j : ℕ) → (i ≢ r) ⊎ (j ≢ c) → (i ≢ c) ⊎ (j ≢ r) →
+        entry p.new i j ≡ entry p.old i j }
     ensures symmetric { IsSymmetric p.new }
 {
     p.set(r, c, value);
@@ -28,7 +29,8 @@ fn set_both(p: &mut FormTable, r: usize, c: usize, value: i64)
 fn copy_row(table: &NormalTable, p: &mut FormTable, r: usize, n: usize)
     requires row_in { r < n }
     requires columns_in { n ≤ MOST_FORM_COLUMNS }
-    requires entries { (c : ℕ) → r ≤ c → c < n → unsigned_abs (entry table.now (3 + r) (3 + c)) < 2 ^ 52 }
+    requires entries { (c : ℕ) → r ≤ c → c < n →
+        unsigned_abs (entry table.now (3 + r) (3 + c)) < 2 ^ 52 }
     requires symmetric { IsSymmetric p.old }
     requires outside { IsZeroOutside n n p.old }
     ensures row { (c : ℕ) → r ≤ c → c < n → entry p.new r c ≡ entry table.now (3 + r) (3 + c) }
@@ -114,7 +116,8 @@ pub(crate) fn put_form(p: &FormTable, table: &mut NormalTable, n: usize)
     requires columns_in { n ≤ MOST_FORM_COLUMNS }
     requires entries { EntriesBelow (2 ^ 52) p.now }
     ensures form { form_from (entry table.new) 3 n ≡ form_of_table p.now n }
-    ensures entries { (r c : ℕ) → 3 ≤ r → r ≤ c → c < 3 + n → unsigned_abs (entry table.new r c) ≤ 2 ^ 52 }
+    ensures entries { (r c : ℕ) → 3 ≤ r → r ≤ c → c < 3 + n →
+        unsigned_abs (entry table.new r c) ≤ 2 ^ 52 }
 {
     for r in 0..n {
         copy_row_back(p, table, r, n);
@@ -125,7 +128,8 @@ pub(crate) fn put_form(p: &FormTable, table: &mut NormalTable, n: usize)
 fn copy_factors(factors: &FactorTable, front: &mut FrontTable, r: usize)
     requires row_in { r < MOST_COLUMNS }
     ensures row { (c : ℕ) → c < BASELINE_COLUMNS → entry front.new r c ≡ entry factors.now r c }
-    ensures others { (i c : ℕ) → (i ≢ r) ⊎ (BASELINE_COLUMNS ≤ c) → entry front.new i c ≡ entry front.old i c }
+    ensures others { (i c : ℕ) → (i ≢ r) ⊎ (BASELINE_COLUMNS ≤ c) →
+        entry front.new i c ≡ entry front.old i c }
 {
     for c in 0..BASELINE_COLUMNS {
         front.set(r, c, factors.at(r, c));
@@ -134,7 +138,8 @@ fn copy_factors(factors: &FactorTable, front: &mut FrontTable, r: usize)
 
 /// The factors of the baseline's columns.
 pub fn front_factors(factors: &FactorTable) -> FrontTable
-    ensures same { (r c : ℕ) → r < MOST_COLUMNS → c < BASELINE_COLUMNS → entry result r c ≡ entry factors.now r c }
+    ensures same { (r c : ℕ) → r < MOST_COLUMNS → c < BASELINE_COLUMNS →
+        entry result r c ≡ entry factors.now r c }
     ensures outside { IsZeroOutside MOST_COLUMNS BASELINE_COLUMNS result }
 {
     let mut front = FrontTable::zeros();
@@ -146,7 +151,8 @@ pub fn front_factors(factors: &FactorTable) -> FrontTable
 
 /// What is kept of the baseline's pivots, and 0 for the other columns.
 pub(crate) fn kept_list(d: &[i64; BASELINE_COLUMNS]) -> [i64; MOST_FACTORS]
-    ensures same { (i : ℕ) → i < BASELINE_COLUMNS → slice_index_or result i (pos 0) ≡ slice_index_or d.now i (pos 0) }
+    ensures same { (i : ℕ) → i < BASELINE_COLUMNS →
+        slice_index_or result i (pos 0) ≡ slice_index_or d.now i (pos 0) }
     ensures outside { IsZeroFrom BASELINE_COLUMNS result }
 {
     let mut kept = [0; MOST_FACTORS];
@@ -158,7 +164,8 @@ pub(crate) fn kept_list(d: &[i64; BASELINE_COLUMNS]) -> [i64; MOST_FACTORS]
 
 /// What is kept of the baseline's pivots.
 pub fn first_kept(kept: &[i64; MOST_FACTORS]) -> [i64; BASELINE_COLUMNS]
-    ensures { (i : ℕ) → i < BASELINE_COLUMNS → slice_index_or result i (pos 0) ≡ slice_index_or kept.now i (pos 0) }
+    ensures { (i : ℕ) → i < BASELINE_COLUMNS →
+        slice_index_or result i (pos 0) ≡ slice_index_or kept.now i (pos 0) }
 {
     let mut d = [0; BASELINE_COLUMNS];
     for i in 0..BASELINE_COLUMNS {

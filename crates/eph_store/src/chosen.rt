@@ -9,7 +9,8 @@ use gps_time::Tick;
 impl NavFile {
     /// The usable record of the satellite that is nearest to the tag, as `nearest` gives it of all usable ones.
     pub fn choose(&self, sat: u8, tag: Tick) -> Option<&Eph>
-        ensures { MatchOption result (HasNoCandidate self.now.fit sat tag.0) (λ e. IsChosenRecord self.now.fit sat tag.0 e.now) }
+        ensures { MatchOption result (HasNoCandidate self.now.fit sat tag.0) (λ e.
+            IsChosenRecord self.now.fit sat tag.0 e.now) }
     {
         nearest(self.fit(), sat, tag)
     }
@@ -18,7 +19,8 @@ impl NavFile {
 /// Of the records of the satellite whose ephemeris' time is at most 7,200 s from the tag the nearest, and of equally near
 /// ones the last; none where there is no such record. It takes no memory.
 pub fn nearest(fit: &[Eph], sat: u8, tag: Tick) -> Option<&Eph>
-    ensures { MatchOption result (HasNoCandidate fit.now sat tag.0) (λ e. IsChosenRecord fit.now sat tag.0 e.now) }
+    ensures { MatchOption result (HasNoCandidate fit.now sat tag.0) (λ e.
+        IsChosenRecord fit.now sat tag.0 e.now) }
 {
     let mut best: Option<&Eph> = None;
     let mut limit = TWO_HOURS;

@@ -60,7 +60,8 @@ pub fn is_from_to(d: Dec, least: u32, most: u32, places: u32) -> bool
 
 // The number, if it is a whole one from 0 to `most`.
 pub fn whole_up_to(d: Dec, most: u32) -> Option<u32>
-    ensures { MatchOption result ((n : ℕ) → n ≤ most → IsWhole d n → ⊥) (λ n. (n ≤ most) × IsWhole d n) }
+    ensures { MatchOption result ((n : ℕ) → n ≤ most → IsWhole d n →
+        ⊥) (λ n. (n ≤ most) × IsWhole d n) }
 {
     if d.mant < 0 {
         return None;

@@ -41,7 +41,8 @@ pub struct Eph {
     pub ghost second_in: { toe_second ≤ 604_799 },
     pub ghost toe_in: { toe.0 < 60_480_000_000_000_000 },
     // a week has 6,048,000,000,000 ticks
-    pub ghost second_of_week: { toe.0 ≡ (toe.0 / 6_048_000_000_000 * 604_800 + toe_second) * TICKS_IN_SECOND },
+    pub ghost second_of_week: { toe.0
+        ≡ (toe.0 / 6_048_000_000_000 * 604_800 + toe_second) * TICKS_IN_SECOND },
     pub ghost toc_late_enough: { toe.0 ≤ toc.0 + 72_000_000_000 },
     pub ghost toc_early_enough: { toc.0 ≤ toe.0 + 72_000_000_000 },
     pub ghost root_a_in: { IsFromTo (pos 4500) (pos 6000) 0 root_a },

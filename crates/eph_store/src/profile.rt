@@ -29,7 +29,8 @@ impl Eph {
         ensures value { IfOk result (λ e. IsEphOf raw.now e) }
         ensures usable { IsOk result ↔ IsUsable raw.now }
         ensures unhealthy { (result ≡ Err Unhealthy) ↔ (IsHealthy raw.now → ⊥) }
-        ensures range { (field : ℕ) → (result ≡ Err (Range field)) ↔ (IsHealthy raw.now × IsFirstOut raw.now fields_in_order field) }
+        ensures range { (field : ℕ) → (result ≡ Err (Range field))
+            ↔ (IsHealthy raw.now × IsFirstOut raw.now fields_in_order field) }
     {
         if raw.health.mant != 0 {
             return Err(Unfit::Unhealthy);
@@ -44,7 +45,8 @@ impl Eph {
 // The number of the first of the fields that is out of its range.
 fn first_out(fields: &[Field], raw: &Raw) -> Option<u8>
     requires { length fields.now < 256 }
-    ensures { MatchOption result (All (λ f. InRange f raw.now) fields.now) (λ n. IsFirstOut raw.now fields.now n) }
+    ensures { MatchOption result (All (λ f. InRange f raw.now) fields.now) (λ n.
+        IsFirstOut raw.now fields.now n) }
 {
     for (at, field) in fields.iter().enumerate() {
         if !field.is_in_range(raw) {

@@ -72,13 +72,15 @@ pub fn begin(
 ) -> Result<SessionStart, SessionFault>
     ensures refused { IfErr result (IsSessionFault base.now rover.now options.now) }
     ensures position { IfOk result (λ b. IsPosition base.now b.position) }
-    ensures signals { IfOk result (λ b. AreSignals (bands_of options.now.bands) base.now rover.now b.signals) }
+    ensures signals { IfOk result (λ b.
+        AreSignals (bands_of options.now.bands) base.now rover.now b.signals) }
     ensures sparse { IfOk result (λ b. AreSparse options.now.gap base.now rover.now) }
     ensures all { IfOk result (λ b. b.all ≡ length (pairs_of base.now rover.now options.now)) }
     ensures taken { IfOk result (λ b. AreTaken base.now rover.now options.now b.taken.items) }
     ensures few { IfOk result (λ b. length b.taken.items ≤ MOST_PAIRS) }
     ensures rises { IfOk result (λ b. AllPairs Follows b.taken.items) }
-    ensures near { IfOk result (λ b. All (IsNearPair options.now.gap (tags_of base.now.epochs) (tags_of rover.now.epochs)) b.taken.items) }
+    ensures near { IfOk result (λ b. All (IsNearPair options.now.gap (tags_of base.now.epochs)
+        (tags_of rover.now.epochs)) b.taken.items) }
 {
     let Some(position) = position_of(base) else {
         return Err(SessionFault::Refused(PairWhat::NoBasePosition));

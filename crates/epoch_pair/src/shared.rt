@@ -56,9 +56,9 @@ fn is_among(bands: &[usize], band: usize) -> bool
 fn letter_for(base: &ObsFile, rover: &ObsFile, bands: u16, band: usize) -> Option<u8>
     requires bands { IsBandsNumber bands }
     requires band { band < PHASES }
-    ensures { MatchOption result
-        ((is_among (bands_of bands) band ≡ true) × (letter_on base.now.listed rover.now.listed band ≡ None))
-        (λ letter. IsLetterFor (is_among (bands_of bands) band) (letter_on base.now.listed rover.now.listed band) letter) }
+    ensures { MatchOption result ((is_among (bands_of bands) band ≡ true)
+        × (letter_on base.now.listed rover.now.listed band ≡ None)) (λ letter. IsLetterFor
+        (is_among (bands_of bands) band) (letter_on base.now.listed rover.now.listed band) letter) }
 {
     if !is_among(bands_of(bands), band) {
         return Some(0);

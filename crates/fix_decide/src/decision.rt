@@ -77,15 +77,22 @@ pub fn decide(
 
     ensures best { IfOk result (λ d. d.best ≡ best.now) }
     ensures moved { IfOk result (λ d. d.moved ≡ move_of form.now (first_of best.now)) }
-    ensures top { IfOk result (λ d. d.top ≡ top form.now.h session.now.arcs (fine_signals session.now.signals) session.now.pairs (first_of best.now) d.moved) }
+    ensures top { IfOk result (λ d. d.top ≡ top form.now.h session.now.arcs
+        (fine_signals session.now.signals) session.now.pairs (first_of best.now) d.moved) }
     ensures top_from { IfOk result (λ d. pos 0 ≤ℤ d.top) }
     ensures top_to { IfOk result (λ d. d.top ≤ℤ pos (2 ^ 119)) }
     ensures fixed { IfOk result (λ d. IsTrue d.fixed ↔ IsSeparated (pos ratio) d.top best.now.p2) }
-    ensures strictly_best { IfOk result (λ d. IsTrue d.fixed → IsStrictlyBest session.now (first_of best.now) d.moved) }
-    ensures by_ratio { IfOk result (λ d. IsTrue d.fixed → IsBestByRatio ratio session.now (first_of best.now) d.moved) }
+    ensures strictly_best { IfOk result (λ d. IsTrue d.fixed →
+        IsStrictlyBest session.now (first_of best.now) d.moved) }
+    ensures by_ratio { IfOk result (λ d. IsTrue d.fixed →
+        IsBestByRatio ratio session.now (first_of best.now) d.moved) }
 
-    ensures float { IsErrAnd result (λ e. e.place ≡ Float) ↔ HasWide (move_of form.now (first_of best.now)) }
-    ensures sum { IsErrAnd result (λ e. e.place ≡ Sum) ↔ ((HasWide (move_of form.now (first_of best.now)) → ⊥) × AreWide session.now.arcs (fine_signals session.now.signals) session.now.pairs (first_of best.now) (move_of form.now (first_of best.now))) }
+    ensures float { IsErrAnd result (λ e. e.place ≡ Float)
+        ↔ HasWide (move_of form.now (first_of best.now)) }
+    ensures sum { IsErrAnd result (λ e. e.place ≡ Sum)
+        ↔ ((HasWide (move_of form.now (first_of best.now)) → ⊥)
+        × AreWide session.now.arcs (fine_signals session.now.signals) session.now.pairs
+        (first_of best.now) (move_of form.now (first_of best.now))) }
     ensures only { IfErr result (λ e. (e.place ≡ Float) ⊎ (e.place ≡ Sum)) }
 {
     let first = &best.first[..best.size];

@@ -6,5 +6,6 @@ ghost use Rattle.fix_decide.specs.Ratios.{IsBestByRatio};
 
 /// What is best by a ratio of 1000 or more is strictly best.
 pub fn ratio_law()
-    ensures { (ratio : ℕ) (s : Session) (z m : List ℤ) → 1000 ≤ ratio → IsBestByRatio ratio s z m → IsStrictlyBest s z m }
+    ensures { (ratio : ℕ) (s : Session) (z m : List ℤ) → 1000 ≤ ratio → IsBestByRatio ratio s z m →
+        IsStrictlyBest s z m }
 {}

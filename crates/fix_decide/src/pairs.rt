@@ -53,11 +53,15 @@ fn put_reaches(
     requires places { (k : ℕ) → IfSome (slice_index_or places.now k None) (λ i. i < length z.now) }
     requires signal { signal < SIGNALS }
     requires z_size { All (IsBelow (2 ^ 30)) z.now }
-    ensures value { (arcs : List Arc) (ss : List ℕ) (m : List ℤ) → AreSeen arcs ss m signal rows.now places.now moves.now → OnOk result (reaches.new.items ≡ map (reach_of arcs ss z.now m signal) rows.now) }
+    ensures value { (arcs : List Arc) (ss : List ℕ) (m : List ℤ) →
+        AreSeen arcs ss m signal rows.now places.now moves.now →
+        OnOk result (reaches.new.items ≡ map (reach_of arcs ss z.now m signal) rows.now) }
     ensures length { OnOk result (length reaches.new.items ≡ length rows.now) }
     ensures narrow { OnOk result (All IsNarrow reaches.new.items) }
     ensures place { IfErr result (λ e. e.place ≡ Place.Sum) }
-    ensures wide { (arcs : List Arc) (ss : List ℕ) (m : List ℤ) → AreSeen arcs ss m signal rows.now places.now moves.now → OnErr result (IsWideFor arcs ss z.now m rows.now signal) }
+    ensures wide { (arcs : List Arc) (ss : List ℕ) (m : List ℤ) →
+        AreSeen arcs ss m signal rows.now places.now moves.now →
+        OnErr result (IsWideFor arcs ss z.now m rows.now signal) }
 {
     for k in 0..rows.len() {
         reaches.push(reach_at(&rows[k], moves[k], z, places[k], signal)?);
@@ -78,12 +82,18 @@ fn signal_upper(
     requires places { (k : ℕ) → IfSome (slice_index_or places.now k None) (λ i. i < length z.now) }
     requires signal { signal < SIGNALS }
     requires z_size { All (IsBelow (2 ^ 30)) z.now }
-    ensures value { (arcs : List Arc) (ss : List ℕ) (m : List ℤ) → AreSeen arcs ss m signal pair.now.rows places.now moves.now → IfOk result (λ u. u ≡ signal_upper arcs ss z.now m pair.now signal) }
+    ensures value { (arcs : List Arc) (ss : List ℕ) (m : List ℤ) →
+        AreSeen arcs ss m signal pair.now.rows places.now moves.now →
+        IfOk result (λ u. u ≡ signal_upper arcs ss z.now m pair.now signal) }
     ensures from { IfOk result (λ u. pos 0 ≤ℤ u) }
     ensures to { IfOk result (λ u. u ≤ℤ pos (2 ^ 104)) }
     ensures place { IfErr result (λ e. e.place ≡ Place.Sum) }
-    ensures wide { (arcs : List Arc) (ss : List ℕ) (m : List ℤ) → AreSeen arcs ss m signal pair.now.rows places.now moves.now → OnErr result (IsWideFor arcs ss z.now m pair.now.rows signal) }
-    ensures narrow { (arcs : List Arc) (ss : List ℕ) (m : List ℤ) → AreSeen arcs ss m signal pair.now.rows places.now moves.now → OnOk result (IsWideFor arcs ss z.now m pair.now.rows signal → ⊥) }
+    ensures wide { (arcs : List Arc) (ss : List ℕ) (m : List ℤ) →
+        AreSeen arcs ss m signal pair.now.rows places.now moves.now →
+        OnErr result (IsWideFor arcs ss z.now m pair.now.rows signal) }
+    ensures narrow { (arcs : List Arc) (ss : List ℕ) (m : List ℤ) →
+        AreSeen arcs ss m signal pair.now.rows places.now moves.now →
+        OnOk result (IsWideFor arcs ss z.now m pair.now.rows signal → ⊥) }
 {
     let rows = pair.rows.as_slice();
     let mut reaches = ArrayVec::new();
@@ -105,7 +115,8 @@ pub(crate) fn upper_over(
     requires entries { length z.now ≡ integer_count arcs.now signals.now }
     requires z_size { All (IsBelow (2 ^ 30)) z.now }
     requires moved_size { All (IsBelow (2 ^ 46)) moved.now }
-    ensures value { IfOk result (λ u. u ≡ pair_upper arcs.now signals.now z.now moved.now pair.now) }
+    ensures value { IfOk result (λ u.
+        u ≡ pair_upper arcs.now signals.now z.now moved.now pair.now) }
     ensures above { IfOk result (StaysAtMost arcs.now signals.now (pair.now ∷ []) z.now moved.now) }
     ensures from { IfOk result (λ u. pos 0 ≤ℤ u) }
     ensures to { IfOk result (λ u. u ≤ℤ pos (2 ^ 107)) }
@@ -140,11 +151,14 @@ pub fn pair_upper(
     requires entries { length z.now ≡ integer_count arcs.now (fine_signals signals) }
     requires z_size { All (IsBelow (2 ^ 30)) z.now }
     requires moved_size { All (IsBelow (2 ^ 46)) moved.now }
-    ensures value { IfOk result (λ u. u ≡ pair_upper arcs.now (fine_signals signals) z.now moved.now pair.now) }
-    ensures above { IfOk result (StaysAtMost arcs.now (fine_signals signals) (pair.now ∷ []) z.now moved.now) }
+    ensures value { IfOk result (λ u.
+        u ≡ pair_upper arcs.now (fine_signals signals) z.now moved.now pair.now) }
+    ensures above { IfOk result
+        (StaysAtMost arcs.now (fine_signals signals) (pair.now ∷ []) z.now moved.now) }
     ensures from { IfOk result (λ u. pos 0 ≤ℤ u) }
     ensures to { IfOk result (λ u. u ≤ℤ pos (2 ^ 107)) }
-    ensures refused { IsErr result ↔ IsWide arcs.now (fine_signals signals) z.now moved.now pair.now }
+    ensures refused { IsErr result
+        ↔ IsWide arcs.now (fine_signals signals) z.now moved.now pair.now }
     ensures place { IfErr result (λ e. e.place ≡ Place.Sum) }
 {
     upper_over(arcs, fine_signals(signals), pair, z, moved)

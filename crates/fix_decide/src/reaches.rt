@@ -181,7 +181,8 @@ pub(crate) fn reach_at(
     ensures value { IfOk result (λ p. p ≡ reach_at z.now signal row.now moved place) }
     ensures narrow { IfOk result IsNarrow }
     ensures place { IfErr result (λ e. e.place ≡ Place.Sum) }
-    ensures wide { OnErr result (pos (2 ^ 33) ≤ℤ extent (reach_at z.now signal row.now moved place)) }
+    ensures wide { OnErr result
+        (pos (2 ^ 33) ≤ℤ extent (reach_at z.now signal row.now moved place)) }
 {
     let centre = centre_at(row, signal, moved.advance, integer_at(z, place));
     if size(centre) + moved.rad >= WIDE {

@@ -31,7 +31,8 @@ fn sum_of_pairs(
     requires entries { length z.now ≡ integer_count arcs.now signals.now }
     requires z_size { All (IsBelow (2 ^ 30)) z.now }
     requires moved_size { All (IsBelow (2 ^ 46)) moved.now }
-    ensures value { IfOk result (λ u. u ≡ upper_sum_of arcs.now signals.now pairs.now z.now moved.now) }
+    ensures value { IfOk result (λ u.
+        u ≡ upper_sum_of arcs.now signals.now pairs.now z.now moved.now) }
     ensures from { IfOk result (λ u. pos 0 ≤ℤ u) }
     ensures to { IfOk result (λ u. u ≤ℤ pos (2 ^ 119)) }
     ensures refused { IsErr result ↔ AreWide arcs.now signals.now pairs.now z.now moved.now }
@@ -56,14 +57,18 @@ pub fn upper_sum(
     moved: &[i64; 3],
 ) -> Result<i128, Overwidth>
     requires fine { session.now.scale ≡ 0 }
-    requires entries { length z.now ≡ integer_count session.now.arcs (fine_signals session.now.signals) }
+    requires entries { length z.now
+        ≡ integer_count session.now.arcs (fine_signals session.now.signals) }
     requires z_size { All (IsBelow (2 ^ 30)) z.now }
     requires moved_size { All (IsBelow (2 ^ 46)) moved.now }
-    ensures value { IfOk result (λ t. t ≡ top form.now.h session.now.arcs (fine_signals session.now.signals) session.now.pairs z.now moved.now) }
-    ensures above { IfOk result (λ t. StaysAtMost session.now.arcs (fine_signals session.now.signals) session.now.pairs z.now moved.now (pos (2 ^ form.now.h) *ℤ t)) }
+    ensures value { IfOk result (λ t. t ≡ top form.now.h session.now.arcs
+        (fine_signals session.now.signals) session.now.pairs z.now moved.now) }
+    ensures above { IfOk result (λ t. StaysAtMost session.now.arcs (fine_signals
+        session.now.signals) session.now.pairs z.now moved.now (pos (2 ^ form.now.h) *ℤ t)) }
     ensures from { IfOk result (λ t. pos 0 ≤ℤ t) }
     ensures to { IfOk result (λ t. t ≤ℤ pos (2 ^ 119)) }
-    ensures refused { IsErr result ↔ AreWide session.now.arcs (fine_signals session.now.signals) session.now.pairs z.now moved.now }
+    ensures refused { IsErr result ↔ AreWide session.now.arcs
+        (fine_signals session.now.signals) session.now.pairs z.now moved.now }
     ensures place { IfErr result (λ e. e.place ≡ Place.Sum) }
 {
     let sum = sum_of_pairs(

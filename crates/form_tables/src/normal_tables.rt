@@ -54,7 +54,8 @@ impl NormalTable {
         requires column_in { column < MOST_COLUMNS }
         ensures whole { self.new ≡ set_entry self.old row column value }
         ensures there { entry self.new row column ≡ value }
-        ensures others { (i j : ℕ) → (i ≢ row) ⊎ (j ≢ column) → entry self.new i j ≡ entry self.old i j }
+        ensures others { (i j : ℕ) → (i ≢ row) ⊎ (j ≢ column) →
+            entry self.new i j ≡ entry self.old i j }
         ensures shape { HasShape MOST_COLUMNS MOST_COLUMNS self.new }
     {
         self.entries[row][column] = value;

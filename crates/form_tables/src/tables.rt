@@ -65,7 +65,8 @@ impl<const ROWS: usize, const COLUMNS: usize> Table<ROWS, COLUMNS> {
         requires column_in { column < COLUMNS }
         ensures whole { self.new ≡ set_entry self.old row column value }
         ensures there { entry self.new row column ≡ value }
-        ensures others { (i j : ℕ) → (i ≢ row) ⊎ (j ≢ column) → entry self.new i j ≡ entry self.old i j }
+        ensures others { (i j : ℕ) → (i ≢ row) ⊎ (j ≢ column) →
+            entry self.new i j ≡ entry self.old i j }
         ensures shape { HasShape ROWS COLUMNS self.new }
     {
         self.entries[row][column] = value;

@@ -1,6 +1,7 @@
 //! An observation file of Galileo as a whole text.
 ghost use Rattle.std.specs.Prelude.{◌≡◌, ◌≤◌, length, IfOk};
 ghost use Rattle.line_source.specs.Lines.{lines_of};
+ghost use Rattle.line_source.specs.declared.transfer.TheConstants.{MAX_FILE};
 ghost use Rattle.obs_store.specs.declared.file.ObsFile.{ObsFile};
 ghost use Rattle.gal_obs.specs.GalForm.{IsObsFile, HasObsFile, obs_of};
 ghost use Rattle.rinex_head.specs.FirstFailing.{IsFirstFailing};
@@ -16,9 +17,10 @@ use std::alloc::Global;
 /// Its satellites are those of Galileo, and its types those of E1 and E5a. Lengths are in 0.1 mm, values in thousandths of a
 /// metre or a cycle, tags in ticks of 100 ns. It serves tests alone: the program takes files in pieces.
 pub fn read_gal_obs(alloc: Global, text: &[u8]) -> Result<ObsFile, TextFault>
-    requires { length text.now ≤ 67_108_864 }
+    requires { length text.now ≤ MAX_FILE }
     ensures ok { IfOk result (λ file. IsObsFile (lines_of text.now) file) }
-    ensures only { IfOk result (λ file. (other : ObsFile) → IsObsFile (lines_of text.now) other → other ≡ file) }
+    ensures only { IfOk result (λ file. (other : ObsFile) → IsObsFile (lines_of text.now) other →
+        other ≡ file) }
     ensures refused { OnRefusal result (HasObsFile (lines_of text.now) → ⊥) }
     ensures first { IfRefused result (λ at. IsFirstFailing HasObsFile (lines_of text.now) at.line) }
     ensures exact { Gives (obs_of (lines_of text.now)) (λ file. file) result }

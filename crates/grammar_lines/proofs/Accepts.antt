@@ -20,6 +20,7 @@ use Rattle.cert_lines.specs.Forms.{count_in, may_stand, arc_in, row_in}
 use Rattle.cert_lines.specs.Versions.{most_sat}
 use Rattle.cert_lines.proofs.Spreading.{bands_good}
 use Rattle.obs_rows.specs.Unused.{HasUsedShifts}
+use Rattle.obs_rows.specs.declared.limits.TheConstants.{MOST_ARCS}
 use Rattle.rinex_head.specs.declared.place.Flaw.{Flaw}
 use Rattle.cert_lines.specs.Lengths.{IsWholeArc, IsWholeRow}
 use Rattle.cert_lines.proofs.Sizes.{row_small, shifts_small}
@@ -64,7 +65,7 @@ rises key least (x ∷ xs) rising first = (first x (omega arith), rises key (key
 -- ---- the rows of a pair
 
 pub rows_accepted : {S : Type 0} (rules : Rules S (Unit {0})) (ss : List ℕ) (arcs : List Arc) (number : ℕ) (before : ℕ → ℕ → S) (after : S) (least : ℕ) (rows : List Row) (rest : List (List ℕ))
-    → RowsAreTaken rules ss arcs number before after → length ss ≤ SIGNALS → length arcs ≤ 200 → All (IsOfPair arcs number) rows → All IsWholeRow rows → RisesFrom (λ (r : Row). r.arc) least rows
+    → RowsAreTaken rules ss arcs number before after → length ss ≤ SIGNALS → length arcs ≤ MOST_ARCS → All (IsOfPair arcs number) rows → All IsWholeRow rows → RisesFrom (λ (r : Row). r.arc) least rows
     → AreAccepted rules after rest → AreAccepted rules (before (length rows) least) (row_lines ss rows ++ rest)
 rows_accepted {S} rules ss arcs number before after least [] rest taken signals few of_pair whole rising behind = subst (λ (s : S). AreAccepted rules s rest) (sym (taken.ends least)) behind
 rows_accepted {S} rules ss arcs number before after least (r ∷ rows) rest taken signals few of_pair whole rising behind =
@@ -153,13 +154,13 @@ arcs_accepted rules version l2 l5 before done (a ∷ arcs) rest taken ranges sat
 
 -- the number of arcs, and the arcs
 pub counted_arcs_accepted : {S : Type 0} (rules : Rules S (Unit {0})) (version : Version) (l2 l5 : ℕ) (s : S) (before : ℕ → List Arc → S) (arcs : List Arc) (rest : List (List ℕ))
-    → TakesLine rules s (count_in (codes "arcs") 2 200) (λ n. before n []) → ArcsAreTaken rules version (used_signals l2 l5) before → AreArcs arcs → All (HasSatOf version) arcs
+    → TakesLine rules s (count_in (codes "arcs") 2 MOST_ARCS) (λ n. before n []) → ArcsAreTaken rules version (used_signals l2 l5) before → AreArcs arcs → All (HasSatOf version) arcs
     → All (HasUsedShifts (used_signals l2 l5)) arcs → All IsWholeArc arcs → AreAccepted rules (before 0 arcs) rest → AreAccepted rules s (counted_arcs (used_signals l2 l5) arcs ++ rest)
 counted_arcs_accepted rules version l2 l5 s before arcs rest takes taken are sats used whole behind =
     let signals = used_signals l2 l5 in
     let arc_count = length arcs in
     let few : arc_count < 2 ^ 126 = omega (arith, are.few) in
     let short = line_length (codes "arcs") (pos arc_count ∷ []) (lit≤ tt) (lit≤ tt) (few, tt) in
-    let reads = count_spells (codes "arcs") 2 200 arc_count are.some are.few (omega arith) in
+    let reads = count_spells (codes "arcs") 2 MOST_ARCS arc_count are.some are.few (omega arith) in
     let later = arcs_accepted rules version l2 l5 before [] arcs rest taken are.ranges sats used whole (omega (arith, are.few_free)) (omega (arith, are.some_free)) behind in
-    line_accepted rules s (count_in (codes "arcs") 2 200) (λ (arc_count : ℕ). before arc_count []) arc_count (count_line (codes "arcs") arc_count) (arc_lines signals arcs ++ rest) takes short reads later
+    line_accepted rules s (count_in (codes "arcs") 2 MOST_ARCS) (λ (arc_count : ℕ). before arc_count []) arc_count (count_line (codes "arcs") arc_count) (arc_lines signals arcs ++ rest) takes short reads later

@@ -17,7 +17,7 @@ use crate::Grammar;
 use crate::lines::next_count;
 use cert_lines::{Version, arc_in};
 use line_source::Lines;
-use obs_rows::{Arc, ArcList, Signals};
+use obs_rows::{Arc, ArcList, MOST_ARCS, Signals};
 use rinex_head::{At, TextFault, What, next_line};
 use std::alloc::Global;
 
@@ -29,8 +29,11 @@ fn next_arc<G: Grammar>(
     free: usize,
     left: usize,
 ) -> Result<Arc, At>
-    ensures reads { (s : G.State) (next : Arc → G.State) → TakesLine G.rules s (arc_in version (fine_signals signals) free left) next → ReadsFree G.rules lines.old lines.new s next result }
-    ensures took { IfOk result (λ a. lines.old.left ≡ arc_line (fine_signals signals) a ∷ lines.new.left) }
+    ensures reads { (s : G.State) (next : Arc → G.State) →
+        TakesLine G.rules s (arc_in version (fine_signals signals) free left) next →
+        ReadsFree G.rules lines.old lines.new s next result }
+    ensures took { IfOk result (λ a.
+        lines.old.left ≡ arc_line (fine_signals signals) a ∷ lines.new.left) }
     ensures in_range { IfOk result IsArcInRange }
     ensures of_version { IfOk result (λ a. a.sat ≤ most_sat version) }
     ensures used { IfOk result (HasUsedShifts (fine_signals signals)) }
@@ -61,9 +64,12 @@ fn read_arc_lines<G: Grammar>(
     count: usize,
 ) -> Result<Vec<Arc>, TextFault>
     requires some { 2 ≤ count }
-    requires few { count ≤ 200 }
-    ensures reads { (before : ℕ → List Arc → G.State) → ArcsAreTaken G.rules version (fine_signals signals) before → Reads G.rules lines.old lines.new (before count []) (λ arcs. before 0 arcs.items) result }
-    ensures took { IfOk result (λ arcs. lines.old.left ≡ arc_lines (fine_signals signals) arcs.items ++ lines.new.left) }
+    requires few { count ≤ MOST_ARCS }
+    ensures reads { (before : ℕ → List Arc → G.State) →
+        ArcsAreTaken G.rules version (fine_signals signals) before →
+        Reads G.rules lines.old lines.new (before count []) (λ arcs. before 0 arcs.items) result }
+    ensures took { IfOk result (λ arcs.
+        lines.old.left ≡ arc_lines (fine_signals signals) arcs.items ++ lines.new.left) }
     ensures count { IfOk result (λ arcs. length arcs.items ≡ count) }
     ensures are { IfOk result (λ arcs. AreArcs arcs.items) }
     ensures of_version { IfOk result (λ arcs. All (λ a. a.sat ≤ most_sat version) arcs.items) }
@@ -89,14 +95,18 @@ pub fn read_arcs<G: Grammar>(
     version: Version,
     signals: Signals,
 ) -> Result<ArcList, TextFault>
-    ensures reads { (s : G.State) (before : ℕ → List Arc → G.State) → TakesLine G.rules s (count_in (codes "arcs") 2 200) (λ n. before n []) → ArcsAreTaken G.rules version (fine_signals signals) before → Reads G.rules lines.old lines.new s (λ arcs. before 0 arcs) result }
-    ensures took { IfOk result (λ arcs. lines.old.left ≡ counted_arcs (fine_signals signals) arcs ++ lines.new.left) }
+    ensures reads { (s : G.State) (before : ℕ → List Arc → G.State) →
+        TakesLine G.rules s (count_in (codes "arcs") 2 MOST_ARCS) (λ n. before n []) →
+        ArcsAreTaken G.rules version (fine_signals signals) before →
+        Reads G.rules lines.old lines.new s (λ arcs. before 0 arcs) result }
+    ensures took { IfOk result (λ arcs.
+        lines.old.left ≡ counted_arcs (fine_signals signals) arcs ++ lines.new.left) }
     ensures are { IfOk result AreArcs }
     ensures of_version { IfOk result (All (λ a. a.sat ≤ most_sat version)) }
     ensures used { IfOk result (All (HasUsedShifts (fine_signals signals))) }
     ensures whole { IfOk result (All IsWholeArc) }
 {
-    let count = next_count::<G>(lines, b"arcs", 2, 200)?;
+    let count = next_count::<G>(lines, b"arcs", 2, MOST_ARCS as u64)?;
     let arcs = read_arc_lines::<G>(alloc, lines, version, signals, count as usize)?;
     Ok(ArcList::new(arcs))
 }

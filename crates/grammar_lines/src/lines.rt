@@ -26,7 +26,8 @@ use rinex_head::{At, What, next_line};
 
 /// A line of one text.
 pub fn next_word<G: Grammar>(lines: &mut Lines<'_>, word: &[u8]) -> Result<(), At>
-    ensures reads { (s next : G.State) → TakesLine G.rules s (word_in word.now) (λ u. next) → ReadsFree G.rules lines.old lines.new s (λ u. next) result }
+    ensures reads { (s next : G.State) → TakesLine G.rules s (word_in word.now) (λ u. next) →
+        ReadsFree G.rules lines.old lines.new s (λ u. next) result }
     ensures took { OnOk result (lines.old.left ≡ word.now ∷ lines.new.left) }
 {
     let line = next_line(lines, What::BadLine)?;
@@ -43,7 +44,9 @@ pub fn next_count<G: Grammar>(
     low: u64,
     high: u64,
 ) -> Result<u64, At>
-    ensures reads { (s : G.State) (next : ℕ → G.State) → TakesLine G.rules s (count_in word.now low high) next → ReadsFree G.rules lines.old lines.new s next result }
+    ensures reads { (s : G.State) (next : ℕ → G.State) →
+        TakesLine G.rules s (count_in word.now low high) next →
+        ReadsFree G.rules lines.old lines.new s next result }
     ensures took { IfOk result (λ n. lines.old.left ≡ count_line word.now n ∷ lines.new.left) }
     ensures in_range { IfOk result (λ n. (low ≤ n) × (n ≤ high)) }
 {
@@ -60,7 +63,9 @@ pub fn next_triple<G: Grammar>(
     word: &[u8],
     range: &Range,
 ) -> Result<[i64; 3], At>
-    ensures reads { (s : G.State) (next : List ℤ → G.State) → TakesLine G.rules s (vector_in word.now 3 range.now) next → ReadsFree G.rules lines.old lines.new s next result }
+    ensures reads { (s : G.State) (next : List ℤ → G.State) →
+        TakesLine G.rules s (vector_in word.now 3 range.now) next →
+        ReadsFree G.rules lines.old lines.new s next result }
     ensures took { IfOk result (λ zs. lines.old.left ≡ vector_line word.now zs ∷ lines.new.left) }
     ensures in_range { IfOk result (All (IsIn range.now)) }
 {
@@ -73,7 +78,8 @@ pub fn next_triple<G: Grammar>(
 
 /// The line of the system.
 pub fn next_system<G: Grammar>(lines: &mut Lines<'_>) -> Result<u8, At>
-    ensures reads { (s : G.State) (next : ℕ → G.State) → TakesLine G.rules s system_in next → ReadsFree G.rules lines.old lines.new s next result }
+    ensures reads { (s : G.State) (next : ℕ → G.State) → TakesLine G.rules s system_in next →
+        ReadsFree G.rules lines.old lines.new s next result }
     ensures took { IfOk result (λ system. lines.old.left ≡ system_line system ∷ lines.new.left) }
     ensures system { IfOk result IsSystem }
 {
@@ -86,8 +92,11 @@ pub fn next_system<G: Grammar>(lines: &mut Lines<'_>) -> Result<u8, At>
 
 /// The line of the signals' letters.
 pub fn next_letters<G: Grammar>(lines: &mut Lines<'_>, version: Version) -> Result<Signals, At>
-    ensures reads { (s : G.State) (next : Letters → G.State) → TakesLine G.rules s (signals_in version) next → ReadsFree G.rules lines.old lines.new s (λ signals. next (letters signals.l1 signals.l2 signals.l5)) result }
-    ensures took { IfOk result (λ s. lines.old.left ≡ signals_line version s.l1 s.l2 s.l5 ∷ lines.new.left) }
+    ensures reads { (s : G.State) (next : Letters → G.State) →
+        TakesLine G.rules s (signals_in version) next → ReadsFree G.rules lines.old lines.new s
+        (λ signals. next (letters signals.l1 signals.l2 signals.l5)) result }
+    ensures took { IfOk result (λ s.
+        lines.old.left ≡ signals_line version s.l1 s.l2 s.l5 ∷ lines.new.left) }
     ensures of_version { IfOk result (λ s. version ≡ One → s.l5 ≡ 0) }
 {
     let line = next_line(lines, What::BadLine)?;
@@ -103,8 +112,11 @@ pub fn next_pair_head<G: Grammar>(
     version: Version,
     least: u32,
 ) -> Result<PairHead, At>
-    ensures reads { (s : G.State) (next : PairHead → G.State) → TakesLine G.rules s (pair_in version least) next → ReadsFree G.rules lines.old lines.new s next result }
-    ensures took { IfOk result (λ p. lines.old.left ≡ pair_line p.number p.tag.0 p.group p.count ∷ lines.new.left) }
+    ensures reads { (s : G.State) (next : PairHead → G.State) →
+        TakesLine G.rules s (pair_in version least) next →
+        ReadsFree G.rules lines.old lines.new s next result }
+    ensures took { IfOk result (λ p.
+        lines.old.left ≡ pair_line p.number p.tag.0 p.group p.count ∷ lines.new.left) }
     ensures number { IfOk result (λ p. (least ≤ p.number) × (p.number < MOST_PAIRS)) }
     ensures tag { IfOk result (λ p. p.tag.0 < 2 ^ 63) }
     ensures group { IfOk result (λ p. unsigned_abs p.group < 2 ^ 55) }
@@ -120,8 +132,10 @@ pub fn next_pair_head<G: Grammar>(
 
 /// The line of the values.
 pub fn next_values<G: Grammar>(lines: &mut Lines<'_>) -> Result<FormValues, At>
-    ensures reads { (s : G.State) (next : FormValues → G.State) → TakesLine G.rules s values_in next → ReadsFree G.rules lines.old lines.new s next result }
-    ensures took { IfOk result (λ v. lines.old.left ≡ values_line v.h v.p1 v.p2 v.top ∷ lines.new.left) }
+    ensures reads { (s : G.State) (next : FormValues → G.State) →
+        TakesLine G.rules s values_in next → ReadsFree G.rules lines.old lines.new s next result }
+    ensures took { IfOk result (λ v.
+        lines.old.left ≡ values_line v.h v.p1 v.p2 v.top ∷ lines.new.left) }
     ensures h { IfOk result (λ v. v.h ≤ 127) }
     ensures p1 { IfOk result (λ v. IsBelow (2 ^ 126) v.p1) }
     ensures p2 { IfOk result (λ v. IsBelow (2 ^ 126) v.p2) }
@@ -136,7 +150,8 @@ pub fn next_values<G: Grammar>(lines: &mut Lines<'_>) -> Result<FormValues, At>
 
 /// The last line after two vectors: whether the integers are fixed.
 pub fn next_last<G: Grammar>(lines: &mut Lines<'_>) -> Result<bool, At>
-    ensures reads { (s : G.State) (next : Bool → G.State) → TakesLine G.rules s last_in next → ReadsFree G.rules lines.old lines.new s next result }
+    ensures reads { (s : G.State) (next : Bool → G.State) → TakesLine G.rules s last_in next →
+        ReadsFree G.rules lines.old lines.new s next result }
     ensures took { IfOk result (λ fixed. lines.old.left ≡ last_line fixed ∷ lines.new.left) }
 {
     let line = next_line(lines, What::BadLine)?;

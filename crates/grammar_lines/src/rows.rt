@@ -4,7 +4,7 @@ ghost use Rattle.obs_rows.specs.Arcs.{IsOfPair};
 ghost use Rattle.obs_rows.specs.Pairs.{HasItsArcs};
 ghost use Rattle.obs_rows.specs.Signals.{fine_signals};
 ghost use Rattle.obs_rows.specs.Unused.{IsZeroOff, HasUsedRows};
-ghost use Rattle.obs_rows.specs.declared.limits.TheConstants.{MOST_PAIRS, MOST_SATELLITES};
+ghost use Rattle.obs_rows.specs.declared.limits.TheConstants.{MOST_PAIRS, MOST_SATELLITES, MOST_ARCS};
 ghost use Rattle.rinex_head.specs.LineRules.{Reads, ReadsFree};
 ghost use Rattle.cert_lines.specs.Lines.{row_line, row_lines};
 ghost use Rattle.cert_lines.specs.Forms.{row_in};
@@ -28,9 +28,12 @@ fn next_row<G: Grammar>(
     least: u32,
 ) -> Result<Row, At>
     requires some { 1 ≤ length arcs.now }
-    requires few { length arcs.now ≤ 200 }
-    ensures reads { (s : G.State) (next : ℕ → G.State) → TakesLine G.rules s (row_in (fine_signals signals) arcs.now number least) next → ReadsFree G.rules lines.old lines.new s (λ r. next r.arc) result }
-    ensures took { IfOk result (λ r. lines.old.left ≡ row_line (fine_signals signals) r ∷ lines.new.left) }
+    requires few { length arcs.now ≤ MOST_ARCS }
+    ensures reads { (s : G.State) (next : ℕ → G.State) →
+        TakesLine G.rules s (row_in (fine_signals signals) arcs.now number least) next →
+        ReadsFree G.rules lines.old lines.new s (λ r. next r.arc) result }
+    ensures took { IfOk result (λ r.
+        lines.old.left ≡ row_line (fine_signals signals) r ∷ lines.new.left) }
     ensures least { IfOk result (λ r. least ≤ r.arc) }
     ensures of_pair { IfOk result (λ r. IsOfPair arcs.now number r) }
     ensures used { IfOk result (λ r. IsZeroOff (fine_signals signals) r.y) }
@@ -52,14 +55,17 @@ pub fn read_rows<G: Grammar>(
     head: PairHead,
 ) -> Result<PairRows, TextFault>
     requires some { 1 ≤ length arcs.now }
-    requires few { length arcs.now ≤ 200 }
+    requires few { length arcs.now ≤ MOST_ARCS }
     requires number { head.number < MOST_PAIRS }
     requires tag { head.tag.0 < 2 ^ 63 }
     requires group { unsigned_abs head.group < 2 ^ 55 }
     requires count_from { 1 ≤ head.count }
     requires count_to { head.count ≤ MOST_SATELLITES }
-    ensures reads { (before : ℕ → ℕ → G.State) (after : G.State) → RowsAreTaken G.rules (fine_signals signals) arcs.now head.number before after → Reads G.rules lines.old lines.new (before head.count 0) (λ p. after) result }
-    ensures took { IfOk result (λ p. lines.old.left ≡ row_lines (fine_signals signals) p.rows ++ lines.new.left) }
+    ensures reads { (before : ℕ → ℕ → G.State) (after : G.State) →
+        RowsAreTaken G.rules (fine_signals signals) arcs.now head.number before after →
+        Reads G.rules lines.old lines.new (before head.count 0) (λ p. after) result }
+    ensures took { IfOk result (λ p.
+        lines.old.left ≡ row_lines (fine_signals signals) p.rows ++ lines.new.left) }
     ensures number { IfOk result (λ p. p.number ≡ head.number) }
     ensures tag { IfOk result (λ p. p.tag ≡ head.tag) }
     ensures group { IfOk result (λ p. p.group ≡ head.group) }

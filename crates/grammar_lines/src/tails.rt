@@ -26,8 +26,11 @@ pub fn next_integers<G: Grammar>(
     count: usize,
 ) -> Result<[i64; MOST_INTEGERS], At>
     requires { count ≤ MOST_INTEGERS }
-    ensures reads { (s : G.State) (next : List ℤ → G.State) → TakesLine G.rules s (vector_in word.now count ENTRIES) next → ReadsFree G.rules lines.old lines.new s (λ z. next (take count z)) result }
-    ensures took { IfOk result (λ z. lines.old.left ≡ vector_line word.now (take count z) ∷ lines.new.left) }
+    ensures reads { (s : G.State) (next : List ℤ → G.State) →
+        TakesLine G.rules s (vector_in word.now count ENTRIES) next →
+        ReadsFree G.rules lines.old lines.new s (λ z. next (take count z)) result }
+    ensures took { IfOk result (λ z.
+        lines.old.left ≡ vector_line word.now (take count z) ∷ lines.new.left) }
     ensures small { IfOk result IsSmall }
     ensures rest { IfOk result (IsZeroFrom count) }
 {

@@ -33,11 +33,14 @@ fn write_row(p: &mut FormTable, halves: &NormalTable, map: &MapTable, n: usize, 
     requires size { n ≤ MOST_INTEGERS }
     requires row { i ≤ n }
     requires map { EntriesBelow (2 ^ 30) map.now }
-    requires halves { (a j : ℕ) → a < n + 1 → j < n + 1 → unsigned_abs (entry halves.now a j) ≤ 2 ^ 88 }
+    requires halves { (a j : ℕ) → a < n + 1 → j < n + 1 →
+        unsigned_abs (entry halves.now a j) ≤ 2 ^ 88 }
     requires entries { EntriesBelow (2 ^ 52) p.old }
     requires outside { IsZeroOutside (n + 1) (n + 1) p.old }
-    ensures row { result ≡ true → (j : ℕ) → j < n + 1 → entry p.new i j ≡ whole_entry n (entry map.now) (entry halves.now) i j }
-    ensures wide { result ≡ false → ((j : ℕ) → j < n + 1 → unsigned_abs (whole_entry n (entry map.now) (entry halves.now) i j) < 2 ^ 52) → ⊥ }
+    ensures row { result ≡ true → (j : ℕ) → j < n + 1 →
+        entry p.new i j ≡ whole_entry n (entry map.now) (entry halves.now) i j }
+    ensures wide { result ≡ false → ((j : ℕ) → j < n + 1 →
+        unsigned_abs (whole_entry n (entry map.now) (entry halves.now) i j) < 2 ^ 52) → ⊥ }
     ensures others { (k j : ℕ) → k ≢ i → entry p.new k j ≡ entry p.old k j }
     ensures entries { EntriesBelow (2 ^ 52) p.new }
     ensures outside { IsZeroOutside (n + 1) (n + 1) p.new }
@@ -56,7 +59,8 @@ fn write_row(p: &mut FormTable, halves: &NormalTable, map: &MapTable, n: usize, 
 fn write_wholes(p: &mut FormTable, halves: &NormalTable, map: &MapTable, n: usize) -> bool
     requires size { n ≤ MOST_INTEGERS }
     requires map { EntriesBelow (2 ^ 30) map.now }
-    requires halves { (a j : ℕ) → a < n + 1 → j < n + 1 → unsigned_abs (entry halves.now a j) ≤ 2 ^ 88 }
+    requires halves { (a j : ℕ) → a < n + 1 → j < n + 1 →
+        unsigned_abs (entry halves.now a j) ≤ 2 ^ 88 }
     requires entries { EntriesBelow (2 ^ 52) p.old }
     requires outside { IsZeroOutside (n + 1) (n + 1) p.old }
     ensures done { result ≡ true → AreWholes n (entry map.now) (entry halves.now) p.new }
@@ -76,7 +80,8 @@ fn write_wholes(p: &mut FormTable, halves: &NormalTable, map: &MapTable, n: usiz
 #[inline(never)]
 pub fn transformed(form: &Form, change: &Unimodular) -> Option<FrontForm>
     requires { change.now.size ≡ integers_of form.now }
-    ensures form { MatchOption result (IsTransformedSmall (integers_of form.now) change.now.map form.now.p → ⊥) (IsTransformed (integers_of form.now) change.now.map form.now.p) }
+    ensures form { MatchOption result (IsTransformedSmall (integers_of form.now) change.now.map
+        form.now.p → ⊥) (IsTransformed (integers_of form.now) change.now.map form.now.p) }
     ensures h { IfSome result (λ r. r.h ≡ form.now.h) }
 {
     let n = change.size;

@@ -46,7 +46,8 @@ fn write_half_row(halves: &mut NormalTable, p: &FormTable, map: &MapTable, n: us
     requires row { a ≤ n }
     requires form { EntriesBelow (2 ^ 52) p.now }
     requires map { EntriesBelow (2 ^ 30) map.now }
-    ensures row { (j : ℕ) → j < n + 1 → entry halves.new a j ≡ half_entry n (entry map.now) (entry p.now) a j }
+    ensures row { (j : ℕ) → j < n + 1 →
+        entry halves.new a j ≡ half_entry n (entry map.now) (entry p.now) a j }
     ensures sizes { (j : ℕ) → j < n + 1 → unsigned_abs (entry halves.new a j) ≤ 2 ^ 88 }
     ensures others { (i j : ℕ) → i ≢ a → entry halves.new i j ≡ entry halves.old i j }
 {
@@ -60,8 +61,10 @@ pub(crate) fn write_halves(halves: &mut NormalTable, p: &FormTable, map: &MapTab
     requires size { n ≤ MOST_INTEGERS }
     requires form { EntriesBelow (2 ^ 52) p.now }
     requires map { EntriesBelow (2 ^ 30) map.now }
-    ensures value { (a j : ℕ) → a < n + 1 → j < n + 1 → entry halves.new a j ≡ half_entry n (entry map.now) (entry p.now) a j }
-    ensures sizes { (a j : ℕ) → a < n + 1 → j < n + 1 → unsigned_abs (entry halves.new a j) ≤ 2 ^ 88 }
+    ensures value { (a j : ℕ) → a < n + 1 → j < n + 1 →
+        entry halves.new a j ≡ half_entry n (entry map.now) (entry p.now) a j }
+    ensures sizes { (a j : ℕ) → a < n + 1 → j < n + 1 →
+        unsigned_abs (entry halves.new a j) ≤ 2 ^ 88 }
 {
     for a in 0..n + 1 {
         write_half_row(halves, p, map, n, a);

@@ -35,7 +35,8 @@ pub(crate) fn image(
     requires size_in { size ≤ MOST_INTEGERS }
     requires map { IsMap map.now }
     requires small { IsSmall z.now }
-    ensures { MatchOption result (HasLarge (image_of map.now size (suffix z.now 0 size))) (λ y. Holds size y (image_of map.now size (suffix z.now 0 size))) }
+    ensures { MatchOption result (HasLarge (image_of map.now size (suffix z.now 0 size))) (λ y.
+        Holds size y (image_of map.now size (suffix z.now 0 size))) }
 {
     let mut y = [0; MOST_INTEGERS];
     for i in 0..size {
@@ -51,7 +52,8 @@ pub(crate) fn image(
 /// The map that leaves every vector as it is.
 pub(crate) fn identity() -> MapTable
     ensures map { IsMap result }
-    ensures own { (n : ℕ) (v : List ℤ) → n ≤ MOST_INTEGERS → length v ≡ n → image_of result n v ≡ v }
+    ensures own { (n : ℕ) (v : List ℤ) → n ≤ MOST_INTEGERS → length v ≡ n →
+        image_of result n v ≡ v }
 {
     let mut map = MapTable::zeros();
     for i in 0..MOST_INTEGERS {

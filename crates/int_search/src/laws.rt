@@ -14,7 +14,9 @@ ghost use Rattle.int_search.specs.declared.answer.SearchFault.{SearchFault};
 
 /// The form in the coordinates of a map has at each vector the value that the form has at the vector's image.
 pub fn value_law()
-    ensures { (n : ℕ) (map p : List (List ℤ)) (z : List ℤ) → IsSymmetric p → length z ≡ n → value (transformed_form n map p) z ≡ value (form_of_table p (n + 1)) (apply (block n map) z) }
+    ensures { (n : ℕ) (map p : List (List ℤ)) (z : List ℤ) → IsSymmetric p → length z ≡ n →
+        value (transformed_form n map p) z
+        ≡ value (form_of_table p (n + 1)) (apply (block n map) z) }
 {}
 
 /// A greater budget never loses an answer.
@@ -24,5 +26,6 @@ pub fn more_visits_law()
 
 /// A form has one end with each budget: an answer, or one fault.
 pub fn one_end_law()
-    ensures { (f : Form) (n : ℕ) (r s : Result TwoBest SearchFault) → IsSearchEnd f n r → IsSearchEnd f n s → IsSameEnd r s }
+    ensures { (f : Form) (n : ℕ) (r s : Result TwoBest SearchFault) → IsSearchEnd f n r →
+        IsSearchEnd f n s → IsSameEnd r s }
 {}

@@ -15,7 +15,9 @@ use integer_form::Form;
 /// entry is large.
 pub(crate) fn rounded_point(form: &Form) -> Option<[i64; MOST_INTEGERS]>
     requires { 4 < form.now.columns }
-    ensures { MatchOption result (HasLarge (rounded (search_form form.now) (integers_of form.now))) (λ z. Holds (integers_of form.now) z (rounded (search_form form.now) (integers_of form.now))) }
+    ensures { MatchOption result (HasLarge (rounded (search_form form.now) (integers_of form.now)))
+        (λ z.
+        Holds (integers_of form.now) z (rounded (search_form form.now) (integers_of form.now))) }
 {
     let integers = form.columns - BASELINE_COLUMNS - 1;
     let mut z = [0; MOST_INTEGERS];
@@ -35,7 +37,8 @@ pub(crate) fn rounded_point(form: &Form) -> Option<[i64; MOST_INTEGERS]>
 fn first_offset(form: &Form, z: &[i64; MOST_INTEGERS]) -> i128
     requires some { 4 < form.now.columns }
     requires small { IsSmall z.now }
-    ensures value { result ≡ offset (search_form form.now) (get_or z.now 0 (pos 0)) (suffix z.now 1 (integers_of form.now)) }
+    ensures value { result ≡ offset (search_form form.now) (get_or z.now 0 (pos 0))
+        (suffix z.now 1 (integers_of form.now)) }
     ensures size { unsigned_abs result ≤ 2 ^ 91 }
 {
     offset_of(z[0], later_part(form, 0, z))
@@ -56,8 +59,10 @@ fn one_further(x: i64, offset: i128) -> i64
 /// The neighbour of the rounded point z: the first entry one further, to the side of the centre; None where it is large.
 pub(crate) fn neighbour_point(form: &Form, z: &[i64; MOST_INTEGERS]) -> Option<[i64; MOST_INTEGERS]>
     requires some { 4 < form.now.columns }
-    requires point { Holds (integers_of form.now) z.now (rounded (search_form form.now) (integers_of form.now)) }
-    ensures { MatchOption result (HasLarge (neighbour (search_form form.now))) (λ w. Holds (integers_of form.now) w (neighbour (search_form form.now))) }
+    requires point { Holds (integers_of form.now) z.now
+        (rounded (search_form form.now) (integers_of form.now)) }
+    ensures { MatchOption result (HasLarge (neighbour (search_form form.now))) (λ w.
+        Holds (integers_of form.now) w (neighbour (search_form form.now))) }
 {
     let x = one_further(z[0], first_offset(form, z));
     if is_large(x as i128) {

@@ -17,7 +17,8 @@ fn reduced_best(form: &Form, budget: u64) -> Option<TwoBest>
     requires { 4 < form.now.columns }
     ensures found { MatchOption result (HasReducedCount form.now budget → ⊥) (IsTwoBest form.now) }
     ensures visits { IfSome result (IsVisitedReducedIn form.now budget) }
-    ensures end { MatchOption result (ReducedEndsByItself form.now budget → ⊥) (λ b. ReducedEndsByItself form.now budget) }
+    ensures end { MatchOption result (ReducedEndsByItself form.now budget →
+        ⊥) (λ b. ReducedEndsByItself form.now budget) }
 {
     let change = reduce(form.columns - BASELINE_COLUMNS - 1, &form.d, &form.l);
     let Some(front) = transformed(form, &change) else {

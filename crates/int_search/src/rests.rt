@@ -13,7 +13,8 @@ use whole_math::product;
 pub(crate) fn later_part(form: &Form, i: usize, z: &[i64; MOST_INTEGERS]) -> i128
     requires place { i < integers_of form.now }
     requires small { IsSmall z.now }
-    ensures value { result ≡ rest (search_form form.now) (suffix z.now (i + 1) (integers_of form.now)) }
+    ensures value { result
+        ≡ rest (search_form form.now) (suffix z.now (i + 1) (integers_of form.now)) }
     ensures size { unsigned_abs result ≤ 2 ^ 88 }
 {
     let integers = form.columns - BASELINE_COLUMNS - 1;

@@ -14,7 +14,8 @@ use integer_form::Form;
 /// The two least vectors in the coordinates that the map gives, among all integer vectors of the form.
 pub(crate) fn search(form: &Form, map: &MapTable, budget: u64) -> Result<TwoBest, SearchFault>
     requires { CanSearch form.now map.now }
-    ensures { MatchResult result (IsAnswer (search_form form.now) (search_image form.now map.now) budget) (IsFault (search_form form.now) (search_image form.now map.now) budget) }
+    ensures { MatchResult result (IsAnswer (search_form form.now) (search_image form.now map.now)
+        budget) (IsFault (search_form form.now) (search_image form.now map.now) budget) }
 {
     let Some(mut walk) = SearchState::start(form, map) else {
         return Err(SearchFault::Overwidth);

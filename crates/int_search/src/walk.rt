@@ -71,7 +71,8 @@ impl SearchState {
     /// The search over a form, with the rounded point and its neighbour as its two best; None where one is too wide.
     pub(crate) fn start(form: &Form, map: &MapTable) -> Option<SearchState>
         requires { CanSearch form.now map.now }
-        ensures { MatchOption result (IsStartTooWide (search_form form.now) (search_image form.now map.now)) (IsFresh (search_form form.now) (search_image form.now map.now)) }
+        ensures { MatchOption result (IsStartTooWide (search_form form.now) (search_image form.now
+            map.now)) (IsFresh (search_form form.now) (search_image form.now map.now)) }
     {
         let size = form.columns - BASELINE_COLUMNS - 1;
         let z = rounded_point(form)?;
@@ -111,7 +112,9 @@ impl SearchState {
         requires can { CanSearch form.now map.now }
         requires size { self.old.size ≡ integers_of form.now }
         requires small { IsSmall self.old.z }
-        ensures { MatchBool result (Offers (search_form form.now) (search_image form.now map.now) self.old self.new) (IsImageTooLarge (search_form form.now) (search_image form.now map.now) self.old) }
+        ensures { MatchBool result
+            (Offers (search_form form.now) (search_image form.now map.now) self.old self.new)
+            (IsImageTooLarge (search_form form.now) (search_image form.now map.now) self.old) }
     {
         let p = value_at(form, &self.z);
         if p > self.best.p2 {
@@ -129,7 +132,8 @@ impl SearchState {
         requires some { 4 < form.now.columns }
         requires walk { IsPlainWalk (search_form form.now) self.now }
         requires level { 0 < length self.now.stack }
-        ensures { MatchOption result (IsPassed (search_form form.now) self.now) (IsReach (search_form form.now) self.now) }
+        ensures { MatchOption result (IsPassed (search_form form.now) self.now)
+            (IsReach (search_form form.now) self.now) }
     {
         let level = self.stack.top();
         let choice = nearest(&level);
@@ -149,7 +153,9 @@ impl SearchState {
         requires reach { IsReach (search_form form.now) self.old reach.now }
         requires small { unsigned_abs reach.now.choice.entry < 2 ^ 30 }
         requires visits { self.old.visits + 1 < 2 ^ 64 }
-        ensures { MatchBool result (Visits (search_form form.now) (search_image form.now map.now) self.old self.new) (MeetsTooWide (search_form form.now) (search_image form.now map.now) (self.old.visits + 1)) }
+        ensures { MatchBool result (Visits (search_form form.now)
+            (search_image form.now map.now) self.old self.new) (MeetsTooWide (search_form form.now)
+            (search_image form.now map.now) (self.old.visits + 1)) }
     {
         let i = self.size - self.stack.len();
         self.visits += 1;
@@ -168,7 +174,8 @@ impl SearchState {
         requires can { CanSearch form.now map.now }
         requires walk { IsWalk (search_form form.now) (search_image form.now map.now) self.old }
         requires visits { self.old.visits ≤ budget }
-        ensures { Gives (search_form form.now) (search_image form.now map.now) budget self.old self.new result }
+        ensures { Gives (search_form form.now)
+            (search_image form.now map.now) budget self.old self.new result }
     {
         if self.stack.len() == 0 {
             return Turn::Done;

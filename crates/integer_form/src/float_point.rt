@@ -40,8 +40,10 @@ fn factor_sum<const WIDTH: usize>(
     requires column { suc j < columns }
     requires columns_in { columns ≤ MOST_COLUMNS }
     requires factors { EntriesBelow (2 ^ 52) l.now }
-    requires narrow { (i : ℕ) → j < i → i < columns - 1 → unsigned_abs (item numbers.now i) < 2 ^ 46 }
-    ensures value { result ≡ dot (list_from (λ i. entry l.now i j) (suc j) (columns - j - 1)) (list_from (item numbers.now) (suc j) (columns - 1 - suc j) ++ (pos (2 ^ 16) ∷ [])) }
+    requires narrow { (i : ℕ) → j < i → i < columns - 1 →
+        unsigned_abs (item numbers.now i) < 2 ^ 46 }
+    ensures value { result ≡ dot (list_from (λ i. entry l.now i j) (suc j) (columns - j - 1))
+        (list_from (item numbers.now) (suc j) (columns - 1 - suc j) ++ (pos (2 ^ 16) ∷ [])) }
     ensures size { unsigned_abs result ≤ 2 ^ 104 }
 {
     let last = columns - 1;
@@ -63,8 +65,10 @@ fn number_of<const WIDTH: usize>(
     requires column { suc j < columns }
     requires columns_in { columns ≤ MOST_COLUMNS }
     requires factors { EntriesBelow (2 ^ 52) l.now }
-    requires narrow { (i : ℕ) → j < i → i < columns - 1 → unsigned_abs (item numbers.now i) < 2 ^ 46 }
-    ensures value { result ≡ next_number (list_from (λ i. entry l.now i j) (suc j) (columns - j - 1)) (list_from (item numbers.now) (suc j) (columns - 1 - suc j)) }
+    requires narrow { (i : ℕ) → j < i → i < columns - 1 →
+        unsigned_abs (item numbers.now i) < 2 ^ 46 }
+    ensures value { result ≡ next_number (list_from (λ i. entry l.now i j) (suc j)
+        (columns - j - 1)) (list_from (item numbers.now) (suc j) (columns - 1 - suc j)) }
     ensures size { unsigned_abs result ≤ 2 ^ 104 }
 {
     -nearest(factor_sum(l, numbers, j, columns), FACTOR_UNIT)
@@ -81,11 +85,16 @@ fn solve<const WIDTH: usize>(
     requires count_in { count < columns }
     requires columns_in { columns ≤ MOST_COLUMNS }
     requires factors { EntriesBelow (2 ^ 52) l.now }
-    requires narrow { (i : ℕ) → count ≤ i → i < columns - 1 → unsigned_abs (item numbers.old i) < 2 ^ 46 }
-    ensures solved { OnOk result ((d : List ℤ) → list_from (item numbers.new) 0 (columns - 1) ≡ solved (stored d l.now columns 0 count) (list_from (item numbers.old) count (columns - 1 - count))) }
-    ensures narrow { OnOk result ((i : ℕ) → i < columns - 1 → unsigned_abs (item numbers.new i) < 2 ^ 46) }
+    requires narrow { (i : ℕ) → count ≤ i → i < columns - 1 →
+        unsigned_abs (item numbers.old i) < 2 ^ 46 }
+    ensures solved { OnOk result ((d : List ℤ) →
+        list_from (item numbers.new) 0 (columns - 1) ≡ solved (stored d l.now columns 0 count)
+        (list_from (item numbers.old) count (columns - 1 - count))) }
+    ensures narrow { OnOk result ((i : ℕ) → i < columns - 1 →
+        unsigned_abs (item numbers.new i) < 2 ^ 46) }
     ensures outside { (i : ℕ) → count ≤ i → item numbers.new i ≡ item numbers.old i }
-    ensures wide { IfErr result (λ e. (d : List ℤ) → HasWideBefore count (solved (stored d l.now columns 0 count) (list_from (item numbers.old) count (columns - 1 - count)))) }
+    ensures wide { IfErr result (λ e. (d : List ℤ) → HasWideBefore count (solved (stored d l.now
+        columns 0 count) (list_from (item numbers.old) count (columns - 1 - count)))) }
     ensures place { IfErr result (λ e. e.place ≡ Float) }
 {
     for k in 0..count {
@@ -106,7 +115,8 @@ fn integer_numbers(z: &[i64]) -> [i64; MOST_FACTORS]
     requires count { length z.now ≤ MOST_INTEGERS }
     requires size { (i : ℕ) → i < length z.now → unsigned_abs (item z.now i) < 2 ^ 30 }
     ensures list { list_from (item result) 3 (length z.now) ≡ scaled (pos (2 ^ 16)) z.now }
-    ensures narrow { (i : ℕ) → 3 ≤ i → i < 3 + length z.now → unsigned_abs (item result i) < 2 ^ 46 }
+    ensures narrow { (i : ℕ) → 3 ≤ i → i < 3 + length z.now →
+        unsigned_abs (item result i) < 2 ^ 46 }
 {
     let mut numbers = [0; MOST_FACTORS];
     for i in 0..z.len() {
@@ -155,8 +165,10 @@ impl Form {
     pub fn baseline_of(&self, z: &[i64]) -> Result<[i64; BASELINE_COLUMNS], Overwidth>
         requires count { length z.now ≡ integers_of self.now }
         requires size { (i : ℕ) → i < length z.now → unsigned_abs (item z.now i) < 2 ^ 30 }
-        ensures ok { IfOk result (λ b. b ≡ baseline_at self.now.d self.now.l self.now.columns z.now) }
-        ensures refused { IsErr result ↔ HasWide (baseline_at self.now.d self.now.l self.now.columns z.now) }
+        ensures ok { IfOk result (λ b.
+            b ≡ baseline_at self.now.d self.now.l self.now.columns z.now) }
+        ensures refused { IsErr result
+            ↔ HasWide (baseline_at self.now.d self.now.l self.now.columns z.now) }
         ensures place { IfErr result (λ e. e.place ≡ Float) }
     {
         baseline_from(&self.l, self.columns, z)
@@ -168,8 +180,10 @@ impl FrontForm {
     pub fn baseline_of(&self, z: &[i64]) -> Result<[i64; BASELINE_COLUMNS], Overwidth>
         requires count { length z.now ≡ self.now.columns - 4 }
         requires size { (i : ℕ) → i < length z.now → unsigned_abs (item z.now i) < 2 ^ 30 }
-        ensures ok { IfOk result (λ b. b ≡ baseline_at self.now.d self.now.l self.now.columns z.now) }
-        ensures refused { IsErr result ↔ HasWide (baseline_at self.now.d self.now.l self.now.columns z.now) }
+        ensures ok { IfOk result (λ b.
+            b ≡ baseline_at self.now.d self.now.l self.now.columns z.now) }
+        ensures refused { IsErr result
+            ↔ HasWide (baseline_at self.now.d self.now.l self.now.columns z.now) }
         ensures place { IfErr result (λ e. e.place ≡ Float) }
     {
         baseline_from(&self.l, self.columns, z)

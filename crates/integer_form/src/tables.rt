@@ -15,7 +15,8 @@ const LIMIT: i64 = 1 << 52;
 fn copy_factors_back(front: &FrontTable, factors: &mut FactorTable, r: usize)
     requires row_in { r < MOST_COLUMNS }
     ensures row { (c : ℕ) → c < BASELINE_COLUMNS → entry factors.new r c ≡ entry front.now r c }
-    ensures others { (i c : ℕ) → (i ≢ r) ⊎ (BASELINE_COLUMNS ≤ c) → entry factors.new i c ≡ entry factors.old i c }
+    ensures others { (i c : ℕ) → (i ≢ r) ⊎ (BASELINE_COLUMNS ≤ c) →
+        entry factors.new i c ≡ entry factors.old i c }
 {
     for c in 0..BASELINE_COLUMNS {
         factors.set(r, c, front.at(r, c));
@@ -24,8 +25,10 @@ fn copy_factors_back(front: &FrontTable, factors: &mut FactorTable, r: usize)
 
 /// Writes these factors of the baseline's columns into a table of all factors.
 pub fn put_factors(front: &FrontTable, factors: &mut FactorTable)
-    ensures same { (r c : ℕ) → r < MOST_COLUMNS → c < BASELINE_COLUMNS → entry factors.new r c ≡ entry front.now r c }
-    ensures others { (r c : ℕ) → (MOST_COLUMNS ≤ r) ⊎ (BASELINE_COLUMNS ≤ c) → entry factors.new r c ≡ entry factors.old r c }
+    ensures same { (r c : ℕ) → r < MOST_COLUMNS → c < BASELINE_COLUMNS →
+        entry factors.new r c ≡ entry front.now r c }
+    ensures others { (r c : ℕ) → (MOST_COLUMNS ≤ r) ⊎ (BASELINE_COLUMNS ≤ c) →
+        entry factors.new r c ≡ entry factors.old r c }
 {
     for r in 0..MOST_COLUMNS {
         copy_factors_back(front, factors, r);
@@ -36,10 +39,14 @@ pub fn put_factors(front: &FrontTable, factors: &mut FactorTable)
 /// outside the columns.
 fn is_form_row(p: &FormTable, r: usize, n: usize) -> bool
     requires row_in { r < MOST_FORM_COLUMNS }
-    ensures symmetric { result ≡ true → (c : ℕ) → c < MOST_FORM_COLUMNS → entry p.now r c ≡ entry p.now c r }
-    ensures small { result ≡ true → (c : ℕ) → c < MOST_FORM_COLUMNS → unsigned_abs (entry p.now r c) < 2 ^ 52 }
-    ensures outside { result ≡ true → (c : ℕ) → c < MOST_FORM_COLUMNS → (n ≤ r) ⊎ (n ≤ c) → entry p.now r c ≡ pos 0 }
-    ensures only { IsSymmetric p.now → EntriesBelow (2 ^ 52) p.now → IsZeroOutside n n p.now → result ≡ true }
+    ensures symmetric { result ≡ true → (c : ℕ) → c < MOST_FORM_COLUMNS →
+        entry p.now r c ≡ entry p.now c r }
+    ensures small { result ≡ true → (c : ℕ) → c < MOST_FORM_COLUMNS →
+        unsigned_abs (entry p.now r c) < 2 ^ 52 }
+    ensures outside { result ≡ true → (c : ℕ) → c < MOST_FORM_COLUMNS → (n ≤ r) ⊎ (n ≤ c) →
+        entry p.now r c ≡ pos 0 }
+    ensures only { IsSymmetric p.now → EntriesBelow (2 ^ 52) p.now → IsZeroOutside n n p.now →
+        result ≡ true }
 {
     for c in 0..MOST_FORM_COLUMNS {
         let entry = p.at(r, c);
@@ -57,7 +64,8 @@ pub fn is_form_table(p: &FormTable, n: usize) -> bool
     ensures symmetric { result ≡ true → IsSymmetric p.now }
     ensures entries { result ≡ true → EntriesBelow (2 ^ 52) p.now }
     ensures outside { result ≡ true → IsZeroOutside n n p.now }
-    ensures only { IsSymmetric p.now → EntriesBelow (2 ^ 52) p.now → IsZeroOutside n n p.now → result ≡ true }
+    ensures only { IsSymmetric p.now → EntriesBelow (2 ^ 52) p.now → IsZeroOutside n n p.now →
+        result ≡ true }
 {
     // A read says the shape of the table, so that nothing stands beyond its ends.
     let _first = p.at(0, 0);

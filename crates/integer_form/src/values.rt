@@ -32,7 +32,8 @@ fn later_products(p: &FormTable, x: &[i64; MOST_FORM_COLUMNS], r: usize, n: usiz
     requires columns_in { n ≤ MOST_FORM_COLUMNS }
     requires entries { EntriesBelow (2 ^ 52) p.now }
     requires numbers { (i : ℕ) → i < n → unsigned_abs (item x.now i) ≤ 2 ^ 30 }
-    ensures value { result ≡ dot (list_from (entry p.now r) (suc r) (n - r - 1)) (list_from (item x.now) (suc r) (n - r - 1)) }
+    ensures value { result ≡ dot (list_from (entry p.now r) (suc r) (n - r - 1))
+        (list_from (item x.now) (suc r) (n - r - 1)) }
     ensures size { unsigned_abs result ≤ 2 ^ 88 }
 {
     let mut sum = 0;

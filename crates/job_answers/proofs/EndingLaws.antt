@@ -2,6 +2,7 @@
 use Rattle.std.proofs.Common.{◌≡◌, ◌≢◌, inl, inr, ◌<◌, ℕ, List, [], length, Some, Option, Result, Ok, Err, sym, ap, ◌∙◌, subst, arith, IfSome}
 use Rattle.line_source.specs.Openings.{Unread, IsReadToEnd}
 use Rattle.line_source.specs.Givens.{Given, GivesWhole, GivesTooMany}
+use Rattle.line_source.specs.declared.transfer.TheConstants.{MAX_FILE}
 use Rattle.job_answers.specs.declared.output.JobOutput.{JobOutput}
 use Rattle.job_answers.specs.declared.stop.JobStop.{JobStop}
 use Rattle.job_answers.specs.declared.stop.JobStop.TheVariants as stop
@@ -24,7 +25,7 @@ admitted_ends text_of name IsFile ends end file no_fault (inl by_text) =
     let same = told_at text_of name file.text (λ (bytes : List ℕ). by_text.text ≡ bytes) file.told_is by_text.is.told_is in
     subst (λ (t : List ℕ). ends t end) same by_text.ends_so
 admitted_ends text_of name IsFile ends end file no_fault (inr (inl large)) =
-    let too = told_at text_of name file.text (λ (bytes : List ℕ). 67108864 < length bytes) file.told_is large.large in
+    let too = told_at text_of name file.text (λ (bytes : List ℕ). MAX_FILE < length bytes) file.told_is large.large in
     absurd (omega (arith, too, file.fits))
 admitted_ends text_of name IsFile ends end file no_fault (inr (inr fault)) = absurd (no_fault (ap (λ (e : Ending). e.status) fault))
 

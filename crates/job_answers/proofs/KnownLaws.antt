@@ -8,6 +8,7 @@ use Rattle.std.proofs.lemmas.List.{map-append}
 use Rattle.std.proofs.Math.Seq.{take-nil}
 use Rattle.line_source.specs.Reports.{Same}
 use Rattle.line_source.specs.Givens.{Given, given_of, names_given, GivesFirst, GivesWhole, GivesTooMany, AllGave, all_gave, given_under, or_else, known_text, IsKnownFrom}
+use Rattle.line_source.specs.declared.transfer.TheConstants.{MAX_FILE}
 use Rattle.job_answers.specs.Endings.{HasTooManyBytes, IsTextOf}
 use Rattle.job_answers.specs.Works.{AllEnded, AreGivenWhole}
 
@@ -91,9 +92,9 @@ whole_known known told before now name text from told_is given = by_option (know
 
 pub too_many_known : (known told : List ℕ → Option (List ℕ)) (before now : List Given) (name : List ℕ) → IsKnownFrom known told before now
     → HasTooManyBytes told name → GivesTooMany name before now → HasTooManyBytes known name
-too_many_known known told before now name from told_many given = by_option (known name) (λ bytes. 67108864 < length bytes) (λ bytes is. elim (from name bytes is) [
-  | inl told_so ↦ subst (λ (o : Option (List ℕ)). IfSome o (λ b. 67108864 < length b)) told_so told_many
-  | inr all ↦ subst (λ (b : List ℕ). 67108864 < length b) ((all (given_of name given.id given.bytes given.ended ∷ []) given.now_is).0 refl) given.many
+too_many_known known told before now name from told_many given = by_option (known name) (λ bytes. MAX_FILE < length bytes) (λ bytes is. elim (from name bytes is) [
+  | inl told_so ↦ subst (λ (o : Option (List ℕ)). IfSome o (λ b. MAX_FILE < length b)) told_so told_many
+  | inr all ↦ subst (λ (b : List ℕ). MAX_FILE < length b) ((all (given_of name given.id given.bytes given.ended ∷ []) given.now_is).0 refl) given.many
 ])
 
 pub text_is_known : (known told : List ℕ → Option (List ℕ)) (before now : List Given) (name text : List ℕ) → IsKnownFrom known told before now

@@ -4,6 +4,7 @@ use Rattle.std.specs.declared.option.Option.{Option}
 use Rattle.line_source.specs.Lines.{lines_of}
 use Rattle.line_source.specs.Openings.{Unread, IsReadToEnd}
 use Rattle.line_source.specs.Givens.{Given, GivesWhole, GivesTooMany}
+use Rattle.line_source.specs.declared.transfer.TheConstants.{MAX_FILE}
 use Rattle.rinex_head.specs.declared.place.At.{At}
 use Rattle.rinex_head.specs.FirstFailing.{IsFirstFailing}
 use Rattle.job_answers.specs.declared.status.Status.{Status}
@@ -21,10 +22,10 @@ ending status out err = record { status = status; out = out; err = err }
 -- the text of the file, which is what is known of it where something is
 pub record IsTextOf (text_of : List ℕ → Option (List ℕ)) (name text : List ℕ) : Type 0 where
   pub told_is : IfSome (text_of name) (λ bytes. text ≡ bytes)
-  pub fits : length text ≤ 67108864
+  pub fits : length text ≤ MAX_FILE
 
 abbrev pub HasTooManyBytes : (List ℕ → Option (List ℕ)) → List ℕ → Type 0
-HasTooManyBytes text_of name = IfSome (text_of name) (λ bytes. 67108864 < length bytes)
+HasTooManyBytes text_of name = IfSome (text_of name) (λ bytes. MAX_FILE < length bytes)
 
 -- the file has more bytes than a file may have
 pub record IsTooLarge (text_of : List ℕ → Option (List ℕ)) (name : List ℕ) (end : Ending) : Type 0 where
@@ -60,7 +61,7 @@ EndsByFile text_of name ends end = EndsByText text_of name ends end ⊎ EndsUnlo
 pub record IsAdmitted (text_of : List ℕ → Option (List ℕ)) (name : List ℕ) (IsFile : List (List ℕ) → Type 0) : Type 0 where
   pub text : List ℕ
   pub told_is : text_of name ≡ Some text
-  pub fits : length text ≤ 67108864
+  pub fits : length text ≤ MAX_FILE
   pub file : IsFile (lines_of text)
 
 -- The job ends with the file's refusal at a place. The file was opened after these, and read to its end: a read fault would have

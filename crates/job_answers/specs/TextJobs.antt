@@ -3,6 +3,7 @@ use Rattle.std.specs.Prelude.{◌≡◌, ◌⊎◌, ℕ, ◌≤◌, List, [], le
 use Rattle.std.specs.declared.option.Option.{Option}
 use Rattle.std.specs.Io.KnownBytes.{Appends}
 use Rattle.line_source.specs.Lines.{lines_of}
+use Rattle.line_source.specs.declared.transfer.TheConstants.{MAX_FILE}
 use Rattle.rinex_head.specs.declared.place.At.{At}
 use Rattle.rinex_head.specs.FirstFailing.{IsFirstFailing}
 use Rattle.job_answers.specs.declared.status.Status.{Status}
@@ -53,7 +54,7 @@ TextEnds job text_of name end = EndsByFile text_of name (EndsOnText job name) en
 pub record IsTextAdmitted (job : TextJob) (text_of : List ℕ → Option (List ℕ)) (name : List ℕ) : Type 0 where
   pub text : List ℕ
   pub told_is : text_of name ≡ Some text
-  pub fits : length text ≤ 67108864
+  pub fits : length text ≤ MAX_FILE
   pub file : job.IsFile text
 
 -- what a run of it with status 0 or 1 says: out has gained its answer on the file's text

@@ -1,10 +1,11 @@
 -- What a job does with its files, whatever the job.
-use Rattle.std.specs.Prelude.{◌≡◌, ◌⊎◌, ℕ, true, List, [], ◌∷◌, ◌++◌, None, IfSome, Result}
+use Rattle.std.specs.Prelude.{◌≡◌, ◌⊎◌, ◌≤◌, ℕ, true, List, [], ◌∷◌, ◌++◌, None, IfSome, Result}
 use Rattle.std.specs.List.{last_or}
 use Rattle.std.specs.declared.option.Option.{Option}
 use Rattle.line_source.specs.declared.Files.{Ghosts}
 use Rattle.line_source.specs.Causes.{Rose}
-use Rattle.line_source.specs.Openings.{names_of, Unread, unread, OpensFirst, IsReadToEnd}
+use Rattle.line_source.specs.Openings.{names_of, Unread, unread, OpensIt, OpensFirst, IsReadToEnd}
+use Rattle.line_source.specs.Reports.{Same, Stays}
 use Rattle.line_source.specs.Givens.{Given, names_given, GivesFirst, known_text, IsKnownFrom}
 use Rattle.job_answers.specs.declared.output.JobOutput.{JobOutput}
 use Rattle.job_answers.specs.declared.stop.JobStop.{JobStop}
@@ -47,6 +48,20 @@ file_work files before after = record {
   faults = files.faults before;
   faults_now = files.faults after;
 }
+
+-- What a call does that has one file: it opens this file alone, once at most, and reads no other; the count of faults doesn't fall, and
+-- the texts and the names that can't fail stay.
+pub record UsesFile {F : Type 0} (files : Ghosts F) (name : List ℕ) (before after : F) : Type 0 where
+  pub gives : GivesFirst (name ∷ []) (files.given before) (files.given after)
+  pub opened : OpensFirst (name ∷ []) (files.openings before) (files.openings after)
+  pub cause : files.faults before ≤ files.faults after
+  pub texts : Same (files.text_of before) (files.text_of after)
+  pub sure_names : Stays (files.is_sure_name before) (files.is_sure_name after)
+
+-- it opened the file, and read it to its end
+pub record ReadsWhole {F : Type 0} (files : Ghosts F) (name : List ℕ) (before after : F) : Type 0 where
+  pub opens : OpensIt name (files.openings before) (files.openings after)
+  pub whole : IsReadToEnd (files.text_of before) (unread (files.openings after) (files.unread after) (files.given after)) name
 
 -- exactly the files under these names were opened, in this order
 abbrev pub AreOpened : List (List ℕ) → List (List ℕ × ℕ) → List (List ℕ × ℕ) → Type 0

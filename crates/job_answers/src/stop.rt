@@ -1,15 +1,14 @@
 //! How a job stops, and the ends of all jobs whose file isn't read.
-ghost use Rattle.std.specs.Prelude.{◌≡◌, ◌≢◌, ◌⊎◌, ◌<◌, ◌≤◌, [], ◌∷◌, length, IfOk, IfSome, OnOk, IsErrOf, string_bytes};
+ghost use Rattle.std.specs.Prelude.{◌≡◌, ◌≢◌, ◌⊎◌, ◌<◌, [], length, IfOk, IfSome, OnOk, IsErrOf, string_bytes};
 ghost use Rattle.line_source.specs.Causes.{Rose};
-ghost use Rattle.line_source.specs.Openings.{OpensIt, OpensFirst, IsReadToEnd, unread};
-ghost use Rattle.line_source.specs.Reports.{Same, Stays};
-ghost use Rattle.line_source.specs.Givens.{GivesFirst, GivesWhole};
+ghost use Rattle.line_source.specs.Openings.{unread};
+ghost use Rattle.line_source.specs.Givens.{GivesWhole};
 ghost use Rattle.job_answers.specs.Statuses.{IsVerdictStatus};
 ghost use Rattle.job_answers.specs.declared.stop.JobStop.TheVariants.{NoMemory};
 ghost use Rattle.job_answers.specs.Texts.{refusal_line, too_large_line, read_fault_line, usage_line};
 ghost use Rattle.job_answers.specs.Endings.{ending, IsTextOf, EndsUnloaded, IsRefusalOf};
 ghost use Rattle.job_answers.specs.Answers.{ending_of, IfStopped};
-ghost use Rattle.job_answers.specs.Works.{ForAllKnown};
+ghost use Rattle.job_answers.specs.Works.{ForAllKnown, UsesFile, ReadsWhole};
 
 use crate::{JobOutput, Status};
 use line_source::{Files, LoadFault, load};
@@ -88,7 +87,8 @@ pub fn too_large(alloc: Global, name: &str) -> Result<JobOutput, AllocError>
 
 /// The end of a job whose file could not be read.
 pub fn read_fault(alloc: Global, name: &str) -> Result<JobOutput, AllocError>
-    ensures { IfOk result (λ a. ending_of a ≡ ending Status.ReadFault [] (read_fault_line name.now)) }
+    ensures { IfOk result (λ a.
+        ending_of a ≡ ending Status.ReadFault [] (read_fault_line name.now)) }
 {
     let err = format!(in alloc; "read fault: {name}\n")?;
     Ok(JobOutput::on_err(alloc, Status::ReadFault, err))
@@ -97,20 +97,22 @@ pub fn read_fault(alloc: Global, name: &str) -> Result<JobOutput, AllocError>
 /// The whole file of a job, which is opened once, or the job's end where it can't be had. It runs out of memory only at a
 /// file with some bytes, or at the line about a fault.
 pub fn load_file<F: Files>(alloc: Global, files: &mut F, name: &str) -> Result<Vec<u8>, JobStop>
-    ensures text { ForAllKnown F.Files files.old files.new (λ known. IfOk result (λ v. IsTextOf known name.now v.items)) }
-    ensures stopped { ForAllKnown F.Files files.old files.new (λ known. IfStopped result (λ end. EndsUnloaded known name.now end)) }
-    ensures gives { GivesFirst (name.now ∷ []) (F.given files.old) (F.given files.new) }
-    ensures given { IfOk result (λ v. GivesWhole name.now v.items (F.given files.old) (F.given files.new)) }
-    ensures whole { OnOk result (IsReadToEnd (F.text_of files.old) (unread (F.openings files.new) (F.unread files.new) (F.given files.new)) name.now) }
-    ensures refused { IfStopped result (IsRefusalOf (F.text_of files.old) (F.given files.old) (unread (F.openings files.new) (F.unread files.new) (F.given files.new)) name.now) }
-    ensures opened { OpensFirst (name.now ∷ []) (F.openings files.old) (F.openings files.new) }
-    ensures opens { OnOk result (OpensIt name.now (F.openings files.old) (F.openings files.new)) }
-    ensures cause { F.faults files.old ≤ F.faults files.new }
-    ensures memory { IfSome (F.text_of files.old name.now) (λ text. IsErrOf result JobStop.NoMemory → (0 < length text) ⊎ Rose (F.faults files.old) (F.faults files.new)) }
-    ensures fault { IfStopped result (λ end. end.status ≡ Status.ReadFault → Rose (F.faults files.old) (F.faults files.new)) }
-    ensures sure { F.is_sure_name files.old name.now → IfStopped result (λ end. end.status ≢ Status.ReadFault) }
-    ensures texts { Same (F.text_of files.old) (F.text_of files.new) }
-    ensures sure_names { Stays (F.is_sure_name files.old) (F.is_sure_name files.new) }
+    ensures text { ForAllKnown F.Files files.old files.new (λ known.
+        IfOk result (λ v. IsTextOf known name.now v.items)) }
+    ensures stopped { ForAllKnown F.Files files.old files.new (λ known.
+        IfStopped result (λ end. EndsUnloaded known name.now end)) }
+    ensures uses { UsesFile F.Files name.now files.old files.new }
+    ensures reads { OnOk result (ReadsWhole F.Files name.now files.old files.new) }
+    ensures given { IfOk result (λ v.
+        GivesWhole name.now v.items (F.given files.old) (F.given files.new)) }
+    ensures refused { IfStopped result (IsRefusalOf (F.text_of files.old) (F.given files.old)
+        (unread (F.openings files.new) (F.unread files.new) (F.given files.new)) name.now) }
+    ensures memory { IfSome (F.text_of files.old name.now) (λ text. IsErrOf result
+        JobStop.NoMemory → (0 < length text) ⊎ Rose (F.faults files.old) (F.faults files.new)) }
+    ensures fault { IfStopped result (λ end. end.status ≡ Status.ReadFault →
+        Rose (F.faults files.old) (F.faults files.new)) }
+    ensures sure { F.is_sure_name files.old name.now →
+        IfStopped result (λ end. end.status ≢ Status.ReadFault) }
 {
     match load(alloc, files, name) {
         Ok(text) => Ok(text),

@@ -1,5 +1,6 @@
 //! The commands on one file.
 ghost use Rattle.std.specs.Prelude.{◌≤◌, [], ◌∷◌, length, IfOk};
+ghost use Rattle.line_source.specs.declared.transfer.TheConstants.{MAX_FILE};
 ghost use Rattle.rinex_head.specs.LineRules.{IfRefused};
 ghost use Rattle.job_answers.specs.Answers.{ending_of, IfEnded};
 ghost use Rattle.job_answers.specs.Works.{known_between, file_work, NoLine, IsDoneOver};
@@ -17,7 +18,7 @@ pub trait TextCommand {
 
     /// A verdict on a text that it takes, or the place at which another one is refused.
     fn answer(&self, alloc: Global, text: &[u8]) -> Result<JobOutput, TextFault>
-        requires { length text.now ≤ 67108864 }
+        requires { length text.now ≤ MAX_FILE }
         ensures answered { IfOk result (λ a. IsAnswered (job self.now) text.now (ending_of a)) }
         ensures refused { IfRefused result (IsRefusedAt (job self.now) text.now) };
 }
@@ -29,7 +30,7 @@ fn answer_bytes<C: TextCommand>(
     name: &str,
     text: &[u8],
 ) -> Result<JobOutput, JobStop>
-    requires { length text.now ≤ 67108864 }
+    requires { length text.now ≤ MAX_FILE }
     ensures { IfEnded result (EndsOnText (C.job command.now) name.now text.now) }
 {
     match command.answer(alloc, text) {
@@ -47,7 +48,8 @@ pub fn answer_file<C: TextCommand, F: Files>(
     command: &C,
     name: &str,
 ) -> Result<JobOutput, JobStop>
-    ensures { IsDoneOver (file_work F.Files files.old files.new) (name.now ∷ []) NoLine (TextEnds (C.job command.now) (known_between F.Files files.old files.new) name.now) result }
+    ensures { IsDoneOver (file_work F.Files files.old files.new) (name.now ∷ []) NoLine
+        (TextEnds (C.job command.now) (known_between F.Files files.old files.new) name.now) result }
 {
     let text = load_file(alloc, files, name)?;
     answer_bytes(alloc, command, name, &text)

@@ -42,7 +42,8 @@ fn sine_of(angle: i64) -> Iv<60>
 // The same by the pair of the angle
 fn sine_at(point: &PointPair) -> Iv<60>
     requires angle { IsAngle point.now.angle }
-    ensures holds { (c s : Rational) → IsAnglePair 5 (of_scale 56 point.now.angle) c s → Holds result s }
+    ensures holds { (c s : Rational) → IsAnglePair 5 (of_scale 56 point.now.angle) c s →
+        Holds result s }
     ensures lo_size { unsigned_abs result.lo ≤ 2 ^ 61 }
     ensures hi_size { unsigned_abs result.hi ≤ 2 ^ 61 }
 {
@@ -303,8 +304,8 @@ pub fn anomaly_box(m: &Iv<56>, e: &Iv<60>) -> Anomaly
         SolvesKepler mean eccentricity angle c s → HoldsAnomaly result angle c s }
 
     // Every pair of every angle in the box, a solution or not
-    ensures pairs { (angle c s : Rational) →
-        Holds result.angle angle → IsAnglePair 5 angle c s → Holds result.cos c × Holds result.sin s }
+    ensures pairs { (angle c s : Rational) → Holds result.angle angle → IsAnglePair 5 angle c s →
+        Holds result.cos c × Holds result.sin s }
 
     // A solution whose mean anomaly is only within d of the box m
     ensures near { (d mean eccentricity angle c s : Rational) →

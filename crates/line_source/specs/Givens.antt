@@ -2,6 +2,7 @@
 use Rattle.std.specs.Prelude.{◌≡◌, ◌⊎◌, ℕ, ◌<◌, ◌==◌, nat_lt, Bool, true, false, if◌then◌else◌, List, [], ◌∷◌, ◌++◌, length, take, drop, map, None, Some}
 use Rattle.std.specs.declared.option.Option.{Option}
 use Rattle.std.specs.Str.{bytes_eq}
+use Rattle.line_source.specs.declared.transfer.TheConstants.{MAX_FILE}
 
 -- A file that was opened: its name, the id that was answered, the bytes that its reads gave so far, and whether the last of them
 -- gave none into a piece with room, which means the end of the file.
@@ -52,7 +53,7 @@ pub record GivesTooMany (name : List ℕ) (before now : List Given) : Type 0 whe
   pub bytes : List ℕ
   pub ended : Bool
   pub now_is : now ≡ before ++ given_of name id bytes ended ∷ []
-  pub many : 67108864 < length bytes
+  pub many : MAX_FILE < length bytes
 
 -- the file that was opened last is the one under this name, and its last read met the end
 pub record WasReadToEnd (given : List Given) (name : List ℕ) : Type 0 where

@@ -41,7 +41,8 @@ impl GivenLog {
 
     /// This was read then.
     pub fn gave(&self, _reading: &Reading<'_>) -> GivenLog
-        ensures { result.all ≡ after_reading _reading.now.id.0 (take _reading.now.count _reading.now.into.now) (length _reading.now.into.now) self.now.all }
+        ensures { result.all ≡ after_reading _reading.now.id.0 (take _reading.now.count
+            _reading.now.into.now) (length _reading.now.into.now) self.now.all }
     {
         GivenLog {}
     }

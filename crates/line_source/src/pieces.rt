@@ -22,10 +22,11 @@ pub trait Taker {
 
     /// Takes the next piece. Where it stood for a text, it stands for that text followed by the piece then.
     fn take(&mut self, piece: &[u8]) -> Result<(), AllocError>
-        requires { taken self.old + length piece.now ≤ 67108864 }
+        requires { taken self.old + length piece.now ≤ MAX_FILE }
         ensures refused { OnErr result (is_refused self.new) }
         ensures counted { OnOk result (taken self.new ≡ taken self.old + length piece.now) }
-        ensures stands { OnOk result ((text : List ℕ) → stands_for self.old text → stands_for self.new (text ++ piece.now)) };
+        ensures stands { OnOk result ((text : List ℕ) → stands_for self.old text →
+            stands_for self.new (text ++ piece.now)) };
 }
 
 /// The most bytes of one piece.
@@ -44,17 +45,23 @@ pub fn load_into<F: Files, T: Taker>(
 ) -> Result<(), LoadFault>
     requires none_taken { T.taken taker.old ≡ 0 }
     requires stands_for_none { T.stands_for taker.old [] }
-    ensures whole { OnOk result (IsTakenWhole (F.text_of files.old name.now) name.now (F.given files.old) (F.given files.new) (T.taken taker.new) (T.stands_for taker.new)) }
-    ensures big { IfSome (F.text_of files.old name.now) (λ text. IsErrOf result LoadFault.BigFile → MAX_FILE < length text) }
+    ensures whole { OnOk result (IsTakenWhole (F.text_of files.old name.now) name.now
+        (F.given files.old) (F.given files.new) (T.taken taker.new) (T.stands_for taker.new)) }
+    ensures big { IfSome (F.text_of files.old name.now) (λ text. IsErrOf result LoadFault.BigFile →
+        MAX_FILE < length text) }
     ensures big_taken { IsErrOf result LoadFault.BigFile → T.taken taker.new ≤ MAX_FILE }
     ensures opened { OpensFirst (name.now ∷ []) (F.openings files.old) (F.openings files.new) }
-    ensures opens { result ≢ Err LoadFault.ReadFault → OpensIt name.now (F.openings files.old) (F.openings files.new) }
+    ensures opens { result ≢ Err LoadFault.ReadFault →
+        OpensIt name.now (F.openings files.old) (F.openings files.new) }
     ensures gives { GivesFirst (name.now ∷ []) (F.given files.old) (F.given files.new) }
-    ensures given_big { IsErrOf result LoadFault.BigFile → GivesTooMany name.now (F.given files.old) (F.given files.new) }
-    ensures ended { OnOk result (IsReadToEnd (F.text_of files.old) (unread (F.openings files.new) (F.unread files.new) (F.given files.new)) name.now) }
+    ensures given_big { IsErrOf result LoadFault.BigFile →
+        GivesTooMany name.now (F.given files.old) (F.given files.new) }
+    ensures ended { OnOk result (IsReadToEnd (F.text_of files.old)
+        (unread (F.openings files.new) (F.unread files.new) (F.given files.new)) name.now) }
     ensures memory { IsErrOf result LoadFault.NoMemory → T.is_refused taker.new }
     ensures cause { F.faults files.old ≤ F.faults files.new }
-    ensures fault { IsErrOf result LoadFault.ReadFault → Rose (F.faults files.old) (F.faults files.new) }
+    ensures fault { IsErrOf result LoadFault.ReadFault →
+        Rose (F.faults files.old) (F.faults files.new) }
     ensures sure { F.is_sure_name files.old name.now → result ≢ Err LoadFault.ReadFault }
     ensures texts { Same (F.text_of files.old) (F.text_of files.new) }
     ensures sure_names { Stays (F.is_sure_name files.old) (F.is_sure_name files.new) }

@@ -23,10 +23,13 @@ use normal_sum::Normal;
 /// times the value of the form at the integers.
 pub fn lower(normal: &Normal) -> Result<Form, LowerFault>
     ensures lower { IfOk result (λ f. IsLowerOf normal.now f) }
-    ensures halves { IfOk result (λ f. (r : FrontForm) × (IsFrontOf normal.now r × IsFinishOf r f)) }
+    ensures halves { IfOk result (λ f. (r : FrontForm)
+        × (IsFrontOf normal.now r × IsFinishOf r f)) }
     ensures few { IfOk result (λ f. f.h ≤ 77) }
-    ensures refused { IfErr result (λ e. (h : ℕ) → IsExponent h (form_of normal.now) → IsReportedAs e (elimination_of h normal.now)) }
-    ensures bound { IfOk result (λ f. (arcs : List Arc) (ss : List ℕ) (pairs : List PairRows) → IsNormalOf arcs ss pairs normal.now → BoundsAllData arcs ss pairs f.h (columns_of f)) }
+    ensures refused { IfErr result (λ e. (h : ℕ) → IsExponent h (form_of normal.now) →
+        IsReportedAs e (elimination_of h normal.now)) }
+    ensures bound { IfOk result (λ f. (arcs : List Arc) (ss : List ℕ) (pairs : List PairRows) →
+        IsNormalOf arcs ss pairs normal.now → BoundsAllData arcs ss pairs f.h (columns_of f)) }
 {
     let first = front(normal)?;
     finish(&first)

@@ -34,13 +34,20 @@ pub(crate) fn take_front(
     kept: &mut [i64; MOST_FACTORS],
 ) -> Result<(), Stopped>
     requires few { h ≤ 76 }
-    ensures taken { OnOk result (front_of h normal.now ≡ Ok (stored kept.new factors.new normal.now.columns 0 3, form_from (entry table.new) 3 (normal.now.columns - 3))) }
-    ensures outside { (r i : ℕ) → (3 ≤ i) ⊎ ((r ≤ i) ⊎ (normal.now.columns ≤ r)) → entry factors.new r i ≡ entry factors.old r i }
+    ensures taken { OnOk result
+        (front_of h normal.now ≡ Ok (
+          stored kept.new factors.new normal.now.columns 0 3,
+          form_from (entry table.new) 3 (normal.now.columns - 3),
+        )) }
+    ensures outside { (r i : ℕ) → (3 ≤ i) ⊎ ((r ≤ i) ⊎ (normal.now.columns ≤ r)) →
+        entry factors.new r i ≡ entry factors.old r i }
     ensures column { IfErr result (λ e. e.column < MOST_COLUMNS) }
     ensures pivot { IfErr result (λ e. unsigned_abs e.pivot ≤ 2 ^ 52) }
-    ensures refused { IfErr result (λ e. front_of h normal.now ≡ Err (refusal_of e.column e.pivot e.stop)) }
+    ensures refused { IfErr result (λ e.
+        front_of h normal.now ≡ Err (refusal_of e.column e.pivot e.stop)) }
     ensures bound { OnOk result ((arcs : List Arc) (ss : List ℕ) (pairs : List PairRows) →
-        IsNormalOf arcs ss pairs normal.now → BoundsAllData arcs ss pairs h (form_from (entry table.new) 3 (normal.now.columns - 3))) }
+        IsNormalOf arcs ss pairs normal.now →
+        BoundsAllData arcs ss pairs h (form_from (entry table.new) 3 (normal.now.columns - 3))) }
 {
     if !round(normal, table, h) {
         return Err(Stopped {
@@ -61,11 +68,18 @@ pub(crate) fn lower_front(
 ) -> Result<u32, LowerFault>
     ensures exponent { IfOk result (λ h. IsExponent h (form_of normal.now)) }
     ensures few { IfOk result (λ h. h ≤ 77) }
-    ensures taken { IfOk result (λ h. front_of h normal.now ≡ Ok (stored kept.new factors.new normal.now.columns 0 3, form_from (entry table.new) 3 (normal.now.columns - 3))) }
-    ensures outside { (r i : ℕ) → (3 ≤ i) ⊎ ((r ≤ i) ⊎ (normal.now.columns ≤ r)) → entry factors.new r i ≡ entry factors.old r i }
-    ensures refused { IfErr result (λ e. (h : ℕ) → IsExponent h (form_of normal.now) → IsReportedAs e (front_of h normal.now)) }
+    ensures taken { IfOk result (λ h.
+        front_of h normal.now ≡ Ok (
+          stored kept.new factors.new normal.now.columns 0 3,
+          form_from (entry table.new) 3 (normal.now.columns - 3),
+        )) }
+    ensures outside { (r i : ℕ) → (3 ≤ i) ⊎ ((r ≤ i) ⊎ (normal.now.columns ≤ r)) →
+        entry factors.new r i ≡ entry factors.old r i }
+    ensures refused { IfErr result (λ e. (h : ℕ) → IsExponent h (form_of normal.now) →
+        IsReportedAs e (front_of h normal.now)) }
     ensures bound { IfOk result (λ h. (arcs : List Arc) (ss : List ℕ) (pairs : List PairRows) →
-        IsNormalOf arcs ss pairs normal.now → BoundsAllData arcs ss pairs h (form_from (entry table.new) 3 (normal.now.columns - 3))) }
+        IsNormalOf arcs ss pairs normal.now →
+        BoundsAllData arcs ss pairs h (form_from (entry table.new) 3 (normal.now.columns - 3))) }
 {
     let h = exponent(normal);
     match take_front(normal, h, table, factors, kept) {
@@ -82,9 +96,11 @@ pub(crate) fn lower_front(
 pub fn front(normal: &Normal) -> Result<FrontForm, LowerFault>
     ensures front { IfOk result (λ r. IsFrontOf normal.now r) }
     ensures few { IfOk result (λ r. r.h ≤ 77) }
-    ensures refused { IfErr result (λ e. (h : ℕ) → IsExponent h (form_of normal.now) → IsReportedAs e (front_of h normal.now)) }
+    ensures refused { IfErr result (λ e. (h : ℕ) → IsExponent h (form_of normal.now) →
+        IsReportedAs e (front_of h normal.now)) }
     ensures bound { IfOk result (λ r. (arcs : List Arc) (ss : List ℕ) (pairs : List PairRows) →
-        IsNormalOf arcs ss pairs normal.now → BoundsAllData arcs ss pairs r.h (form_of_table r.p (r.columns - 3))) }
+        IsNormalOf arcs ss pairs normal.now →
+        BoundsAllData arcs ss pairs r.h (form_of_table r.p (r.columns - 3))) }
 {
     let mut table = NormalTable::zeros();
     let mut factors = FactorTable::zeros();
@@ -133,7 +149,8 @@ fn refill_by_columns(
     requires columns { front.old.columns ≡ normal.now.columns }
     ensures front { OnOk result (IsFrontOf normal.now front.new) }
     ensures few { OnOk result (front.new.h ≤ 77) }
-    ensures refused { IfErr result (λ e. (h : ℕ) → IsExponent h (form_of normal.now) → IsReportedAs e (front_of h normal.now)) }
+    ensures refused { IfErr result (λ e. (h : ℕ) → IsExponent h (form_of normal.now) →
+        IsReportedAs e (front_of h normal.now)) }
     ensures clean { IsClean normal.now.columns room.new }
     ensures columns { front.new.columns ≡ normal.now.columns }
 {
@@ -158,12 +175,13 @@ pub fn refill_front(
     requires columns { front.old.columns ≡ normal.now.columns }
     ensures front { OnOk result (IsFrontOf normal.now front.new) }
     ensures few { OnOk result (front.new.h ≤ 77) }
-    ensures refused { IfErr result (λ e. (h : ℕ) → IsExponent h (form_of normal.now) → IsReportedAs e (front_of h normal.now)) }
+    ensures refused { IfErr result (λ e. (h : ℕ) → IsExponent h (form_of normal.now) →
+        IsReportedAs e (front_of h normal.now)) }
     ensures clean { IsClean normal.now.columns room.new }
     ensures columns { front.new.columns ≡ normal.now.columns }
 {
     let h = exponent(normal);
-    if front_by_rows(normal, h, &mut front.d, &mut front.l, &mut front.p) {
+    if front_by_rows(normal, h, front) {
         front.h = h;
         return Ok(());
     }

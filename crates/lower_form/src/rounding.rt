@@ -19,7 +19,8 @@ pub(crate) fn greatest_own(table: &NormalTable, columns: usize) -> i128
     requires columns_in { columns ≤ MOST_COLUMNS }
     requires entries { (i : ℕ) → i < columns → unsigned_abs (entry table.now i i) < 2 ^ 120 }
     ensures above { (i : ℕ) → i < columns → (pos 63 *ℤ entry table.now i i) ≤ℤ result }
-    ensures attained { (k : ℤ) → pos 0 <ℤ k → ((i : ℕ) → i < columns → (pos 63 *ℤ entry table.now i i) <ℤ k) → result <ℤ k }
+    ensures attained { (k : ℤ) → pos 0 <ℤ k →
+        ((i : ℕ) → i < columns → (pos 63 *ℤ entry table.now i i) <ℤ k) → result <ℤ k }
     ensures from { pos 0 ≤ℤ result }
     ensures to { result <ℤ pos (2 ^ 126) }
 {
@@ -60,9 +61,12 @@ pub fn exponent(normal: &Normal) -> u32
 fn round_row(normal: &Normal, table: &mut NormalTable, h: u32, r: usize) -> bool
     requires few { h ≤ 76 }
     requires row_in { r < normal.now.columns }
-    ensures value { result ≡ true → (c : ℕ) → r ≤ c → c < normal.now.columns → entry table.new r c ≡ first_entry_of normal.now h r c }
-    ensures small { result ≡ true → (c : ℕ) → r ≤ c → c < normal.now.columns → is_small (first_entry_of normal.now h r c) ≡ true }
-    ensures refused { result ≡ false → (c : ℕ) × ((r ≤ c) × (c < normal.now.columns) × (is_small (first_entry_of normal.now h r c) ≡ false)) }
+    ensures value { result ≡ true → (c : ℕ) → r ≤ c → c < normal.now.columns →
+        entry table.new r c ≡ first_entry_of normal.now h r c }
+    ensures small { result ≡ true → (c : ℕ) → r ≤ c → c < normal.now.columns →
+        is_small (first_entry_of normal.now h r c) ≡ true }
+    ensures refused { result ≡ false → (c : ℕ) × ((r ≤ c) × (c < normal.now.columns)
+        × (is_small (first_entry_of normal.now h r c) ≡ false)) }
     ensures others { (i c : ℕ) → i ≢ r → entry table.new i c ≡ entry table.old i c }
 {
     for c in r..normal.columns {
@@ -79,10 +83,12 @@ fn round_row(normal: &Normal, table: &mut NormalTable, h: u32, r: usize) -> bool
 /// 2^52 or more in size.
 pub(crate) fn round(normal: &Normal, table: &mut NormalTable, h: u32) -> bool
     requires few { h ≤ 76 }
-    ensures rounded { result ≡ true → form_from (entry table.new) 0 normal.now.columns ≡ first_form h normal.now }
+    ensures rounded { result ≡ true →
+        form_from (entry table.new) 0 normal.now.columns ≡ first_form h normal.now }
     ensures small { result ≡ true → form_small (first_form h normal.now) ≡ true }
     ensures refused { result ≡ false → form_small (first_form h normal.now) ≡ false }
-    ensures entries { result ≡ true → (r c : ℕ) → r ≤ c → c < normal.now.columns → unsigned_abs (entry table.new r c) ≤ 2 ^ 52 }
+    ensures entries { result ≡ true → (r c : ℕ) → r ≤ c → c < normal.now.columns →
+        unsigned_abs (entry table.new r c) ≤ 2 ^ 52 }
 {
     for r in 0..normal.columns {
         if !round_row(normal, table, h, r) {

@@ -43,11 +43,12 @@ pub(crate) fn put_coefficients(
     requires signal { signal < SIGNALS }
     requires place { IfSome place (λ i. i < integers) }
     requires few { integers ≤ MOST_INTEGERS }
-    ensures entries { (arcs : List Arc) (ss : List ℕ) → place ≡ integer_place arcs ss row.now.arc signal → integers ≡ integer_count arcs ss →
-        (j : ℕ) → slice_index_or values.new j (pos 0) ≡ coefficient (signal_row arcs ss signal row.now) j }
+    ensures entries { (arcs : List Arc) (ss : List ℕ) → place
+        ≡ integer_place arcs ss row.now.arc signal → integers ≡ integer_count arcs ss → (j : ℕ) →
+        slice_index_or values.new j (pos 0) ≡ coefficient (signal_row arcs ss signal row.now) j }
     ensures size { (j : ℕ) → unsigned_abs (slice_index_or values.new j (pos 0)) ≤ 2 ^ 34 }
-    ensures others { (j : ℕ) → BASELINE_COLUMNS ≤ j → j ≢ BASELINE_COLUMNS + integers → IfSome place (λ i. j ≢ BASELINE_COLUMNS + i) →
-        slice_index_or values.new j (pos 0) ≡ pos 0 }
+    ensures others { (j : ℕ) → BASELINE_COLUMNS ≤ j → j ≢ BASELINE_COLUMNS + integers →
+        IfSome place (λ i. j ≢ BASELINE_COLUMNS + i) → slice_index_or values.new j (pos 0) ≡ pos 0 }
 {
     values[0] = -row.u[0];
     values[1] = -row.u[1];
@@ -64,8 +65,8 @@ pub(crate) fn clear_coefficients(
 )
     requires place { IfSome place (λ i. i < integers) }
     requires few { integers ≤ MOST_INTEGERS }
-    requires others { (j : ℕ) → BASELINE_COLUMNS ≤ j → j ≢ BASELINE_COLUMNS + integers → IfSome place (λ i. j ≢ BASELINE_COLUMNS + i) →
-        slice_index_or values.old j (pos 0) ≡ pos 0 }
+    requires others { (j : ℕ) → BASELINE_COLUMNS ≤ j → j ≢ BASELINE_COLUMNS + integers →
+        IfSome place (λ i. j ≢ BASELINE_COLUMNS + i) → slice_index_or values.old j (pos 0) ≡ pos 0 }
     ensures zeros { values.new ≡ replicate MOST_COLUMNS (pos 0) }
 {
     values[0] = 0;

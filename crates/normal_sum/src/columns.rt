@@ -13,7 +13,8 @@ pub(crate) fn used_columns(
     integers: usize,
 ) -> ArrayVec<usize, MOST_COLUMNS>
     requires few { integers ≤ MOST_INTEGERS }
-    requires beyond { (j : ℕ) → BASELINE_COLUMNS + integers < j → j < MOST_COLUMNS → slice_index_or values.now j (pos 0) ≡ pos 0 }
+    requires beyond { (j : ℕ) → BASELINE_COLUMNS + integers < j → j < MOST_COLUMNS →
+        slice_index_or values.now j (pos 0) ≡ pos 0 }
     ensures { AreColumnsOf values.now result.items }
 {
     let mut used = ArrayVec::new();
@@ -45,9 +46,12 @@ pub(crate) fn add_values(
     columns: &[usize],
 )
     requires columns { AreColumnsOf values.now columns.now }
-    requires total_size { (j : ℕ) → j < MOST_COLUMNS → unsigned_abs (slice_index_or total.old j (pos 0)) ≤ 2 ^ 40 }
-    requires value_size { (j : ℕ) → j < MOST_COLUMNS → unsigned_abs (slice_index_or values.now j (pos 0)) ≤ 2 ^ 40 }
-    ensures { (j : ℕ) → j < MOST_COLUMNS → slice_index_or total.new j (pos 0) ≡ slice_index_or total.old j (pos 0) +ℤ slice_index_or values.now j (pos 0) }
+    requires total_size { (j : ℕ) → j < MOST_COLUMNS →
+        unsigned_abs (slice_index_or total.old j (pos 0)) ≤ 2 ^ 40 }
+    requires value_size { (j : ℕ) → j < MOST_COLUMNS →
+        unsigned_abs (slice_index_or values.now j (pos 0)) ≤ 2 ^ 40 }
+    ensures { (j : ℕ) → j < MOST_COLUMNS → slice_index_or total.new j (pos 0)
+        ≡ slice_index_or total.old j (pos 0) +ℤ slice_index_or values.now j (pos 0) }
 {
     for column in columns {
         total[*column] = plus(total[*column], values[*column]);

@@ -71,8 +71,10 @@ fn direction_spread(
     second: usize,
 ) -> i64
     requires few_rows { length rows.now ≤ MOST_ROWS }
-    requires sums { (i : ℕ) → i < BASELINE_COLUMNS → slice_index_or sums.now i (pos 0) ≡ direction_sum rows.now i }
-    requires sum_size { (i : ℕ) → i < BASELINE_COLUMNS → unsigned_abs (slice_index_or sums.now i (pos 0)) ≤ 2 ^ 28 }
+    requires sums { (i : ℕ) → i < BASELINE_COLUMNS →
+        slice_index_or sums.now i (pos 0) ≡ direction_sum rows.now i }
+    requires sum_size { (i : ℕ) → i < BASELINE_COLUMNS →
+        unsigned_abs (slice_index_or sums.now i (pos 0)) ≤ 2 ^ 28 }
     requires first { first < BASELINE_COLUMNS }
     requires second { second < BASELINE_COLUMNS }
     ensures value { result ≡ direction_spread rows.now first second }
@@ -91,13 +93,18 @@ fn add_axis(
     share: i64,
 )
     requires few_rows { length rows.now ≤ MOST_ROWS }
-    requires sums { (i : ℕ) → i < BASELINE_COLUMNS → slice_index_or sums.now i (pos 0) ≡ direction_sum rows.now i }
-    requires sum_size { (i : ℕ) → i < BASELINE_COLUMNS → unsigned_abs (slice_index_or sums.now i (pos 0)) ≤ 2 ^ 28 }
+    requires sums { (i : ℕ) → i < BASELINE_COLUMNS →
+        slice_index_or sums.now i (pos 0) ≡ direction_sum rows.now i }
+    requires sum_size { (i : ℕ) → i < BASELINE_COLUMNS →
+        unsigned_abs (slice_index_or sums.now i (pos 0)) ≤ 2 ^ 28 }
     requires axis { axis < BASELINE_COLUMNS }
     requires share_size { unsigned_abs share ≤ 2 ^ 38 }
-    requires entry_size { (j : ℕ) → axis ≤ j → j < BASELINE_COLUMNS → unsigned_abs (entry table.old axis j) ≤ 2 ^ 120 }
-    ensures added { (j : ℕ) → axis ≤ j → j < BASELINE_COLUMNS → entry table.new axis j ≡ entry table.old axis j +ℤ (direction_spread rows.now axis j *ℤ share) }
-    ensures size { (j : ℕ) → axis ≤ j → j < BASELINE_COLUMNS → unsigned_abs (entry table.new axis j) ≤ unsigned_abs (entry table.old axis j) + 2 ^ 95 }
+    requires entry_size { (j : ℕ) → axis ≤ j → j < BASELINE_COLUMNS →
+        unsigned_abs (entry table.old axis j) ≤ 2 ^ 120 }
+    ensures added { (j : ℕ) → axis ≤ j → j < BASELINE_COLUMNS → entry table.new axis j
+        ≡ entry table.old axis j +ℤ (direction_spread rows.now axis j *ℤ share) }
+    ensures size { (j : ℕ) → axis ≤ j → j < BASELINE_COLUMNS →
+        unsigned_abs (entry table.new axis j) ≤ unsigned_abs (entry table.old axis j) + 2 ^ 95 }
     ensures behind { (i j : ℕ) → BASELINE_COLUMNS ≤ j → entry table.new i j ≡ entry table.old i j }
     ensures below { (i j : ℕ) → j < i → entry table.new i j ≡ entry table.old i j }
     ensures others { (i j : ℕ) → i ≢ axis → entry table.new i j ≡ entry table.old i j }
@@ -112,9 +119,12 @@ fn add_axis(
 pub(crate) fn add_directions(table: &mut NormalTable, rows: &[Row], share: i64)
     requires few_rows { length rows.now ≤ MOST_ROWS }
     requires share_size { unsigned_abs share ≤ 2 ^ 38 }
-    requires entry_size { (i j : ℕ) → i ≤ j → j < BASELINE_COLUMNS → unsigned_abs (entry table.old i j) ≤ 2 ^ 120 }
-    ensures added { (i j : ℕ) → i ≤ j → j < BASELINE_COLUMNS → entry table.new i j ≡ entry table.old i j +ℤ (direction_spread rows.now i j *ℤ share) }
-    ensures size { (i j : ℕ) → i ≤ j → j < BASELINE_COLUMNS → unsigned_abs (entry table.new i j) ≤ unsigned_abs (entry table.old i j) + 2 ^ 95 }
+    requires entry_size { (i j : ℕ) → i ≤ j → j < BASELINE_COLUMNS →
+        unsigned_abs (entry table.old i j) ≤ 2 ^ 120 }
+    ensures added { (i j : ℕ) → i ≤ j → j < BASELINE_COLUMNS →
+        entry table.new i j ≡ entry table.old i j +ℤ (direction_spread rows.now i j *ℤ share) }
+    ensures size { (i j : ℕ) → i ≤ j → j < BASELINE_COLUMNS →
+        unsigned_abs (entry table.new i j) ≤ unsigned_abs (entry table.old i j) + 2 ^ 95 }
     ensures behind { (i j : ℕ) → BASELINE_COLUMNS ≤ j → entry table.new i j ≡ entry table.old i j }
     ensures below { (i j : ℕ) → j < i → entry table.new i j ≡ entry table.old i j }
 {

@@ -34,7 +34,8 @@ pub(crate) fn clear_row(table: &mut NormalTable, row: usize, from: usize, to: us
 /// Gives the entries below the diagonal those above it. After the first columns both are 0.
 pub(crate) fn mirror(table: &mut NormalTable, columns: usize)
     requires columns_in { columns ≤ MOST_COLUMNS }
-    requires outside { (i j : ℕ) → i < j → columns ≤ j → j < MOST_COLUMNS → entry table.old i j ≡ pos 0 }
+    requires outside { (i j : ℕ) → i < j → columns ≤ j → j < MOST_COLUMNS →
+        entry table.old i j ≡ pos 0 }
     requires below { (i j : ℕ) → j < i → columns ≤ i → entry table.old i j ≡ pos 0 }
     ensures { IsMirrored table.old table.new }
 {

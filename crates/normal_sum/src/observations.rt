@@ -131,10 +131,15 @@ fn add_axis(
     requires few { integers ≤ MOST_INTEGERS }
     requires sum { sum ≡ observation_sum rows.now signal }
     requires sum_size { unsigned_abs sum ≤ length rows.now * 2 ^ 34 }
-    requires entry_size { unsigned_abs (entry table.old axis (BASELINE_COLUMNS + integers)) ≤ 2 ^ 120 }
-    ensures there { entry table.new axis (BASELINE_COLUMNS + integers) ≡ entry table.old axis (BASELINE_COLUMNS + integers) -ℤ (share (length rows.now) signal *ℤ axis_spread rows.now axis signal) }
-    ensures size { unsigned_abs (entry table.new axis (BASELINE_COLUMNS + integers)) ≤ unsigned_abs (entry table.old axis (BASELINE_COLUMNS + integers)) + 2 ^ 105 }
-    ensures others { (i j : ℕ) → (i ≢ axis) ⊎ (j ≢ BASELINE_COLUMNS + integers) → entry table.new i j ≡ entry table.old i j }
+    requires entry_size { unsigned_abs (entry table.old axis (BASELINE_COLUMNS + integers))
+        ≤ 2 ^ 120 }
+    ensures there { entry table.new axis (BASELINE_COLUMNS + integers)
+        ≡ entry table.old axis (BASELINE_COLUMNS + integers)
+        -ℤ (share (length rows.now) signal *ℤ axis_spread rows.now axis signal) }
+    ensures size { unsigned_abs (entry table.new axis (BASELINE_COLUMNS + integers))
+        ≤ unsigned_abs (entry table.old axis (BASELINE_COLUMNS + integers)) + 2 ^ 105 }
+    ensures others { (i j : ℕ) → (i ≢ axis) ⊎ (j ≢ BASELINE_COLUMNS + integers) →
+        entry table.new i j ≡ entry table.old i j }
 {
     let spread = axis_spread(rows, axis, signal, sum);
     let share = turned_share(rows.len(), signal);
@@ -149,10 +154,16 @@ fn add_square(table: &mut NormalTable, rows: &[Row], signal: usize, integers: us
     requires few { integers ≤ MOST_INTEGERS }
     requires sum { sum ≡ observation_sum rows.now signal }
     requires sum_size { unsigned_abs sum ≤ length rows.now * 2 ^ 34 }
-    requires entry_size { unsigned_abs (entry table.old (BASELINE_COLUMNS + integers) (BASELINE_COLUMNS + integers)) ≤ 2 ^ 120 }
-    ensures there { entry table.new (BASELINE_COLUMNS + integers) (BASELINE_COLUMNS + integers) ≡ entry table.old (BASELINE_COLUMNS + integers) (BASELINE_COLUMNS + integers) +ℤ (share (length rows.now) signal *ℤ observation_spread rows.now signal) }
-    ensures size { unsigned_abs (entry table.new (BASELINE_COLUMNS + integers) (BASELINE_COLUMNS + integers)) ≤ unsigned_abs (entry table.old (BASELINE_COLUMNS + integers) (BASELINE_COLUMNS + integers)) + 2 ^ 105 }
-    ensures others { (i j : ℕ) → (i ≢ BASELINE_COLUMNS + integers) ⊎ (j ≢ BASELINE_COLUMNS + integers) → entry table.new i j ≡ entry table.old i j }
+    requires entry_size { unsigned_abs (entry table.old
+        (BASELINE_COLUMNS + integers) (BASELINE_COLUMNS + integers)) ≤ 2 ^ 120 }
+    ensures there { entry table.new (BASELINE_COLUMNS + integers) (BASELINE_COLUMNS + integers)
+        ≡ entry table.old (BASELINE_COLUMNS + integers) (BASELINE_COLUMNS + integers)
+        +ℤ (share (length rows.now) signal *ℤ observation_spread rows.now signal) }
+    ensures size { unsigned_abs (entry table.new
+        (BASELINE_COLUMNS + integers) (BASELINE_COLUMNS + integers)) ≤ unsigned_abs (entry table.old
+        (BASELINE_COLUMNS + integers) (BASELINE_COLUMNS + integers)) + 2 ^ 105 }
+    ensures others { (i j : ℕ) → (i ≢ BASELINE_COLUMNS + integers)
+        ⊎ (j ≢ BASELINE_COLUMNS + integers) → entry table.new i j ≡ entry table.old i j }
 {
     let spread = turned_spread(rows, signal, sum);
     let share = turned_share(rows.len(), signal);
@@ -171,12 +182,20 @@ pub(crate) fn add_observations(
     requires few_rows { length rows.now ≤ MOST_ROWS }
     requires signal { signal < SIGNALS }
     requires few { integers ≤ MOST_INTEGERS }
-    requires axis_size { (i : ℕ) → i < BASELINE_COLUMNS → unsigned_abs (entry table.old i (BASELINE_COLUMNS + integers)) ≤ 2 ^ 120 }
-    requires square_size { unsigned_abs (entry table.old (BASELINE_COLUMNS + integers) (BASELINE_COLUMNS + integers)) ≤ 2 ^ 120 }
-    ensures axes { (i : ℕ) → i < BASELINE_COLUMNS → entry table.new i (BASELINE_COLUMNS + integers) ≡ entry table.old i (BASELINE_COLUMNS + integers) -ℤ (share (length rows.now) signal *ℤ axis_spread rows.now i signal) }
-    ensures square { entry table.new (BASELINE_COLUMNS + integers) (BASELINE_COLUMNS + integers) ≡ entry table.old (BASELINE_COLUMNS + integers) (BASELINE_COLUMNS + integers) +ℤ (share (length rows.now) signal *ℤ observation_spread rows.now signal) }
-    ensures size { (i j : ℕ) → unsigned_abs (entry table.new i j) ≤ unsigned_abs (entry table.old i j) + 2 ^ 105 }
-    ensures others { (i j : ℕ) → (j ≢ BASELINE_COLUMNS + integers) ⊎ ((BASELINE_COLUMNS ≤ i) × (i ≢ BASELINE_COLUMNS + integers)) → entry table.new i j ≡ entry table.old i j }
+    requires axis_size { (i : ℕ) → i < BASELINE_COLUMNS →
+        unsigned_abs (entry table.old i (BASELINE_COLUMNS + integers)) ≤ 2 ^ 120 }
+    requires square_size { unsigned_abs (entry table.old
+        (BASELINE_COLUMNS + integers) (BASELINE_COLUMNS + integers)) ≤ 2 ^ 120 }
+    ensures axes { (i : ℕ) → i < BASELINE_COLUMNS → entry table.new i (BASELINE_COLUMNS + integers)
+        ≡ entry table.old i (BASELINE_COLUMNS + integers)
+        -ℤ (share (length rows.now) signal *ℤ axis_spread rows.now i signal) }
+    ensures square { entry table.new (BASELINE_COLUMNS + integers) (BASELINE_COLUMNS + integers)
+        ≡ entry table.old (BASELINE_COLUMNS + integers) (BASELINE_COLUMNS + integers)
+        +ℤ (share (length rows.now) signal *ℤ observation_spread rows.now signal) }
+    ensures size { (i j : ℕ) →
+        unsigned_abs (entry table.new i j) ≤ unsigned_abs (entry table.old i j) + 2 ^ 105 }
+    ensures others { (i j : ℕ) → (j ≢ BASELINE_COLUMNS + integers) ⊎ ((BASELINE_COLUMNS ≤ i)
+        × (i ≢ BASELINE_COLUMNS + integers)) → entry table.new i j ≡ entry table.old i j }
 {
     let sum = observation_sum(rows, signal);
     for axis in 0..BASELINE_COLUMNS {

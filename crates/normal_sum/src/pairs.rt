@@ -32,9 +32,12 @@ pub(crate) fn add_pair(
     requires counted { AreCounted signals.now }
     requires integers { integers ≡ integer_count arcs.now signals.now }
     requires few { integers ≤ MOST_INTEGERS }
-    requires entry_size { (i j : ℕ) → i ≤ j → j < MOST_COLUMNS → unsigned_abs (entry table.old i j) ≤ LAST_PAIR * 2 ^ 108 }
-    ensures added { (i j : ℕ) → i ≤ j → j < MOST_COLUMNS → entry table.new i j ≡ entry table.old i j +ℤ matrix_entry (pair_groups arcs.now signals.now pair.now) i j }
-    ensures size { (i j : ℕ) → i ≤ j → j < MOST_COLUMNS → unsigned_abs (entry table.new i j) ≤ unsigned_abs (entry table.old i j) + 2 ^ 108 }
+    requires entry_size { (i j : ℕ) → i ≤ j → j < MOST_COLUMNS →
+        unsigned_abs (entry table.old i j) ≤ LAST_PAIR * 2 ^ 108 }
+    ensures added { (i j : ℕ) → i ≤ j → j < MOST_COLUMNS → entry table.new i j
+        ≡ entry table.old i j +ℤ matrix_entry (pair_groups arcs.now signals.now pair.now) i j }
+    ensures size { (i j : ℕ) → i ≤ j → j < MOST_COLUMNS →
+        unsigned_abs (entry table.new i j) ≤ unsigned_abs (entry table.old i j) + 2 ^ 108 }
     ensures below { (i j : ℕ) → j < i → entry table.new i j ≡ entry table.old i j }
 {
     let firsts = first_places(arcs, signals, pair.rows.as_slice());
@@ -66,7 +69,8 @@ fn total_share(rows: usize, signals: &[usize]) -> i64
 pub(crate) fn add_pair_radii(start: RadiusSums, signals: &[usize], pair: &PairRows) -> RadiusSums
     requires sums { IsAtMost (2 ^ 99) start }
     requires counted { AreCounted signals.now }
-    ensures value { (arcs : List Arc) → radii_of result ≡ add_radii (radii_of start) (radii (pair_groups arcs signals.now pair.now)) }
+    ensures value { (arcs : List Arc) → radii_of result
+        ≡ add_radii (radii_of start) (radii (pair_groups arcs signals.now pair.now)) }
     ensures size { (m : ℕ) → IsAtMost m start → IsAtMost (m + 2 ^ 79) result }
 {
     add_radii_of(start, pair.rows.as_slice(), total_share(1, signals))

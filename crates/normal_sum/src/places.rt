@@ -52,7 +52,8 @@ pub fn first_places(arcs: &[Arc], signals: &[usize], rows: &[Row]) -> [Option<us
     requires few_rows { length rows.now ≤ MOST_ROWS }
     requires free { free_count arcs.now ≤ MOST_FREE_ARCS }
     requires counted { AreCounted signals.now }
-    ensures value { (k : ℕ) (d : Row) → k < length rows.now → slice_index_or result k None ≡ first_place arcs.now (length (phases signals.now)) (slice_index_or rows.now k d).arc }
+    ensures value { (k : ℕ) (d : Row) → k < length rows.now → slice_index_or result k None
+        ≡ first_place arcs.now (length (phases signals.now)) (slice_index_or rows.now k d).arc }
     ensures none { (k : ℕ) → length rows.now ≤ k → slice_index_or result k None ≡ None }
     ensures few { (k : ℕ) → IfSome (slice_index_or result k None) (λ i. i ≤ MOST_INTEGERS) }
 {
@@ -85,7 +86,8 @@ pub fn places_of(
 ) -> [Option<usize>; MOST_ROWS]
     requires first { (k : ℕ) → IfSome (slice_index_or firsts.now k None) (λ i. i ≤ MOST_INTEGERS) }
     requires phase { IfSome phase (λ i. i < PHASES) }
-    ensures { (k : ℕ) → slice_index_or result k None ≡ place_from (slice_index_or firsts.now k None) phase }
+    ensures { (k : ℕ) →
+        slice_index_or result k None ≡ place_from (slice_index_or firsts.now k None) phase }
 {
     let mut places = [None; MOST_ROWS];
     for k in 0..MOST_ROWS {

@@ -63,7 +63,8 @@ pub(crate) fn add_to_entry(
     requires value_size { unsigned_abs value ≤ 2 ^ 38 }
     requires entry_size { unsigned_abs (entry table.old row column) ≤ 2 ^ 120 }
     ensures there { entry table.new row column ≡ entry table.old row column +ℤ (factor *ℤ value) }
-    ensures others { (i j : ℕ) → (i ≢ row) ⊎ (j ≢ column) → entry table.new i j ≡ entry table.old i j }
+    ensures others { (i j : ℕ) → (i ≢ row) ⊎ (j ≢ column) →
+        entry table.new i j ≡ entry table.old i j }
 {
     let sum = plus_times(table.at(row, column), factor, value);
     table.set(row, column, sum);
@@ -81,10 +82,15 @@ fn add_to_row(
     requires row_in { row < MOST_COLUMNS }
     requires columns { AreColumnsFrom row values.now columns.now }
     requires factor_size { unsigned_abs factor ≤ 2 ^ 77 }
-    requires value_size { (j : ℕ) → j < MOST_COLUMNS → unsigned_abs (slice_index_or values.now j (pos 0)) ≤ 2 ^ 38 }
-    requires entry_size { (j : ℕ) → row ≤ j → BASELINE_COLUMNS ≤ j → j < MOST_COLUMNS → unsigned_abs (entry table.old row j) ≤ 2 ^ 120 }
-    ensures added { (j : ℕ) → row ≤ j → BASELINE_COLUMNS ≤ j → j < MOST_COLUMNS → entry table.new row j ≡ entry table.old row j +ℤ (factor *ℤ slice_index_or values.now j (pos 0)) }
-    ensures before { (j : ℕ) → (j < row) ⊎ (j < BASELINE_COLUMNS) → entry table.new row j ≡ entry table.old row j }
+    requires value_size { (j : ℕ) → j < MOST_COLUMNS →
+        unsigned_abs (slice_index_or values.now j (pos 0)) ≤ 2 ^ 38 }
+    requires entry_size { (j : ℕ) → row ≤ j → BASELINE_COLUMNS ≤ j → j < MOST_COLUMNS →
+        unsigned_abs (entry table.old row j) ≤ 2 ^ 120 }
+    ensures added { (j : ℕ) → row ≤ j → BASELINE_COLUMNS ≤ j → j < MOST_COLUMNS →
+        entry table.new row j
+        ≡ entry table.old row j +ℤ (factor *ℤ slice_index_or values.now j (pos 0)) }
+    ensures before { (j : ℕ) → (j < row) ⊎ (j < BASELINE_COLUMNS) →
+        entry table.new row j ≡ entry table.old row j }
     ensures others { (i j : ℕ) → i ≢ row → entry table.new i j ≡ entry table.old i j }
 {
     for column in columns {
@@ -107,7 +113,8 @@ pub(crate) fn add_short_to_entry(
     requires value_size { unsigned_abs value ≤ 2 ^ 38 }
     requires entry_size { unsigned_abs (entry table.old row column) ≤ 2 ^ 120 }
     ensures there { entry table.new row column ≡ entry table.old row column +ℤ (factor *ℤ value) }
-    ensures others { (i j : ℕ) → (i ≢ row) ⊎ (j ≢ column) → entry table.new i j ≡ entry table.old i j }
+    ensures others { (i j : ℕ) → (i ≢ row) ⊎ (j ≢ column) →
+        entry table.new i j ≡ entry table.old i j }
 {
     let sum = plus_short(table.at(row, column), factor, value);
     table.set(row, column, sum);
@@ -125,10 +132,15 @@ fn add_short_to_row(
     requires row_in { row < MOST_COLUMNS }
     requires columns { AreColumnsFrom row values.now columns.now }
     requires factor_size { unsigned_abs factor ≤ 2 ^ 62 }
-    requires value_size { (j : ℕ) → j < MOST_COLUMNS → unsigned_abs (slice_index_or values.now j (pos 0)) ≤ 2 ^ 38 }
-    requires entry_size { (j : ℕ) → row ≤ j → BASELINE_COLUMNS ≤ j → j < MOST_COLUMNS → unsigned_abs (entry table.old row j) ≤ 2 ^ 120 }
-    ensures added { (j : ℕ) → row ≤ j → BASELINE_COLUMNS ≤ j → j < MOST_COLUMNS → entry table.new row j ≡ entry table.old row j +ℤ (factor *ℤ slice_index_or values.now j (pos 0)) }
-    ensures before { (j : ℕ) → (j < row) ⊎ (j < BASELINE_COLUMNS) → entry table.new row j ≡ entry table.old row j }
+    requires value_size { (j : ℕ) → j < MOST_COLUMNS →
+        unsigned_abs (slice_index_or values.now j (pos 0)) ≤ 2 ^ 38 }
+    requires entry_size { (j : ℕ) → row ≤ j → BASELINE_COLUMNS ≤ j → j < MOST_COLUMNS →
+        unsigned_abs (entry table.old row j) ≤ 2 ^ 120 }
+    ensures added { (j : ℕ) → row ≤ j → BASELINE_COLUMNS ≤ j → j < MOST_COLUMNS →
+        entry table.new row j
+        ≡ entry table.old row j +ℤ (factor *ℤ slice_index_or values.now j (pos 0)) }
+    ensures before { (j : ℕ) → (j < row) ⊎ (j < BASELINE_COLUMNS) →
+        entry table.new row j ≡ entry table.old row j }
     ensures others { (i j : ℕ) → i ≢ row → entry table.new i j ≡ entry table.old i j }
 {
     for column in columns {
@@ -148,10 +160,15 @@ fn add_product_row(
     requires row_in { row < MOST_COLUMNS }
     requires columns { AreColumnsFrom row values.now columns.now }
     requires weight_size { unsigned_abs weight ≤ 2 ^ 32 }
-    requires value_size { (j : ℕ) → j < MOST_COLUMNS → unsigned_abs (slice_index_or values.now j (pos 0)) ≤ 2 ^ 38 }
-    requires entry_size { (j : ℕ) → row ≤ j → BASELINE_COLUMNS ≤ j → j < MOST_COLUMNS → unsigned_abs (entry table.old row j) ≤ 2 ^ 120 }
-    ensures added { (j : ℕ) → row ≤ j → BASELINE_COLUMNS ≤ j → j < MOST_COLUMNS → entry table.new row j ≡ entry table.old row j +ℤ ((weight *ℤ slice_index_or values.now row (pos 0)) *ℤ slice_index_or values.now j (pos 0)) }
-    ensures before { (j : ℕ) → (j < row) ⊎ (j < BASELINE_COLUMNS) → entry table.new row j ≡ entry table.old row j }
+    requires value_size { (j : ℕ) → j < MOST_COLUMNS →
+        unsigned_abs (slice_index_or values.now j (pos 0)) ≤ 2 ^ 38 }
+    requires entry_size { (j : ℕ) → row ≤ j → BASELINE_COLUMNS ≤ j → j < MOST_COLUMNS →
+        unsigned_abs (entry table.old row j) ≤ 2 ^ 120 }
+    ensures added { (j : ℕ) → row ≤ j → BASELINE_COLUMNS ≤ j → j < MOST_COLUMNS →
+        entry table.new row j ≡ entry table.old row j +ℤ ((weight
+        *ℤ slice_index_or values.now row (pos 0)) *ℤ slice_index_or values.now j (pos 0)) }
+    ensures before { (j : ℕ) → (j < row) ⊎ (j < BASELINE_COLUMNS) →
+        entry table.new row j ≡ entry table.old row j }
     ensures others { (i j : ℕ) → i ≢ row → entry table.new i j ≡ entry table.old i j }
 {
     let value = values[row];
@@ -180,10 +197,15 @@ pub(crate) fn add_product(
 )
     requires columns { AreColumnsOf values.now columns.now }
     requires weight_size { unsigned_abs weight ≤ 2 ^ 32 }
-    requires value_size { (j : ℕ) → j < MOST_COLUMNS → unsigned_abs (slice_index_or values.now j (pos 0)) ≤ 2 ^ 38 }
-    requires entry_size { (i j : ℕ) → i ≤ j → BASELINE_COLUMNS ≤ j → j < MOST_COLUMNS → unsigned_abs (entry table.old i j) ≤ 2 ^ 120 }
-    ensures added { (i j : ℕ) → i ≤ j → BASELINE_COLUMNS ≤ j → j < MOST_COLUMNS → entry table.new i j ≡ entry table.old i j +ℤ ((weight *ℤ slice_index_or values.now i (pos 0)) *ℤ slice_index_or values.now j (pos 0)) }
-    ensures before { (i j : ℕ) → (j < i) ⊎ (j < BASELINE_COLUMNS) → entry table.new i j ≡ entry table.old i j }
+    requires value_size { (j : ℕ) → j < MOST_COLUMNS →
+        unsigned_abs (slice_index_or values.now j (pos 0)) ≤ 2 ^ 38 }
+    requires entry_size { (i j : ℕ) → i ≤ j → BASELINE_COLUMNS ≤ j → j < MOST_COLUMNS →
+        unsigned_abs (entry table.old i j) ≤ 2 ^ 120 }
+    ensures added { (i j : ℕ) → i ≤ j → BASELINE_COLUMNS ≤ j → j < MOST_COLUMNS →
+        entry table.new i j ≡ entry table.old i j +ℤ ((weight
+        *ℤ slice_index_or values.now i (pos 0)) *ℤ slice_index_or values.now j (pos 0)) }
+    ensures before { (i j : ℕ) → (j < i) ⊎ (j < BASELINE_COLUMNS) →
+        entry table.new i j ≡ entry table.old i j }
 {
     for k in 0..columns.len() {
         let later = k.max(BASELINE_COLUMNS);

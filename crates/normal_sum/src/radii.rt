@@ -79,7 +79,9 @@ pub(crate) fn add_radii_of(start: RadiusSums, rows: &[Row], weight: i64) -> Radi
     requires weight_from { pos 0 ≤ℤ weight }
     requires weight_to { weight ≤ℤ pos (2 ^ 35) }
     requires sums { IsAtMost (2 ^ 99) start }
-    ensures value { (w : ℤ) (arcs : List Arc) (ss : List ℕ) (s : ℕ) → weight ≡ pos 360360 *ℤ w → radii_of result ≡ add_radii (radii_of start) (row_radii w (map (signal_row arcs ss s) rows.now)) }
+    ensures value { (w : ℤ) (arcs : List Arc) (ss : List ℕ) (s : ℕ) → weight ≡ pos 360360 *ℤ w →
+        radii_of result
+        ≡ add_radii (radii_of start) (row_radii w (map (signal_row arcs ss s) rows.now)) }
     ensures size { (m : ℕ) → IsAtMost m start → IsAtMost (m + (MOST_ROWS * 2 ^ 75)) result }
 {
     let mut sums = start;

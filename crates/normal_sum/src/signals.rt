@@ -58,14 +58,22 @@ fn add_in(
     requires columns { AreColumnsOf values.now columns.now }
     requires weight_size { unsigned_abs weight ≤ 2 ^ 32 }
     requires value_size { (j : ℕ) → unsigned_abs (slice_index_or values.now j (pos 0)) ≤ 2 ^ 34 }
-    requires entry_size { (i j : ℕ) → i ≤ j → BASELINE_COLUMNS ≤ j → j < MOST_COLUMNS → unsigned_abs (entry table.old i j) ≤ 2 ^ 120 }
-    requires total_size { (j : ℕ) → j < MOST_COLUMNS → unsigned_abs (slice_index_or total.old j (pos 0)) ≤ 2 ^ 40 }
+    requires entry_size { (i j : ℕ) → i ≤ j → BASELINE_COLUMNS ≤ j → j < MOST_COLUMNS →
+        unsigned_abs (entry table.old i j) ≤ 2 ^ 120 }
+    requires total_size { (j : ℕ) → j < MOST_COLUMNS →
+        unsigned_abs (slice_index_or total.old j (pos 0)) ≤ 2 ^ 40 }
     ensures products { (i j : ℕ) → i ≤ j → BASELINE_COLUMNS ≤ j → j < MOST_COLUMNS →
-        entry table.new i j ≡ entry table.old i j +ℤ ((weight *ℤ slice_index_or values.now i (pos 0)) *ℤ slice_index_or values.now j (pos 0)) }
-    ensures sums { (j : ℕ) → j < MOST_COLUMNS → slice_index_or total.new j (pos 0) ≡ slice_index_or total.old j (pos 0) +ℤ slice_index_or values.now j (pos 0) }
-    ensures table_size { (i j : ℕ) → i ≤ j → BASELINE_COLUMNS ≤ j → j < MOST_COLUMNS → unsigned_abs (entry table.new i j) ≤ unsigned_abs (entry table.old i j) + 2 ^ 100 }
-    ensures before { (i j : ℕ) → (j < i) ⊎ (j < BASELINE_COLUMNS) → entry table.new i j ≡ entry table.old i j }
-    ensures sum_size { (j : ℕ) → j < MOST_COLUMNS → unsigned_abs (slice_index_or total.new j (pos 0)) ≤ unsigned_abs (slice_index_or total.old j (pos 0)) + 2 ^ 34 }
+        entry table.new i j ≡ entry table.old i j +ℤ ((weight
+        *ℤ slice_index_or values.now i (pos 0)) *ℤ slice_index_or values.now j (pos 0)) }
+    ensures sums { (j : ℕ) → j < MOST_COLUMNS → slice_index_or total.new j (pos 0)
+        ≡ slice_index_or total.old j (pos 0) +ℤ slice_index_or values.now j (pos 0) }
+    ensures table_size { (i j : ℕ) → i ≤ j → BASELINE_COLUMNS ≤ j → j < MOST_COLUMNS →
+        unsigned_abs (entry table.new i j) ≤ unsigned_abs (entry table.old i j) + 2 ^ 100 }
+    ensures before { (i j : ℕ) → (j < i) ⊎ (j < BASELINE_COLUMNS) →
+        entry table.new i j ≡ entry table.old i j }
+    ensures sum_size { (j : ℕ) → j < MOST_COLUMNS →
+        unsigned_abs (slice_index_or total.new j (pos 0))
+        ≤ unsigned_abs (slice_index_or total.old j (pos 0)) + 2 ^ 34 }
 {
     add_product(table, values, columns, weight);
     add_values(total, values, columns);
@@ -83,18 +91,26 @@ fn add_used(
 )
     requires place { IfSome place (λ i. i < integers) }
     requires few { integers ≤ MOST_INTEGERS }
-    requires others { (j : ℕ) → BASELINE_COLUMNS ≤ j → j ≢ BASELINE_COLUMNS + integers → IfSome place (λ i. j ≢ BASELINE_COLUMNS + i) →
-        slice_index_or values.now j (pos 0) ≡ pos 0 }
+    requires others { (j : ℕ) → BASELINE_COLUMNS ≤ j → j ≢ BASELINE_COLUMNS + integers →
+        IfSome place (λ i. j ≢ BASELINE_COLUMNS + i) → slice_index_or values.now j (pos 0) ≡ pos 0 }
     requires weight_size { unsigned_abs weight ≤ 2 ^ 32 }
     requires value_size { (j : ℕ) → unsigned_abs (slice_index_or values.now j (pos 0)) ≤ 2 ^ 34 }
-    requires entry_size { (i j : ℕ) → i ≤ j → BASELINE_COLUMNS ≤ j → j < MOST_COLUMNS → unsigned_abs (entry table.old i j) ≤ 2 ^ 120 }
-    requires total_size { (j : ℕ) → j < MOST_COLUMNS → unsigned_abs (slice_index_or total.old j (pos 0)) ≤ 2 ^ 40 }
+    requires entry_size { (i j : ℕ) → i ≤ j → BASELINE_COLUMNS ≤ j → j < MOST_COLUMNS →
+        unsigned_abs (entry table.old i j) ≤ 2 ^ 120 }
+    requires total_size { (j : ℕ) → j < MOST_COLUMNS →
+        unsigned_abs (slice_index_or total.old j (pos 0)) ≤ 2 ^ 40 }
     ensures products { (i j : ℕ) → i ≤ j → BASELINE_COLUMNS ≤ j → j < MOST_COLUMNS →
-        entry table.new i j ≡ entry table.old i j +ℤ ((weight *ℤ slice_index_or values.now i (pos 0)) *ℤ slice_index_or values.now j (pos 0)) }
-    ensures sums { (j : ℕ) → j < MOST_COLUMNS → slice_index_or total.new j (pos 0) ≡ slice_index_or total.old j (pos 0) +ℤ slice_index_or values.now j (pos 0) }
-    ensures table_size { (i j : ℕ) → i ≤ j → BASELINE_COLUMNS ≤ j → j < MOST_COLUMNS → unsigned_abs (entry table.new i j) ≤ unsigned_abs (entry table.old i j) + 2 ^ 100 }
-    ensures before { (i j : ℕ) → (j < i) ⊎ (j < BASELINE_COLUMNS) → entry table.new i j ≡ entry table.old i j }
-    ensures sum_size { (j : ℕ) → j < MOST_COLUMNS → unsigned_abs (slice_index_or total.new j (pos 0)) ≤ unsigned_abs (slice_index_or total.old j (pos 0)) + 2 ^ 34 }
+        entry table.new i j ≡ entry table.old i j +ℤ ((weight
+        *ℤ slice_index_or values.now i (pos 0)) *ℤ slice_index_or values.now j (pos 0)) }
+    ensures sums { (j : ℕ) → j < MOST_COLUMNS → slice_index_or total.new j (pos 0)
+        ≡ slice_index_or total.old j (pos 0) +ℤ slice_index_or values.now j (pos 0) }
+    ensures table_size { (i j : ℕ) → i ≤ j → BASELINE_COLUMNS ≤ j → j < MOST_COLUMNS →
+        unsigned_abs (entry table.new i j) ≤ unsigned_abs (entry table.old i j) + 2 ^ 100 }
+    ensures before { (i j : ℕ) → (j < i) ⊎ (j < BASELINE_COLUMNS) →
+        entry table.new i j ≡ entry table.old i j }
+    ensures sum_size { (j : ℕ) → j < MOST_COLUMNS →
+        unsigned_abs (slice_index_or total.new j (pos 0))
+        ≤ unsigned_abs (slice_index_or total.old j (pos 0)) + 2 ^ 34 }
 {
     let last = BASELINE_COLUMNS + integers;
     match place {
@@ -124,17 +140,28 @@ fn add_row(
     requires signal { signal < SIGNALS }
     requires place { IfSome place (λ i. i < integers) }
     requires few { integers ≤ MOST_INTEGERS }
-    requires entry_size { (i j : ℕ) → i ≤ j → BASELINE_COLUMNS ≤ j → j < MOST_COLUMNS → unsigned_abs (entry table.old i j) ≤ 2 ^ 120 }
-    requires total_size { (j : ℕ) → j < MOST_COLUMNS → unsigned_abs (slice_index_or total.old j (pos 0)) ≤ 2 ^ 40 }
-    ensures products { (arcs : List Arc) (ss : List ℕ) → place ≡ integer_place arcs ss row.now.arc signal → integers ≡ integer_count arcs ss →
-        (i j : ℕ) → i ≤ j → BASELINE_COLUMNS ≤ j → j < MOST_COLUMNS →
-        entry table.new i j ≡ entry table.old i j +ℤ (((pos 360360 *ℤ weight signal) *ℤ coefficient (signal_row arcs ss signal row.now) i) *ℤ coefficient (signal_row arcs ss signal row.now) j) }
-    ensures sums { (arcs : List Arc) (ss : List ℕ) → place ≡ integer_place arcs ss row.now.arc signal → integers ≡ integer_count arcs ss →
-        (j : ℕ) → j < MOST_COLUMNS → slice_index_or total.new j (pos 0) ≡ slice_index_or total.old j (pos 0) +ℤ coefficient (signal_row arcs ss signal row.now) j }
-    ensures table_size { (i j : ℕ) → i ≤ j → BASELINE_COLUMNS ≤ j → j < MOST_COLUMNS → unsigned_abs (entry table.new i j) ≤ unsigned_abs (entry table.old i j) + 2 ^ 100 }
-    ensures before { (i j : ℕ) → (j < i) ⊎ (j < BASELINE_COLUMNS) → entry table.new i j ≡ entry table.old i j }
-    ensures sum_size { (j : ℕ) → j < MOST_COLUMNS → unsigned_abs (slice_index_or total.new j (pos 0)) ≤ unsigned_abs (slice_index_or total.old j (pos 0)) + 2 ^ 34 }
-    ensures beyond { (j : ℕ) → BASELINE_COLUMNS + integers < j → j < MOST_COLUMNS → slice_index_or total.new j (pos 0) ≡ slice_index_or total.old j (pos 0) }
+    requires entry_size { (i j : ℕ) → i ≤ j → BASELINE_COLUMNS ≤ j → j < MOST_COLUMNS →
+        unsigned_abs (entry table.old i j) ≤ 2 ^ 120 }
+    requires total_size { (j : ℕ) → j < MOST_COLUMNS →
+        unsigned_abs (slice_index_or total.old j (pos 0)) ≤ 2 ^ 40 }
+    ensures products { (arcs : List Arc) (ss : List ℕ) → place
+        ≡ integer_place arcs ss row.now.arc signal → integers ≡ integer_count arcs ss → (i j : ℕ) →
+        i ≤ j → BASELINE_COLUMNS ≤ j → j < MOST_COLUMNS → entry table.new i j ≡ entry table.old i j
+        +ℤ (((pos 360360 *ℤ weight signal) *ℤ coefficient (signal_row arcs ss signal row.now) i)
+        *ℤ coefficient (signal_row arcs ss signal row.now) j) }
+    ensures sums { (arcs : List Arc) (ss : List ℕ) →
+        place ≡ integer_place arcs ss row.now.arc signal → integers ≡ integer_count arcs ss →
+        (j : ℕ) → j < MOST_COLUMNS → slice_index_or total.new j (pos 0)
+        ≡ slice_index_or total.old j (pos 0) +ℤ coefficient (signal_row arcs ss signal row.now) j }
+    ensures table_size { (i j : ℕ) → i ≤ j → BASELINE_COLUMNS ≤ j → j < MOST_COLUMNS →
+        unsigned_abs (entry table.new i j) ≤ unsigned_abs (entry table.old i j) + 2 ^ 100 }
+    ensures before { (i j : ℕ) → (j < i) ⊎ (j < BASELINE_COLUMNS) →
+        entry table.new i j ≡ entry table.old i j }
+    ensures sum_size { (j : ℕ) → j < MOST_COLUMNS →
+        unsigned_abs (slice_index_or total.new j (pos 0))
+        ≤ unsigned_abs (slice_index_or total.old j (pos 0)) + 2 ^ 34 }
+    ensures beyond { (j : ℕ) → BASELINE_COLUMNS + integers < j → j < MOST_COLUMNS →
+        slice_index_or total.new j (pos 0) ≡ slice_index_or total.old j (pos 0) }
     ensures zeros { values.new ≡ replicate MOST_COLUMNS (pos 0) }
 {
     put_coefficients(values, row, signal, place, integers);
@@ -154,15 +181,25 @@ fn add_rows(
     requires signal { signal < SIGNALS }
     requires places { (k : ℕ) → IfSome (slice_index_or places.now k None) (λ i. i < integers) }
     requires few { integers ≤ MOST_INTEGERS }
-    requires entry_size { (i j : ℕ) → i ≤ j → BASELINE_COLUMNS ≤ j → j < MOST_COLUMNS → unsigned_abs (entry table.old i j) ≤ MOST_PAIRS * 2 ^ 108 }
-    ensures products { (arcs : List Arc) (ss : List ℕ) → ArePlaces arcs ss signal rows.now places.now → integers ≡ integer_count arcs ss →
-        (i j : ℕ) → i ≤ j → BASELINE_COLUMNS ≤ j → j < MOST_COLUMNS → entry table.new i j ≡ entry table.old i j +ℤ ((pos 360360 *ℤ weight signal) *ℤ product_sum (map (signal_row arcs ss signal) rows.now) i j) }
-    ensures sums { (arcs : List Arc) (ss : List ℕ) → ArePlaces arcs ss signal rows.now places.now → integers ≡ integer_count arcs ss →
-        (j : ℕ) → j < MOST_COLUMNS → slice_index_or result j (pos 0) ≡ coefficient_sum (map (signal_row arcs ss signal) rows.now) j }
-    ensures table_size { (i j : ℕ) → i ≤ j → BASELINE_COLUMNS ≤ j → j < MOST_COLUMNS → unsigned_abs (entry table.new i j) ≤ unsigned_abs (entry table.old i j) + (length rows.now * 2 ^ 100) }
-    ensures before { (i j : ℕ) → (j < i) ⊎ (j < BASELINE_COLUMNS) → entry table.new i j ≡ entry table.old i j }
-    ensures sum_size { (j : ℕ) → j < MOST_COLUMNS → unsigned_abs (slice_index_or result j (pos 0)) ≤ length rows.now * 2 ^ 34 }
-    ensures beyond { (j : ℕ) → BASELINE_COLUMNS + integers < j → j < MOST_COLUMNS → slice_index_or result j (pos 0) ≡ pos 0 }
+    requires entry_size { (i j : ℕ) → i ≤ j → BASELINE_COLUMNS ≤ j → j < MOST_COLUMNS →
+        unsigned_abs (entry table.old i j) ≤ MOST_PAIRS * 2 ^ 108 }
+    ensures products { (arcs : List Arc) (ss : List ℕ) →
+        ArePlaces arcs ss signal rows.now places.now → integers ≡ integer_count arcs ss →
+        (i j : ℕ) → i ≤ j → BASELINE_COLUMNS ≤ j → j < MOST_COLUMNS →
+        entry table.new i j ≡ entry table.old i j +ℤ ((pos 360360 *ℤ weight signal)
+        *ℤ product_sum (map (signal_row arcs ss signal) rows.now) i j) }
+    ensures sums { (arcs : List Arc) (ss : List ℕ) → ArePlaces arcs ss signal rows.now places.now →
+        integers ≡ integer_count arcs ss → (j : ℕ) → j < MOST_COLUMNS → slice_index_or result j
+        (pos 0) ≡ coefficient_sum (map (signal_row arcs ss signal) rows.now) j }
+    ensures table_size { (i j : ℕ) → i ≤ j → BASELINE_COLUMNS ≤ j → j < MOST_COLUMNS →
+        unsigned_abs (entry table.new i j)
+        ≤ unsigned_abs (entry table.old i j) + (length rows.now * 2 ^ 100) }
+    ensures before { (i j : ℕ) → (j < i) ⊎ (j < BASELINE_COLUMNS) →
+        entry table.new i j ≡ entry table.old i j }
+    ensures sum_size { (j : ℕ) → j < MOST_COLUMNS →
+        unsigned_abs (slice_index_or result j (pos 0)) ≤ length rows.now * 2 ^ 34 }
+    ensures beyond { (j : ℕ) → BASELINE_COLUMNS + integers < j → j < MOST_COLUMNS →
+        slice_index_or result j (pos 0) ≡ pos 0 }
 {
     let mut total = [0; MOST_COLUMNS];
     let mut values = [0; MOST_COLUMNS];
@@ -191,11 +228,16 @@ fn add_phase(
     requires signal { signal < SIGNALS }
     requires places { (k : ℕ) → IfSome (slice_index_or places.now k None) (λ i. i < integers) }
     requires few { integers ≤ MOST_INTEGERS }
-    requires entry_size { (i j : ℕ) → i ≤ j → BASELINE_COLUMNS ≤ j → j < MOST_COLUMNS → unsigned_abs (entry table.old i j) ≤ MOST_PAIRS * 2 ^ 108 }
-    ensures added { (arcs : List Arc) (ss : List ℕ) → ArePlaces arcs ss signal pair.now.rows places.now → integers ≡ integer_count arcs ss →
-        (i j : ℕ) → i ≤ j → BASELINE_COLUMNS ≤ j → j < MOST_COLUMNS → entry table.new i j ≡ entry table.old i j +ℤ group_entry (signal_group arcs ss pair.now signal) i j }
-    ensures size { (i j : ℕ) → i ≤ j → BASELINE_COLUMNS ≤ j → j < MOST_COLUMNS → unsigned_abs (entry table.new i j) ≤ unsigned_abs (entry table.old i j) + 2 ^ 105 }
-    ensures before { (i j : ℕ) → (j < i) ⊎ (j < BASELINE_COLUMNS) → entry table.new i j ≡ entry table.old i j }
+    requires entry_size { (i j : ℕ) → i ≤ j → BASELINE_COLUMNS ≤ j → j < MOST_COLUMNS →
+        unsigned_abs (entry table.old i j) ≤ MOST_PAIRS * 2 ^ 108 }
+    ensures added { (arcs : List Arc) (ss : List ℕ) →
+        ArePlaces arcs ss signal pair.now.rows places.now → integers ≡ integer_count arcs ss →
+        (i j : ℕ) → i ≤ j → BASELINE_COLUMNS ≤ j → j < MOST_COLUMNS → entry table.new i j
+        ≡ entry table.old i j +ℤ group_entry (signal_group arcs ss pair.now signal) i j }
+    ensures size { (i j : ℕ) → i ≤ j → BASELINE_COLUMNS ≤ j → j < MOST_COLUMNS →
+        unsigned_abs (entry table.new i j) ≤ unsigned_abs (entry table.old i j) + 2 ^ 105 }
+    ensures before { (i j : ℕ) → (j < i) ⊎ (j < BASELINE_COLUMNS) →
+        entry table.new i j ≡ entry table.old i j }
 {
     let rows = pair.rows.as_slice();
     let total = add_rows(table, rows, signal, places, integers);
@@ -208,11 +250,16 @@ fn add_phase(
 fn add_code(table: &mut NormalTable, pair: &PairRows, signal: usize, integers: usize)
     requires signal { signal < SIGNALS }
     requires few { integers ≤ MOST_INTEGERS }
-    requires entry_size { (i j : ℕ) → i ≤ j → BASELINE_COLUMNS ≤ j → j < MOST_COLUMNS → unsigned_abs (entry table.old i j) ≤ MOST_PAIRS * 2 ^ 108 }
-    ensures added { (arcs : List Arc) (ss : List ℕ) → SeesNone arcs ss signal pair.now.rows → integers ≡ integer_count arcs ss →
-        (i j : ℕ) → i ≤ j → BASELINE_COLUMNS ≤ j → j < MOST_COLUMNS → entry table.new i j ≡ entry table.old i j +ℤ group_entry (signal_group arcs ss pair.now signal) i j }
-    ensures size { (i j : ℕ) → i ≤ j → BASELINE_COLUMNS ≤ j → j < MOST_COLUMNS → unsigned_abs (entry table.new i j) ≤ unsigned_abs (entry table.old i j) + 2 ^ 105 }
-    ensures before { (i j : ℕ) → (j < i) ⊎ (j < BASELINE_COLUMNS) → entry table.new i j ≡ entry table.old i j }
+    requires entry_size { (i j : ℕ) → i ≤ j → BASELINE_COLUMNS ≤ j → j < MOST_COLUMNS →
+        unsigned_abs (entry table.old i j) ≤ MOST_PAIRS * 2 ^ 108 }
+    ensures added { (arcs : List Arc) (ss : List ℕ) → SeesNone arcs ss signal pair.now.rows →
+        integers ≡ integer_count arcs ss → (i j : ℕ) → i ≤ j → BASELINE_COLUMNS ≤ j →
+        j < MOST_COLUMNS → entry table.new i j
+        ≡ entry table.old i j +ℤ group_entry (signal_group arcs ss pair.now signal) i j }
+    ensures size { (i j : ℕ) → i ≤ j → BASELINE_COLUMNS ≤ j → j < MOST_COLUMNS →
+        unsigned_abs (entry table.new i j) ≤ unsigned_abs (entry table.old i j) + 2 ^ 105 }
+    ensures before { (i j : ℕ) → (j < i) ⊎ (j < BASELINE_COLUMNS) →
+        entry table.new i j ≡ entry table.old i j }
 {
     add_observations(table, pair.rows.as_slice(), signal, integers);
 }
@@ -230,13 +277,20 @@ pub(crate) fn add_signal(
     requires signal { signal < SIGNALS }
     requires first { (k : ℕ) → IfSome (slice_index_or firsts.now k None) (λ i. i ≤ MOST_INTEGERS) }
     requires phase { IfSome phase (λ i. i < PHASES) }
-    requires places { (k : ℕ) → IfSome (place_from (slice_index_or firsts.now k None) phase) (λ i. i < integers) }
+    requires places { (k : ℕ) →
+        IfSome (place_from (slice_index_or firsts.now k None) phase) (λ i. i < integers) }
     requires few { integers ≤ MOST_INTEGERS }
-    requires entry_size { (i j : ℕ) → i ≤ j → BASELINE_COLUMNS ≤ j → j < MOST_COLUMNS → unsigned_abs (entry table.old i j) ≤ MOST_PAIRS * 2 ^ 108 }
-    ensures added { (arcs : List Arc) (ss : List ℕ) → ArePlacesFrom arcs ss signal pair.now.rows firsts.now phase → integers ≡ integer_count arcs ss →
-        (i j : ℕ) → i ≤ j → BASELINE_COLUMNS ≤ j → j < MOST_COLUMNS → entry table.new i j ≡ entry table.old i j +ℤ group_entry (signal_group arcs ss pair.now signal) i j }
-    ensures size { (i j : ℕ) → i ≤ j → BASELINE_COLUMNS ≤ j → j < MOST_COLUMNS → unsigned_abs (entry table.new i j) ≤ unsigned_abs (entry table.old i j) + 2 ^ 105 }
-    ensures before { (i j : ℕ) → (j < i) ⊎ (j < BASELINE_COLUMNS) → entry table.new i j ≡ entry table.old i j }
+    requires entry_size { (i j : ℕ) → i ≤ j → BASELINE_COLUMNS ≤ j → j < MOST_COLUMNS →
+        unsigned_abs (entry table.old i j) ≤ MOST_PAIRS * 2 ^ 108 }
+    ensures added { (arcs : List Arc) (ss : List ℕ) →
+        ArePlacesFrom arcs ss signal pair.now.rows firsts.now phase →
+        integers ≡ integer_count arcs ss → (i j : ℕ) → i ≤ j → BASELINE_COLUMNS ≤ j →
+        j < MOST_COLUMNS → entry table.new i j
+        ≡ entry table.old i j +ℤ group_entry (signal_group arcs ss pair.now signal) i j }
+    ensures size { (i j : ℕ) → i ≤ j → BASELINE_COLUMNS ≤ j → j < MOST_COLUMNS →
+        unsigned_abs (entry table.new i j) ≤ unsigned_abs (entry table.old i j) + 2 ^ 105 }
+    ensures before { (i j : ℕ) → (j < i) ⊎ (j < BASELINE_COLUMNS) →
+        entry table.new i j ≡ entry table.old i j }
 {
     match phase {
         None => add_code(table, pair, signal, integers),

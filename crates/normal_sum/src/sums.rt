@@ -36,8 +36,10 @@ fn fill_table(
     requires free { free_count arcs.now ≤ MOST_FREE_ARCS }
     requires few { length pairs.now ≤ MOST_PAIRS }
     requires integers { integers ≡ integer_count arcs.now signals.now }
-    requires zeros { (i j : ℕ) → (i ≤ j) ⊎ (BASELINE_COLUMNS + integers + 1 ≤ i) → entry table.old i j ≡ pos 0 }
-    ensures entries { (i j : ℕ) → entry table.new i j ≡ matrix_entry (signal_groups arcs.now signals.now pairs.now) i j }
+    requires zeros { (i j : ℕ) → (i ≤ j) ⊎ (BASELINE_COLUMNS + integers + 1 ≤ i) →
+        entry table.old i j ≡ pos 0 }
+    ensures entries { (i j : ℕ) →
+        entry table.new i j ≡ matrix_entry (signal_groups arcs.now signals.now pairs.now) i j }
     ensures entries_in { EntriesBelow (2 ^ 120) table.new }
     ensures radii { result ≡ radius_list (radii (signal_groups arcs.now signals.now pairs.now)) }
     ensures radii_in { All IsRadiusSum result }
@@ -127,7 +129,8 @@ pub fn refill_pair(normal: &mut Normal, arcs: &[Arc], signals: Signals, scale: u
 
 /// Writes the normal matrix of a session over another. It is that of `sum`.
 pub fn refill_sum(normal: &mut Normal, session: &Session)
-    ensures { IsNormalOf session.now.arcs (counted session.now.signals session.now.scale) session.now.pairs normal.new }
+    ensures { IsNormalOf session.now.arcs
+        (counted session.now.signals session.now.scale) session.now.pairs normal.new }
 {
     refill(
         normal,
@@ -152,9 +155,12 @@ pub fn sum_pair(arcs: &[Arc], signals: Signals, scale: u32, pair: &PairRows) -> 
 
 /// The normal matrix of a session: entry by entry the sum over its pairs.
 pub fn sum(session: &Session) -> Normal
-    ensures normal { IsNormalOf session.now.arcs (counted session.now.signals session.now.scale) session.now.pairs result }
-    ensures centres { IsSumAtCentres session.now.arcs (counted session.now.signals session.now.scale) session.now.pairs result }
-    ensures below { StaysBelow session.now.arcs (counted session.now.signals session.now.scale) session.now.pairs result }
+    ensures normal { IsNormalOf session.now.arcs
+        (counted session.now.signals session.now.scale) session.now.pairs result }
+    ensures centres { IsSumAtCentres session.now.arcs
+        (counted session.now.signals session.now.scale) session.now.pairs result }
+    ensures below { StaysBelow session.now.arcs
+        (counted session.now.signals session.now.scale) session.now.pairs result }
 {
     sum_pairs(
         session.arcs.as_slice(),

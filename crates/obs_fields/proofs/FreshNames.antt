@@ -16,6 +16,7 @@ use Rattle.obs_fields.specs.declared.types.TypeList.{TypeList}
 use Rattle.obs_fields.specs.Labels.{label_in}
 use Rattle.obs_fields.specs.Layouts.{first_name_of, name_step_of, names_in_line_of, name_in, types_column_of, types_count_in, further_mark_in}
 use Rattle.obs_fields.specs.Types.{is_listed, names_from, type_list, with_line, count_from, first_types_of, further_by, further_types_of}
+use Rattle.obs_fields.specs.declared.types.TheConstants.{MOST_TYPES}
 
 -- ---- a number that a list hasn't got
 
@@ -149,7 +150,7 @@ pub record IsFirstByte (names : List (List ℕ)) : Type 0 where
   pub below : byte < 256
   pub apart : AreApart byte 48 names
 
-pub a_first_byte : (names : List (List ℕ)) → length names ≤ 200 → IsFirstByte names
+pub a_first_byte : (names : List (List ℕ)) → length names ≤ MOST_TYPES → IsFirstByte names
 a_first_byte names few =
     let free = a_free_one 48 201 (firsts names) (omega (arith, few, firsts-few names)) in
     record { byte = free.number; from = free.from; below = omega (arith, free.below); apart = apart_firsts free.number 48 names free.none }
@@ -196,16 +197,16 @@ further_counted layout line names left list gives = by_label (label_in layout li
     by_label label.FirstObs is = absurd cc
     by_label label.Other is = absurd cc
 
-count-few : (first : ℕ) (r : Result (Option ℕ) Flaw) (n : ℕ) → count_from first r ≡ Ok n → n ≤ 200
-count-few first (Ok (Some k)) n gives = by_test (nat_le 1 k && nat_le k 200) refl gives
+count-few : (first : ℕ) (r : Result (Option ℕ) Flaw) (n : ℕ) → count_from first r ≡ Ok n → n ≤ MOST_TYPES
+count-few first (Ok (Some k)) n gives = by_test (nat_le 1 k && nat_le k MOST_TYPES) refl gives
   where
-    by_test : (t : Bool) → (nat_le 1 k && nat_le k 200) ≡ t → (if t then Ok k else flawed first Types) ≡ Ok n → n ≤ 200
-    by_test true test is = let same : k ≡ n = cc in subst (λ (m : ℕ). m ≤ 200) same (grind (arith, nat_tests))
+    by_test : (t : Bool) → (nat_le 1 k && nat_le k MOST_TYPES) ≡ t → (if t then Ok k else flawed first Types) ≡ Ok n → n ≤ MOST_TYPES
+    by_test true test is = let same : k ≡ n = cc in subst (λ (m : ℕ). m ≤ MOST_TYPES) same (grind (arith, nat_tests))
     by_test false test is = absurd cc
 count-few first (Ok None) n gives = absurd cc
 count-few first (Err flaw) n gives = absurd cc
 
-pub first_counted : (layout : Layout) (line : List ℕ) (list : TypeList) → first_types_of layout line ≡ Ok list → length list.names + list.left ≤ 200
+pub first_counted : (layout : Layout) (line : List ℕ) (list : TypeList) → first_types_of layout line ≡ Ok list → length list.names + list.left ≤ MOST_TYPES
 first_counted layout line list gives =
     let count = whole_of (types_column_of layout) (types_count_in layout line) in
     let took = and_then_took (count_from (types_column_of layout) count) (λ n. with_line layout line [] n) list gives in

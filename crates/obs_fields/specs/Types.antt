@@ -20,6 +20,7 @@ use Rattle.obs_fields.specs.declared.labels.Label.{Label}
 use Rattle.obs_fields.specs.declared.labels.Label.TheVariants as label
 use Rattle.obs_fields.specs.declared.types.TypeList.{TypeList}
 use Rattle.obs_fields.specs.declared.types.KeptType.{KeptType}
+use Rattle.obs_fields.specs.declared.types.TheConstants.{MOST_TYPES}
 
 -- a name of three bytes is among these
 unfoldable pub is_listed : List (List ℕ) → List ℕ → Bool
@@ -42,7 +43,7 @@ with_line layout line names left =
 
 -- how many types are listed, in a field that begins at this column: 1 to 200
 abbrev pub count_from : ℕ → Result (Option ℕ) Flaw → Result ℕ Flaw
-count_from first (Ok (Some n)) = if nat_le 1 n && nat_le n 200 then Ok n else flawed first Types
+count_from first (Ok (Some n)) = if nat_le 1 n && nat_le n MOST_TYPES then Ok n else flawed first Types
 count_from first (Ok None) = flawed first Types
 count_from first (Err flaw) = flawed first Types
 

@@ -153,7 +153,8 @@ fn set_amount(
 ) -> Result<(), Flaw>
     requires { first ≤ 4900 }
     ensures ok { OnOk result (with_amount line.now first kind values.old amount ≡ Ok values.new) }
-    ensures err { IfErr result (λ flaw. with_amount line.now first kind values.old amount ≡ Err flaw) }
+    ensures err { IfErr result (λ flaw.
+        with_amount line.now first kind values.old amount ≡ Err flaw) }
 {
     match amount {
         None => values.set(kind, None),
@@ -192,7 +193,8 @@ pub fn set_values(
     values: &mut SatValues,
 ) -> Result<(), Flaw>
     ensures ok { OnOk result (values_in layout at kept.now line.now values.old ≡ Ok values.new) }
-    ensures err { IfErr result (λ flaw. values_in layout at kept.now line.now values.old ≡ Err flaw) }
+    ensures err { IfErr result (λ flaw.
+        values_in layout at kept.now line.now values.old ≡ Err flaw) }
 {
     for one in kept {
         match layout.value_column(at, one.number) {

@@ -44,7 +44,7 @@ impl TypeNames {
     /// The names, in order.
     pub fn as_slice(&self) -> &[[u8; 3]]
         ensures value { result.now ≡ self.now }
-        ensures few { length self.now ≤ 200 }
+        ensures few { length self.now ≤ MOST_TYPES }
     {
         self.items.as_slice()
     }
@@ -59,7 +59,7 @@ impl TypeNames {
 
     /// Adds a name.
     pub fn push(&mut self, name: [u8; 3])
-        requires { length self.old < 200 }
+        requires { length self.old < MOST_TYPES }
         ensures { self.new ≡ self.old ++ name ∷ [] }
     {
         self.items.push(name);
@@ -106,11 +106,13 @@ fn name_at(layout: Layout, line: &[u8], first: u32) -> [u8; 3]
 
 // A number of further names of a line.
 fn add_names(layout: Layout, line: &[u8], count: u16, names: &mut TypeNames) -> Result<(), Flaw>
-    requires room { length names.old + count ≤ 200 }
+    requires room { length names.old + count ≤ MOST_TYPES }
     requires few { count ≤ 13 }
-    ensures ok { OnOk result (names_from layout line.now (first_name_of layout) count names.old ≡ Ok names.new) }
+    ensures ok { OnOk result
+        (names_from layout line.now (first_name_of layout) count names.old ≡ Ok names.new) }
     ensures longer { OnOk result (length names.new ≡ length names.old + count) }
-    ensures err { IfErr result (λ flaw. names_from layout line.now (first_name_of layout) count names.old ≡ Err flaw) }
+    ensures err { IfErr result (λ flaw.
+        names_from layout line.now (first_name_of layout) count names.old ≡ Err flaw) }
 {
     let mut first = layout.first_name();
     let step = layout.name_step();
@@ -128,9 +130,9 @@ fn add_names(layout: Layout, line: &[u8], count: u16, names: &mut TypeNames) -> 
 }
 
 fn add_line(layout: Layout, line: &[u8], mut list: TypeList) -> Result<TypeList, Flaw>
-    requires { length list.names + list.left ≤ 200 }
+    requires { length list.names + list.left ≤ MOST_TYPES }
     ensures value { result ≡ with_line layout line.now list.names list.left }
-    ensures room { IfOk result (λ all. length all.names + all.left ≤ 200) }
+    ensures room { IfOk result (λ all. length all.names + all.left ≤ MOST_TYPES) }
 {
     let count = list.left.min(layout.names_in_line());
     add_names(layout, line, count, &mut list.names)?;
@@ -157,12 +159,13 @@ fn count_column(layout: Layout) -> u32
 }
 
 fn type_count(layout: Layout, line: &[u8]) -> Result<u16, Flaw>
-    ensures value { result ≡ count_from (types_column_of layout) (whole_of (types_column_of layout) (types_count_in layout line.now)) }
-    ensures bound { IfOk result (λ n. n ≤ 200) }
+    ensures value { result ≡ count_from (types_column_of layout)
+        (whole_of (types_column_of layout) (types_count_in layout line.now)) }
+    ensures bound { IfOk result (λ n. n ≤ MOST_TYPES) }
 {
     match count_field(layout, line) {
         Ok(Some(count)) => {
-            if count < 1 || count > 200 {
+            if count < 1 || count > MOST_TYPES as u32 {
                 return Err(types_flaw(count_column(layout)));
             }
             Ok(count as u16)
@@ -174,7 +177,7 @@ fn type_count(layout: Layout, line: &[u8]) -> Result<u16, Flaw>
 /// The first line of a list.
 pub fn first_types(layout: Layout, line: &[u8]) -> Result<TypeList, Flaw>
     ensures value { result ≡ first_types_of layout line.now }
-    ensures room { IfOk result (λ all. length all.names + all.left ≤ 200) }
+    ensures room { IfOk result (λ all. length all.names + all.left ≤ MOST_TYPES) }
 {
     let list = TypeList {
         names: TypeNames::new(),
@@ -195,9 +198,9 @@ fn goes_on(layout: Layout, line: &[u8]) -> bool
 
 /// A line in the place of a further line of a list.
 pub fn further_types(layout: Layout, line: &Line<'_>, list: TypeList) -> Result<TypeList, Flaw>
-    requires { length list.names + list.left ≤ 200 }
+    requires { length list.names + list.left ≤ MOST_TYPES }
     ensures value { result ≡ further_types_of layout line.now.bytes.now list.names list.left }
-    ensures room { IfOk result (λ all. length all.names + all.left ≤ 200) }
+    ensures room { IfOk result (λ all. length all.names + all.left ≤ MOST_TYPES) }
 {
     match label_of_line(layout, line) {
         Label::Comment => Ok(list),

@@ -4,7 +4,7 @@ ghost use Rattle.std.specs.Prelude.{◌≡◌, [], ◌∷◌, pos, ◌*◌, ◌*
 ghost use Rattle.form_tables.specs.declared.sizes.TheConstants.{MOST_INTEGERS};
 ghost use Rattle.obs_rows.specs.Signals.{wavelength};
 ghost use Rattle.obs_rows.specs.declared.bands.TheConstants.{L1_LETTERS, L2_LETTERS, L5_LETTERS};
-ghost use Rattle.obs_rows.specs.declared.limits.TheConstants.{MOST_PAIRS, LAST_PAIR, MOST_SATELLITES, MOST_KEPT_ARCS, MOST_RATIO, MOST_BUDGET, MOST_COORDINATE, LEAST_DISTANCE, MOST_DISTANCE};
+ghost use Rattle.obs_rows.specs.declared.limits.TheConstants.{MOST_PAIRS, LAST_PAIR, MOST_SATELLITES, MOST_ARCS, MOST_KEPT_ARCS, MOST_RATIO, MOST_BUDGET, MOST_COORDINATE, LEAST_DISTANCE, MOST_DISTANCE};
 ghost use Rattle.obs_rows.specs.declared.units.TheConstants.{SIGNALS, PHASES, BANDS, WAVELENGTHS, WEIGHTS};
 ghost use Rattle.obs_rows.specs.declared.units.TheConstants.{SIGNALS_12, SIGNALS_15, SIGNALS_125, BANDS_12, BANDS_15, BANDS_125, COARSE_SIGNALS, COARSE_SCALE};
 ghost use Rattle.obs_rows.specs.declared.units.TheConstants.{UNIT_FREQUENCY, LIGHT_SPEED, ROW_EXPONENT, DIRECTION_EXPONENT, MOVE_EXPONENT, MOST_FREE_ARCS};
@@ -22,7 +22,8 @@ pub fn signals_law()
     ensures signals { SIGNALS ≡ 6 }
     ensures phases { PHASES ≡ 3 }
     ensures bands { BANDS ≡ 0 ∷ 1 ∷ 0 ∷ 1 ∷ 2 ∷ 2 ∷ [] }
-    ensures wavelengths { WAVELENGTHS ≡ pos 1380 ∷ pos 1771 ∷ pos 0 ∷ pos 0 ∷ pos 1848 ∷ pos 0 ∷ [] }
+    ensures wavelengths { WAVELENGTHS
+        ≡ pos 1380 ∷ pos 1771 ∷ pos 0 ∷ pos 0 ∷ pos 1848 ∷ pos 0 ∷ [] }
     // this project's choice, as is all that follows
     ensures weights { WEIGHTS ≡ pos 10_000 ∷ pos 10_000 ∷ pos 1 ∷ pos 1 ∷ pos 10_000 ∷ pos 1 ∷ [] }
     ensures of_l1_l2 { SIGNALS_12 ≡ 0 ∷ 1 ∷ 2 ∷ 3 ∷ [] }
@@ -59,6 +60,7 @@ pub fn limits_law()
     // the first has the number 0
     ensures last_pair { MOST_PAIRS ≡ LAST_PAIR + 1 }
     ensures satellites { MOST_SATELLITES ≡ 15 }
+    ensures arcs { MOST_ARCS ≡ 200 }
     // one for each satellite of each pair
     ensures kept_arcs { MOST_KEPT_ARCS ≡ MOST_SATELLITES * MOST_PAIRS }
     // 100, in thousandths

@@ -49,8 +49,8 @@ pub use form_tables::{
 pub use items::Items;
 pub use laws::{best_law, bound_law, centres_law, groups_law};
 pub use limits::{
-    LAST_PAIR, LEAST_DISTANCE, MOST_BUDGET, MOST_COORDINATE, MOST_DISTANCE, MOST_KEPT_ARCS,
-    MOST_PAIRS, MOST_RATIO, MOST_SATELLITES,
+    LAST_PAIR, LEAST_DISTANCE, MOST_ARCS, MOST_BUDGET, MOST_COORDINATE, MOST_DISTANCE,
+    MOST_KEPT_ARCS, MOST_PAIRS, MOST_RATIO, MOST_SATELLITES,
 };
 pub use pair_builder::PairBuilder;
 pub use pair_rows::{PairList, PairRows};

@@ -9,7 +9,10 @@ pub const LAST_PAIR: u64 = MOST_PAIRS as u64 - 1;
 /// The most satellites of a pair.
 pub const MOST_SATELLITES: usize = 15;
 
-/// The most kept arcs of an outcome. A session has 200 at most.
+/// The most arcs of a session.
+pub const MOST_ARCS: usize = 200;
+
+/// The most kept arcs of an outcome, which may be more than a session has.
 pub const MOST_KEPT_ARCS: usize = 54_000;
 
 /// The greatest ratio of the second best value to the best that a run asks for, in thousandths.

@@ -5,6 +5,7 @@ ghost use Rattle.obs_rows.specs.Pairs.{HasItsArcs};
 ghost use Rattle.obs_rows.specs.declared.units.TheConstants.{SIGNALS};
 ghost use Rattle.obs_rows.specs.Signals.{fine_signals, counted, phases, AreCounted};
 ghost use Rattle.obs_rows.specs.Integers.{integer_count, integer_place};
+ghost use Rattle.obs_rows.specs.declared.limits.TheConstants.{MOST_ARCS};
 
 use crate::{
     Arc, COARSE_SIGNALS, PairRows, Row, SIGNALS_12, SIGNALS_15, SIGNALS_125, Signals, WAVELENGTHS,
@@ -75,7 +76,7 @@ pub fn phase_count(signals: &[usize]) -> usize
 
 /// The number of integers: one for each free arc and each phase that counts.
 pub fn integer_count(arcs: &[Arc], signals: &[usize]) -> usize
-    requires few { free_count arcs.now ≤ 200 }
+    requires few { free_count arcs.now ≤ MOST_ARCS }
     requires counted { AreCounted signals.now }
     ensures { result ≡ integer_count arcs.now signals.now }
 {
@@ -97,7 +98,7 @@ pub fn phase_place(signals: &[usize], signal: usize) -> Option<usize>
 /// of the phases. A datum and a code have none.
 #[tactic(auto, using(crate::proofs::IntegerPlaces::free_before_le, crate::proofs::IntegerPlaces::place_below))]
 pub fn integer_place(arcs: &[Arc], signals: &[usize], arc: usize, signal: usize) -> Option<usize>
-    requires few { free_count arcs.now ≤ 200 }
+    requires few { free_count arcs.now ≤ MOST_ARCS }
     requires counted { AreCounted signals.now }
     requires arc_in { arc < length arcs.now }
     ensures place { result ≡ integer_place arcs.now signals.now arc signal }

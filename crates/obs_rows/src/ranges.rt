@@ -3,7 +3,7 @@ ghost use Rattle.std.specs.Prelude.{◌↔◌, All, IsTrue};
 ghost use Rattle.obs_rows.specs.Ranges.{IsWithin, IsRadius, IsSystem, IsPoint};
 ghost use Rattle.obs_rows.specs.Arcs.{IsArcInRange, AreArcs};
 
-use crate::{Arc, MOST_COORDINATE, MOST_FREE_ARCS, MOST_PAIRS, free_arcs};
+use crate::{Arc, MOST_ARCS, MOST_COORDINATE, MOST_FREE_ARCS, MOST_PAIRS, free_arcs};
 
 /// Whether each number is at most so great in size.
 pub fn are_within(numbers: &[i64], most: u64) -> bool
@@ -55,5 +55,5 @@ pub fn are_arcs(arcs: &[Arc]) -> bool
 {
     let free = free_arcs(arcs);
     let ranges = arcs.iter().all(|a| is_arc_in_range(a));
-    2 <= arcs.len() && arcs.len() <= 200 && 1 <= free && free <= MOST_FREE_ARCS && ranges
+    2 <= arcs.len() && arcs.len() <= MOST_ARCS && 1 <= free && free <= MOST_FREE_ARCS && ranges
 }

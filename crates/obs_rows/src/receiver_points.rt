@@ -31,7 +31,8 @@ fn squared(point: &[i64; 3]) -> i128
 }
 
 fn is_at_distance(squared: i128) -> bool
-    ensures { IsTrue result ↔ ((pos (LEAST_DISTANCE * LEAST_DISTANCE) ≤ℤ squared) × (squared ≤ℤ pos (MOST_DISTANCE * MOST_DISTANCE))) }
+    ensures { IsTrue result ↔ ((pos (LEAST_DISTANCE * LEAST_DISTANCE) ≤ℤ squared)
+        × (squared ≤ℤ pos (MOST_DISTANCE * MOST_DISTANCE))) }
 {
     NEAREST_SQUARED <= squared && squared <= FARTHEST_SQUARED
 }

@@ -7,5 +7,6 @@ ghost use Rattle.obs_source.specs.Formats.{IsObservation};
 /// Lines stand for at most one observation file of a system, whichever of the formats it is in. There is nothing to run:
 /// the contract is the law.
 pub fn one_observation_law()
-    ensures { (system : System) (lines : List (List ℕ)) (file other : ObsFile) → IsObservation system lines file → IsObservation system lines other → file ≡ other }
+    ensures { (system : System) (lines : List (List ℕ)) (file other : ObsFile) →
+        IsObservation system lines file → IsObservation system lines other → file ≡ other }
 {}

@@ -1,6 +1,7 @@
 //! An observation file of either format that is taken in pieces.
 ghost use Rattle.std.specs.Prelude.{◌≡◌, ◌+◌, ◌≤◌, ◌++◌, List, ℕ, [], length, take, OnOk, OnErr, IfOk, IfSome, IfNone, IsErr, Err};
 ghost use Rattle.std.specs.Str.Lines.{strip_carriage_return};
+ghost use Rattle.line_source.specs.declared.transfer.TheConstants.{MAX_FILE};
 ghost use Rattle.rinex_head.specs.declared.system.System.TheVariants.{Gps};
 ghost use Rattle.rinex_obs.specs.Started.{EndsLine, GoesOn};
 ghost use Rattle.rinex_obs.specs.ObsRules.{obs_of};
@@ -47,7 +48,7 @@ fn begins_2(line: &[u8]) -> bool
 
 // The text of these two parts, which is read as RINEX 3, is fed to its reader.
 fn feed_of(alloc: Global, line: &[u8], rest: &[u8]) -> Result<Source, AllocError>
-    requires few { length line.now + length rest.now ≤ 67108864 }
+    requires few { length line.now + length rest.now ≤ MAX_FILE }
     requires reads { IsReadBy (λ lines. obs_of Gps lines) (line.now ++ rest.now) }
     ensures kept { IfOk result (λ s. IsKeptOf s (length line.now + length rest.now)) }
     ensures stands { IfOk result (λ s. StandsForText s (line.now ++ rest.now)) }
@@ -60,7 +61,7 @@ fn feed_of(alloc: Global, line: &[u8], rest: &[u8]) -> Result<Source, AllocError
 
 // The text of these two parts, which is read as RINEX 2, is kept.
 fn kept_of(alloc: Global, line: &[u8], rest: &[u8]) -> Result<Source, AllocError>
-    requires few { length line.now + length rest.now ≤ 67108864 }
+    requires few { length line.now + length rest.now ≤ MAX_FILE }
     requires reads { IsReadBy obs2_of (line.now ++ rest.now) }
     ensures kept { IfOk result (λ s. IsKeptOf s (length line.now + length rest.now)) }
     ensures stands { IfOk result (λ s. StandsForText s (line.now ++ rest.now)) }
@@ -73,7 +74,7 @@ fn kept_of(alloc: Global, line: &[u8], rest: &[u8]) -> Result<Source, AllocError
 
 // The text of these two parts, the first of which is its first line.
 fn begin(alloc: Global, line: &[u8], rest: &[u8]) -> Result<Source, AllocError>
-    requires few { length line.now + length rest.now ≤ 67108864 }
+    requires few { length line.now + length rest.now ≤ MAX_FILE }
     requires first { IsFirstOf (strip_carriage_return line.now) (line.now ++ rest.now) }
     ensures kept { IfOk result (λ s. IsKeptOf s (length line.now + length rest.now)) }
     ensures stands { IfOk result (λ s. StandsForText s (line.now ++ rest.now)) }
@@ -92,7 +93,7 @@ fn end_line(
     front: &[u8],
     piece: &[u8],
 ) -> Result<Source, AllocError>
-    requires few { length line.old + length piece.now ≤ 67108864 }
+    requires few { length line.old + length piece.now ≤ MAX_FILE }
     requires goes_on { GoesOn line.old }
     requires front { front.now ≡ take (length front.now) piece.now }
     requires ends { (behind : List ℕ) × EndsLine piece.now front.now behind }
@@ -107,12 +108,14 @@ fn end_line(
 
 // The first line goes on with the piece. Where it ends in it, or is too long, the format is known.
 fn go_on(alloc: Global, line: &mut StartedLine, piece: &[u8]) -> Result<Option<Source>, AllocError>
-    requires few { length line.old + length piece.now ≤ 67108864 }
+    requires few { length line.old + length piece.now ≤ MAX_FILE }
     requires goes_on { GoesOn line.old }
     ensures line { IfOk result (λ found. IfNone found (line.new ≡ line.old ++ piece.now)) }
     ensures goes_on { IfOk result (λ found. IfNone found (GoesOn line.new)) }
-    ensures kept { IfOk result (λ found. IfSome found (λ s. IsKeptOf s (length line.old + length piece.now))) }
-    ensures stands { IfOk result (λ found. IfSome found (λ s. StandsForText s (line.old ++ piece.now))) }
+    ensures kept { IfOk result (λ found.
+        IfSome found (λ s. IsKeptOf s (length line.old + length piece.now))) }
+    ensures stands { IfOk result (λ found.
+        IfSome found (λ s. StandsForText s (line.old ++ piece.now))) }
 {
     match split_line(piece) {
         Some((front, _)) => Ok(Some(end_line(alloc, line, front, piece)?)),
@@ -125,7 +128,7 @@ fn go_on(alloc: Global, line: &mut StartedLine, piece: &[u8]) -> Result<Option<S
 
 // What the text of a line without an end gives.
 fn read_line(alloc: Global, line: &[u8]) -> Result<ObsFile, TextFault>
-    requires few { length line.now ≤ 67108864 }
+    requires few { length line.now ≤ MAX_FILE }
     requires goes_on { GoesOn line.now }
     ensures { IsAnswer Gps line.now result }
 {
@@ -146,7 +149,7 @@ pub struct ObsTaker {
     alloc: Global,
     taken: u32,
     source: Source,
-    ghost few: { taken ≤ 67108864 },
+    ghost few: { taken ≤ MAX_FILE },
     ghost kept: { IsKeptOf source taken } by { IsKeptOf-prop source taken },
 }
 
@@ -167,7 +170,8 @@ impl ObsTaker {
     /// The observation file that the text taken stands for, or the first place at which it stands for none: the same for
     /// all texts for which the taker stands, however they were cut.
     pub fn finish(self) -> Result<ObsFile, TextFault>
-        ensures answers { (text : List ℕ) → ⟦<ObsTaker as Taker>⟧.stands_for self text → IsAnswer Gps text result }
+        ensures answers { (text : List ℕ) → ⟦<ObsTaker as Taker>⟧.stands_for self text →
+            IsAnswer Gps text result }
         ensures no_memory { HasNoMemory self.source → result ≡ Err TextFault.NoMemory }
     {
         let alloc = self.alloc;
@@ -190,9 +194,10 @@ impl Taker for ObsTaker {
 
     /// Takes the next piece. After running out of memory it answers so again, and so does `finish`.
     fn take(&mut self, piece: &[u8]) -> Result<(), AllocError>
-        requires { self.old.taken + length piece.now ≤ 67108864 }
+        requires { self.old.taken + length piece.now ≤ MAX_FILE }
         ensures counted { OnOk result (self.new.taken ≡ self.old.taken + length piece.now) }
-        ensures stands { OnOk result ((text : List ℕ) → StandsForText self.old.source text → StandsForText self.new.source (text ++ piece.now)) }
+        ensures stands { OnOk result ((text : List ℕ) → StandsForText self.old.source text →
+            StandsForText self.new.source (text ++ piece.now)) }
         ensures no_memory { OnErr result (HasNoMemory self.new.source) }
         ensures again { HasNoMemory self.old.source → IsErr result }
     {

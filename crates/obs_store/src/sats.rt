@@ -108,7 +108,8 @@ impl Satellites {
         requires from_first { 1 ≤ number }
         requires to_last { number ≤ 36 }
         requires once { has_satellite number self.old ≡ false }
-        ensures added { OnOk result (self.new ≡ self.old ++ record { number = number; values = values.now } ∷ []) }
+        ensures added { OnOk result
+            (self.new ≡ self.old ++ record { number = number; values = values.now } ∷ []) }
         ensures unchanged { OnErr result (self.new ≡ self.old) }
     {
         let stored = values.as_slice();

@@ -75,8 +75,10 @@ fn later<'a>(
     one: &'a StoredValue,
     slot: usize,
 ) -> Option<&'a StoredValue>
-    ensures put { slot_of one.now.kind ≡ slot → option_map value_in (option_copied result) ≡ Some (value_in one.now) }
-    ensures kept { slot_of one.now.kind ≢ slot → option_map value_in (option_copied result) ≡ option_map value_in (option_copied found.entry) }
+    ensures put { slot_of one.now.kind ≡ slot →
+        option_map value_in (option_copied result) ≡ Some (value_in one.now) }
+    ensures kept { slot_of one.now.kind ≢ slot → option_map value_in (option_copied result)
+        ≡ option_map value_in (option_copied found.entry) }
 {
     if one.kind.slot() == slot {
         Some(one)

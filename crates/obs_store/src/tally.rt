@@ -50,8 +50,10 @@ impl Tally {
     fn add(&mut self, number: u8) -> Result<(), AllocError>
         requires inside { number ≤ 36 }
         requires few { slice_index self.old.counts number ≤ 20_000 }
-        ensures order { OnOk result (self.new.order.items ≡ with_number (slice_index self.old.counts number) number self.old.order.items) }
-        ensures counts { OnOk result (self.new.counts ≡ slice_set self.old.counts number (slice_index self.old.counts number + 1)) }
+        ensures order { OnOk result (self.new.order.items
+            ≡ with_number (slice_index self.old.counts number) number self.old.order.items) }
+        ensures counts { OnOk result (self.new.counts
+            ≡ slice_set self.old.counts number (slice_index self.old.counts number + 1)) }
     {
         let before = self.counts[number as usize];
         if before == 0 {
@@ -66,7 +68,8 @@ impl Tally {
         requires kept { AreEpochs epochs.now }
         requires inside { at < length epochs.now }
         requires before { IsCountOf (take at epochs.now) self.old.order.items self.old.counts }
-        ensures { OnOk result (IsCountOf (take (at + 1) epochs.now) self.new.order.items self.new.counts) }
+        ensures { OnOk result
+            (IsCountOf (take (at + 1) epochs.now) self.new.order.items self.new.counts) }
     {
         let sats = &epochs[at].sats;
         for place in 0..sats.len() {
@@ -79,7 +82,8 @@ impl Tally {
     fn entries(&self, alloc: Global) -> Result<IndexMap<u8, u32>, AllocError>
         requires inside { All (λ n. n ≤ 36) self.now.order.items }
         requires once { IsDistinct nat_eq self.now.order.items }
-        ensures { IfOk result (λ seen. seen.entries ≡ numbered self.now.counts self.now.order.items) }
+        ensures { IfOk result (λ seen.
+            seen.entries ≡ numbered self.now.counts self.now.order.items) }
     {
         let mut seen = IndexMap::new(alloc);
         for place in 0..self.order.len() {

@@ -22,7 +22,8 @@ impl<'a> Model for SatView<'a> {
 
     ghost Value = { SatObs };
 
-    ghost view = { λ s. record { number = s.number; values = values_with missing_values s.values.now } };
+    ghost view = { λ s.
+        record { number = s.number; values = values_with missing_values s.values.now } };
 }
 
 impl<'a> SatView<'a> {

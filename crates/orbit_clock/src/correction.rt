@@ -148,8 +148,10 @@ impl Terms {
         requires near { abs_diff tag.0 made.now.eph.toe.0 ≤ 72010000000 }
         requires code_low { pos 0 ≤ℤ code }
         requires code_high { code ≤ℤ pos (10 ^ 11) }
-        requires sent { Holds sent.now.held (part (sent_at tag.0 code -ʳ seconds made.now.eph.toe.0)) }
-        ensures { (share : Rational) → IsAtMostInSize (two_to_minus 44) share → HoldsTerms result (with_share (elements_of made.now.eph) share) (sent_at tag.0 code) }
+        requires sent { Holds sent.now.held
+            (part (sent_at tag.0 code -ʳ seconds made.now.eph.toe.0)) }
+        ensures { (share : Rational) → IsAtMostInSize (two_to_minus 44) share →
+            HoldsTerms result (with_share (elements_of made.now.eph) share) (sent_at tag.0 code) }
     {
         Terms {
             bias: made.bias,
@@ -181,11 +183,13 @@ pub fn pass<
     requires time { SHARE_WIDTH + 1 ≤ TIME_WIDTH }
     requires aged { AGING * TIME_WIDTH + TIME * 1 + 2 * 2 ^ 60 ≤ (AGED_WIDTH + 1) * 2 ^ 60 }
     requires slope { AGED_WIDTH + 1 ≤ SLOPE_WIDTH }
-    requires turn { TIME * SLOPE_WIDTH + SLOPE * TIME_WIDTH + 2 * 2 ^ 60 ≤ (TURN_WIDTH + 1) * 2 ^ 60 }
+    requires turn { TIME * SLOPE_WIDTH + SLOPE * TIME_WIDTH + 2 * 2 ^ 60
+        ≤ (TURN_WIDTH + 1) * 2 ^ 60 }
     requires sum { TURN_WIDTH + 3 ≤ SUM_WIDTH }
     requires width { SUM_WIDTH + EFFECT_WIDTH ≤ TO_WIDTH }
     ensures { (eph : Elements) (sent x y : Rational) → HoldsTerms terms.now eph sent →
-        Holds clock.now.held x → Holds effect.now.held y → Holds result.held (correction eph sent x y) }
+        Holds clock.now.held x → Holds effect.now.held y →
+        Holds result.held (correction eph sent x y) }
 {
     let share: SizedBox<60, SHARE, SHARE_WIDTH> = share_of(clock);
     let time: SizedBox<60, TIME, TIME_WIDTH> = terms.offset.sub(&share);

@@ -50,19 +50,24 @@ pub struct ClockRecord {
     pub motion: SizedBox<60, MOTION, MOTION_WIDTH>,
     /// F e √A, in s
     pub relativity: SizedBox<60, RELATIVITY, 2>,
-    pub ghost bias_in: { (share : Rational) → IsAtMostInSize (two_to_minus 44) share → Holds bias.held (with_share (elements_of eph) share).af0 },
+    pub ghost bias_in: { (share : Rational) → IsAtMostInSize (two_to_minus 44) share →
+        Holds bias.held (with_share (elements_of eph) share).af0 },
     pub ghost drift_in: { Holds drift.held (times (10 ^ 4) (elements_of eph).af1) },
     pub ghost aging_in: { Holds aging.held (times (10 ^ 8) (elements_of eph).af2) },
     pub ghost eccentricity_in: { Holds eccentricity.held (elements_of eph).ecc },
     pub ghost eccentricity_low: { pos 0 ≤ℤ eccentricity.held.lo },
     pub ghost start_in: { Holds start.held (elements_of eph).m0 },
-    pub ghost motion_in: { (sent : Rational) (q : Quantities) → IsNearSolution (constants_of world) (elements_of eph) sent q → Holds motion.held (times 10000 q.motion) },
-    pub ghost relativity_in: { Holds relativity.held ((constants_of world).relativity *ʳ (elements_of eph).ecc *ʳ (elements_of eph).root_a) },
+    pub ghost motion_in: { (sent : Rational) (q : Quantities) →
+        IsNearSolution (constants_of world) (elements_of eph) sent q →
+        Holds motion.held (times 10000 q.motion) },
+    pub ghost relativity_in: { Holds relativity.held
+        ((constants_of world).relativity *ʳ (elements_of eph).ecc *ʳ (elements_of eph).root_a) },
 }
 
 // F e √A, in s
 fn relativity(eph: &Eph, world: &World) -> SizedBox<60, RELATIVITY, 2>
-    ensures { Holds result.held ((constants_of world.now).relativity *ʳ (elements_of eph.now).ecc *ʳ (elements_of eph.now).root_a) }
+    ensures { Holds result.held ((constants_of world.now).relativity *ʳ (elements_of eph.now).ecc *ʳ
+        (elements_of eph.now).root_a) }
 {
     let factor: SizedBox<60, FACTOR, 1> = factor_of(world);
     let by_root: SizedBox<60, BY_ROOT, 6_002> = factor.mul(&root_of_axis(eph));
@@ -79,7 +84,8 @@ fn factor_of(world: &World) -> SizedBox<60, FACTOR, 1>
 
 // A unit wider on both sides
 fn widened(bias: &SizedBox<60, OWN_BIAS, 1>) -> SizedBox<60, BIAS, 3>
-    ensures { (x y : Rational) → Holds bias.now.held x → IsAtMostInSize (of_scale 60 (pos 1)) y → Holds result.held (x +ʳ y) }
+    ensures { (x y : Rational) → Holds bias.now.held x → IsAtMostInSize (of_scale 60 (pos 1)) y →
+        Holds result.held (x +ʳ y) }
 {
     SizedBox::new(Iv::from_ends(bias.held.lo() - 1, bias.held.hi() + 1))
 }
@@ -92,7 +98,8 @@ fn mantissa_of(number: &Dec) -> i64
 
 // af0 and each share of af2 that a near solution has. Where af2 is 0 it is no wider than af0's own box.
 fn bias_of(eph: &Eph) -> SizedBox<60, BIAS, 3>
-    ensures { (share : Rational) → IsAtMostInSize (two_to_minus 44) share → Holds result.held (with_share (elements_of eph.now) share).af0 }
+    ensures { (share : Rational) → IsAtMostInSize (two_to_minus 44) share →
+        Holds result.held (with_share (elements_of eph.now) share).af0 }
 {
     let own = decimal_box::<60, 1, 2, 0, OWN_BIAS>(eph.af0);
     let aging = mantissa_of(&eph.af2);

@@ -68,7 +68,8 @@ pub fn root_of_axis(eph: &Eph) -> SizedBox<48, ROOT, 1>
 
 /// The semi-major axis, in metres.
 pub fn axis(eph: &Eph) -> SizedBox<36, AXIS, 4>
-    ensures holds { (x : Rational) → x ≈ (elements_of eph.now).root_a *ʳ (elements_of eph.now).root_a → Holds result.held x }
+    ensures holds { (x : Rational) →
+        x ≈ (elements_of eph.now).root_a *ʳ (elements_of eph.now).root_a → Holds result.held x }
     ensures least { pos (20249999 * 2 ^ 36) ≤ℤ result.held.lo }
 {
     root_of_axis(eph).square()
@@ -76,7 +77,8 @@ pub fn axis(eph: &Eph) -> SizedBox<36, AXIS, 4>
 
 // A √A
 fn cube(eph: &Eph) -> SizedBox<24, CUBE, 10>
-    ensures holds { (x : Rational) → x ≈ (elements_of eph.now).root_a *ʳ (elements_of eph.now).root_a →
+    ensures holds { (x : Rational) →
+        x ≈ (elements_of eph.now).root_a *ʳ (elements_of eph.now).root_a →
         Holds result.held (x *ʳ (elements_of eph.now).root_a) }
     ensures least { pos (91124999999 * 2 ^ 24) ≤ℤ result.held.lo }
 {
@@ -103,7 +105,8 @@ fn root_of_mu(world: &World) -> SizedBox<36, ROOT_OF_MU, 3>
 
 /// The corrected mean motion, in 10^-4 rad/s.
 pub fn mean_motion(eph: &Eph, world: &World) -> SizedBox<60, MOTION, MOTION_WIDTH>
-    ensures { (sent : Rational) (q : Quantities) → IsNearSolution (constants_of world.now) (elements_of eph.now) sent q →
+    ensures { (sent : Rational) (q : Quantities) →
+        IsNearSolution (constants_of world.now) (elements_of eph.now) sent q →
         Holds result.held (times 10000 q.motion) }
 {
     let tens: SizedBox<24, TENS, 9> = root_of_mu(world).mul(&ten_thousand());

@@ -59,7 +59,8 @@ fn time_at<const WIDTH: u64>(
     clock: &SizedBox<60, CLOCK, WIDTH>,
 ) -> SizedBox<60, EPOCH_TIME, 3>
     requires { WIDTH ≤ 10000 }
-    ensures { (s x : Rational) → Holds sent.now.held s → Holds clock.now.held x → Holds result.held (s -ʳ part x) }
+    ensures { (s x : Rational) → Holds sent.now.held s → Holds clock.now.held x →
+        Holds result.held (s -ʳ part x) }
 {
     let share: SizedBox<60, SHARE, 2> = share_of(clock);
     sent.sub(&share)
@@ -80,7 +81,8 @@ fn sine_near(
     eccentricity: &SizedBox<60, ECCENTRICITY, 1>,
 ) -> SizedBox<60, SINE, SINE_WIDTH>
     requires { pos 0 ≤ℤ eccentricity.now.held.lo }
-    ensures { (m e x c s : Rational) → IsNearBox 56 mean.now.held.lo mean.now.held.hi (two_to_minus 35) m →
+    ensures { (m e x c s : Rational) →
+        IsNearBox 56 mean.now.held.lo mean.now.held.hi (two_to_minus 35) m →
         Holds eccentricity.now.held e → SolvesKepler m e x c s → Holds result.held s }
 {
     let sine = quick_anomaly_box(&mean.held, &eccentricity.held).sin;
@@ -91,8 +93,10 @@ fn sine_near(
 fn middle_of(clock: &SizedBox<60, CLOCK, FIRST_WIDTH>) -> i64
     ensures low { clock.now.held.lo ≤ℤ result }
     ensures high { result ≤ℤ clock.now.held.hi }
-    ensures above { ((clock.now.held.hi -ℤ result) +ℤ (clock.now.held.hi -ℤ result)) ≤ℤ pos 224698263229 }
-    ensures below { ((result -ℤ clock.now.held.lo) +ℤ (result -ℤ clock.now.held.lo)) ≤ℤ pos 224698263229 }
+    ensures above { ((clock.now.held.hi -ℤ result) +ℤ (clock.now.held.hi -ℤ result))
+        ≤ℤ pos 224698263229 }
+    ensures below { ((result -ℤ clock.now.held.lo) +ℤ (result -ℤ clock.now.held.lo))
+        ≤ℤ pos 224698263229 }
 {
     middle_between(clock.held.lo(), clock.held.hi())
 }
@@ -115,7 +119,8 @@ fn any_clock() -> SizedBox<60, CLOCK, 36_028_797_018_963_968>
 
 // All relativistic terms
 fn any_effect() -> SizedBox<60, EFFECT, 220_000_000_000>
-    ensures { (x : Rational) → IsAtMostInSize (of_scale 60 (pos 110000000000)) x → Holds result.held x }
+    ensures { (x : Rational) → IsAtMostInSize (of_scale 60 (pos 110000000000)) x →
+        Holds result.held x }
 {
     SizedBox::new(Iv::from_ends(-110_000_000_000, 110_000_000_000))
 }
@@ -126,9 +131,12 @@ fn effect_of(
     sent: &SizedBox<60, SENT, 1>,
     first: &SizedBox<60, CLOCK, FIRST_WIDTH>,
 ) -> SizedBox<60, EFFECT, EFFECT_WIDTH>
-    ensures { (s : Rational) (q : Quantities) → IsNearSolution (constants_of made.now.world) (elements_of made.now.eph) s q →
-        Holds sent.now.held (part (s -ʳ (elements_of made.now.eph).toe)) → Holds first.now.held q.clock →
-        Holds result.held ((constants_of made.now.world).relativity *ʳ (elements_of made.now.eph).ecc *ʳ (elements_of made.now.eph).root_a *ʳ q.eccentric_pair.sin) }
+    ensures { (s : Rational) (q : Quantities) →
+        IsNearSolution (constants_of made.now.world) (elements_of made.now.eph) s q →
+        Holds sent.now.held (part (s -ʳ (elements_of made.now.eph).toe)) →
+        Holds first.now.held q.clock → Holds result.held
+        ((constants_of made.now.world).relativity *ʳ (elements_of made.now.eph).ecc *ʳ
+        (elements_of made.now.eph).root_a *ʳ q.eccentric_pair.sin) }
 {
     let time = time_at(sent, &clock_at(middle_of(first)));
     let mean = mean_anomaly(made, &time);
@@ -142,7 +150,8 @@ pub fn timing_at(made: &ClockRecord, tag: Tick, code: i64) -> Timing
     requires near { abs_diff tag.0 made.now.eph.toe.0 ≤ 72010000000 }
     requires code_low { pos 0 ≤ℤ code }
     requires code_high { code ≤ℤ pos (10 ^ 11) }
-    ensures { (q : Quantities) → IsNearSolution (constants_of made.now.world) (elements_of made.now.eph) (sent_at tag.0 code) q → HoldsTiming result q }
+    ensures { (q : Quantities) → IsNearSolution (constants_of made.now.world)
+        (elements_of made.now.eph) (sent_at tag.0 code) q → HoldsTiming result q }
 {
     let sent = time_since::<72_010_000_000, SENT>(made.eph.toe, tag, code);
     let terms = Terms::of(made, tag, code, &sent);

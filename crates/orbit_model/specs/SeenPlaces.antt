@@ -1,7 +1,10 @@
 -- Where a receiver sees a satellite, over rationals: metres and seconds, in the Earth-fixed frame of the moment of reception.
-use Rattle.std.specs.Prelude.{ℕ, ◌*◌, ◌^◌, ℤ, pos, ◌⊎◌}
+use Rattle.std.specs.Prelude.{ℕ, ◌*◌, ◌^◌, ℤ, pos, ◌⊎◌, List, [], ◌∷◌, slice_index_or}
+use Rattle.std.specs.List.{AllZip}
 use Rattle.std.proofs.Common.{lit<}
 use Rattle.rational.specs.Rational.{Rational, ◌≈◌, ◌≤ʳ◌, ◌<ʳ◌, of_whole, ◌+ʳ◌, ◌-ʳ◌, ◌*ʳ◌, divided, IsNearRoot}
+use Rattle.iv_core.specs.declared.Iv.{Iv}
+use Rattle.iv_core.specs.Intervals.{Holds}
 use Rattle.trig_box.specs.AnglePairs.{Pair, IsAnglePair}
 use Rattle.orbit_model.specs.Elements.{earth_rate}
 use Rattle.orbit_model.specs.Solution.{Quantities}
@@ -14,6 +17,10 @@ pub record Place : Type 0 where
 -- the place from which a solution's satellite sent
 abbrev pub sent_place : Quantities → Place
 sent_place q = record { x = q.x; y = q.y; z = q.z }
+
+-- each coordinate lies in its box
+abbrev pub HoldsPlace : List (Iv 36) → Place → Type 0
+HoldsPlace boxes p = AllZip (λ b q. Holds b q) boxes (p.x ∷ p.y ∷ p.z ∷ [])
 
 abbrev pub difference : Place → Place → Place
 difference p q = record { x = p.x -ʳ q.x; y = p.y -ʳ q.y; z = p.z -ʳ q.z }
@@ -32,6 +39,10 @@ HasLengthBetween least most p = (of_whole (pos (least * least)) ≤ʳ square p) 
 -- a point whose coordinates are given in units of 0.1 mm
 abbrev pub point_of : ℤ → ℤ → ℤ → Place
 point_of a b c = record { x = divided (of_whole a) 10000 (lit< tt); y = divided (of_whole b) 10000 (lit< tt); z = divided (of_whole c) 10000 (lit< tt) }
+
+-- the same of a list of the three
+abbrev pub place_at : List ℤ → Place
+place_at p = point_of (slice_index_or p 0 (pos 0)) (slice_index_or p 1 (pos 0)) (slice_index_or p 2 (pos 0))
 
 -- ---- the seen place
 -- q / c², c the speed of light in m/s

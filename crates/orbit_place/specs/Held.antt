@@ -1,8 +1,6 @@
 -- What the boxes of an orbit and of a place hold.
-use Rattle.std.specs.Prelude.{List, [], ◌∷◌}
 use Rattle.std.proofs.Common.{lit<}
 use Rattle.rational.specs.Rational.{Rational, ◌-ʳ◌, ◌*ʳ◌, times, divided}
-use Rattle.iv_core.specs.declared.Iv.{Iv}
 use Rattle.iv_core.specs.Intervals.{Holds}
 use Rattle.orbit_model.specs.Elements.{Elements, Constants, earth_rate}
 use Rattle.trig_box.specs.AnglePairs.{Pair}
@@ -32,11 +30,3 @@ pub record HoldsOrbit (b : Orbit) (eph : Elements) (q : Quantities) : Type 0 whe
 -- P holds of the quantities of every solution whose numbers lie in the boxes
 abbrev pub ForSolutions : Orbit → (Quantities → Type 0) → Type 0
 ForSolutions b P = (world : Constants) (eph : Elements) (sent : Rational) (q : Quantities) → HoldsOrbit b eph q → IsSatelliteSolution world eph sent q → P q
-
--- each coordinate lies in its box
-abbrev pub HoldsPlace : List (Iv 36) → Quantities → Type 0
-HoldsPlace [] q = ⊥
-HoldsPlace (a ∷ []) q = ⊥
-HoldsPlace (a ∷ b ∷ []) q = ⊥
-HoldsPlace (a ∷ b ∷ c ∷ []) q = Holds a q.x × Holds b q.y × Holds c q.z
-HoldsPlace (a ∷ b ∷ c ∷ d ∷ more) q = ⊥

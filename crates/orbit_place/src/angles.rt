@@ -68,7 +68,8 @@ fn earth_rate() -> SizedBox<60, EARTH_RATE, 1>
 
 /// The rate of the node less the Earth's, in 10^-4 rad/s.
 pub fn relative_rate(rate: &SizedBox<60, SMALL, 1>) -> SizedBox<60, RELATIVE_RATE, 2>
-    ensures { (r : Rational) → Holds rate.now.held r → Holds result.held (r -ʳ times 10000 earth_rate) }
+    ensures { (r : Rational) → Holds rate.now.held r →
+        Holds result.held (r -ʳ times 10000 earth_rate) }
 {
     rate.sub(&earth_rate())
 }
@@ -89,8 +90,8 @@ fn longitude_of(
     time: &SizedBox<60, EPOCH_TIME, 3>,
     earth_turn: &SizedBox<56, EARTH_TURN, 1>,
 ) -> SizedBox<56, LONGITUDE, LONGITUDE_WIDTH>
-    ensures holds { (n r t w : Rational) → Holds start.now.held n → Holds rate.now.held r → Holds time.now.held t →
-        Holds earth_turn.now.held w → Holds result.held (n +ʳ r *ʳ t -ʳ w) }
+    ensures holds { (n r t w : Rational) → Holds start.now.held n → Holds rate.now.held r →
+        Holds time.now.held t → Holds earth_turn.now.held w → Holds result.held (n +ʳ r *ʳ t -ʳ w) }
 {
     let drift: SizedBox<56, DRIFT, 2> = rate.mul(time);
     let drifted: SizedBox<56, DRIFTED, 3> = start.add(&drift);
@@ -102,8 +103,8 @@ pub fn inclination_of(
     orbit: &Orbit,
     twice: &Rotation<9, TWICE_WIDTH>,
 ) -> Rotation<1, INCLINATION_WIDTH>
-    ensures holds { ForSolutions orbit.now (λ q. HoldsBoth twice.now.cos twice.now.sin q.twice_pair →
-        HoldsBoth result.cos result.sin q.inclination_pair) }
+    ensures holds { ForSolutions orbit.now (λ q. HoldsBoth twice.now.cos twice.now.sin
+        q.twice_pair → HoldsBoth result.cos result.sin q.inclination_pair) }
 {
     let change = angle_change(&orbit.cis, &orbit.cic, twice);
     let angle = inclined(

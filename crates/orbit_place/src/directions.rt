@@ -42,7 +42,8 @@ pub fn direction_of(
     node: &Rotation<4, NODE_WIDTH>,
 ) -> Direction
     ensures holds { (u i n : Pair) → HoldsBoth latitude.now.cos latitude.now.sin u →
-        HoldsBoth inclination.now.cos inclination.now.sin i → HoldsBoth node.now.cos node.now.sin n →
+        HoldsBoth inclination.now.cos inclination.now.sin i →
+        HoldsBoth node.now.cos node.now.sin n →
         HoldsPoint result.x.held result.y.held result.z.held (direction u i n) }
 {
     let (ahead, aside) = (latitude.cosine(), latitude.sine());

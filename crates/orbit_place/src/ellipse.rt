@@ -61,9 +61,10 @@ pub struct OnEllipse {
 pub struct Shape {
     pub eccentricity: SizedBox<60, ECCENTRICITY, 1>,
     pub root: SizedBox<60, SIZE, REST_WIDTH>,
-    pub ghost root_in: { (e w : Rational) → Holds eccentricity.held e → IsNearRoot w (one -ʳ e *ʳ e) → Holds root.held w },
-    pub ghost root_near: { (e : Rational) → Holds eccentricity.held e →
-        AreWithin (two_to_minus 50) (of_scale 60 root.held.lo *ʳ of_scale 60 root.held.lo) (one -ʳ e *ʳ e) },
+    pub ghost root_in: { (e w : Rational) → Holds eccentricity.held e →
+        IsNearRoot w (one -ʳ e *ʳ e) → Holds root.held w },
+    pub ghost root_near: { (e : Rational) → Holds eccentricity.held e → AreWithin (two_to_minus 50)
+        (of_scale 60 root.held.lo *ʳ of_scale 60 root.held.lo) (one -ʳ e *ʳ e) },
 }
 
 impl Shape {
@@ -111,10 +112,10 @@ fn rest_of(eccentricity: &SizedBox<60, ECCENTRICITY, 1>) -> Iv<60>
 
 // Near-roots of 1 - e²; the lower end is one of them, but for 2^-50
 fn root_of_rest(eccentricity: &SizedBox<60, ECCENTRICITY, 1>) -> SizedBox<60, SIZE, REST_WIDTH>
-    ensures holds { (e w : Rational) → Holds eccentricity.now.held e → IsNearRoot w (one -ʳ e *ʳ e) →
-        Holds result.held w }
-    ensures near { (e : Rational) → Holds eccentricity.now.held e →
-        AreWithin (two_to_minus 50) (of_scale 60 result.held.lo *ʳ of_scale 60 result.held.lo) (one -ʳ e *ʳ e) }
+    ensures holds { (e w : Rational) → Holds eccentricity.now.held e →
+        IsNearRoot w (one -ʳ e *ʳ e) → Holds result.held w }
+    ensures near { (e : Rational) → Holds eccentricity.now.held e → AreWithin (two_to_minus 50)
+        (of_scale 60 result.held.lo *ʳ of_scale 60 result.held.lo) (one -ʳ e *ʳ e) }
 {
     SizedBox::new(rest_of(eccentricity).root_to::<60>())
 }

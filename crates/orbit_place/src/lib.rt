@@ -28,7 +28,8 @@ ghost use Rattle.std.specs.Prelude.{◌≡◌, ◌^◌, pos, ◌≤ℤ◌, [], �
 ghost use Rattle.iv_core.specs.declared.Iv.{Iv};
 ghost use Rattle.iv_core.specs.Intervals.{width_of};
 ghost use Rattle.orbit_model.specs.Places.{IsBetweenDistances};
-ghost use Rattle.orbit_place.specs.Held.{ForSolutions, HoldsPlace};
+ghost use Rattle.orbit_model.specs.SeenPlaces.{HoldsPlace, sent_place};
+ghost use Rattle.orbit_place.specs.Held.{ForSolutions};
 
 pub use angles::{EARTH_TURN, RELATIVE_RATE, earth_turn, relative_rate};
 use angles::{inclination_of, node_of};
@@ -52,9 +53,10 @@ const PLACE_WIDTH: u64 = 68_155;
 ///
 /// Each coordinate is at most 2^-18 m wide, and every place in the box is from 19,000 km to 38,000 km from the Earth's centre.
 pub fn place_of(orbit: &Orbit) -> [Iv<36>; 3]
-    ensures holds { ForSolutions orbit.now (HoldsPlace result) }
+    ensures holds { ForSolutions orbit.now (λ q. HoldsPlace result (sent_place q)) }
     ensures narrow { All (λ b. width_of b ≤ℤ pos (2 ^ 18)) result }
-    ensures away { (a b c : Iv 36) → result ≡ a ∷ b ∷ c ∷ [] → IsBetweenDistances 19000000 38000000 a b c }
+    ensures away { (a b c : Iv 36) → result ≡ a ∷ b ∷ c ∷ [] →
+        IsBetweenDistances 19000000 38000000 a b c }
 {
     let plane = in_plane(orbit);
     let inclination = inclination_of(orbit, &plane.twice);

@@ -132,8 +132,10 @@ fn radius_of(
 /// The place in the plane of the orbit.
 pub fn in_plane(orbit: &Orbit) -> InPlane
     ensures radius { ForSolutions orbit.now (λ q. Holds result.radius.held q.radius) }
-    ensures latitude { ForSolutions orbit.now (λ q. HoldsBoth result.latitude.cos result.latitude.sin q.corrected_pair) }
-    ensures twice { ForSolutions orbit.now (λ q. HoldsBoth result.twice.cos result.twice.sin q.twice_pair) }
+    ensures latitude { ForSolutions orbit.now (λ q.
+        HoldsBoth result.latitude.cos result.latitude.sin q.corrected_pair) }
+    ensures twice { ForSolutions orbit.now (λ q.
+        HoldsBoth result.twice.cos result.twice.sin q.twice_pair) }
 {
     let ellipse = on_ellipse(&orbit.shape, &orbit.anomaly);
     let argument = latitude_of(&ellipse.true_anomaly, &orbit.perigee);

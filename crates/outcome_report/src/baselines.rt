@@ -74,7 +74,8 @@ pub fn push_place(
     requires point { IsPoint point.now }
     requires base { IsPoint base.now }
     requires moved { All (IsBelow (2 ^ 46)) moved.now }
-    ensures { OnOk result (text.new.items ≡ text.old.items ++ place_line words.now (baseline_of point.now base.now moved.now)) }
+    ensures { OnOk result (text.new.items
+        ≡ text.old.items ++ place_line words.now (baseline_of point.now base.now moved.now)) }
 {
     let lengths = baseline_of(point, base, moved);
     text.extend_from_slice(words.as_bytes())?;

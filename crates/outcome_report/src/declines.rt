@@ -21,7 +21,8 @@ fn push_overwidth(
     stage: Stage,
     place: Place,
 ) -> Result<(), AllocError>
-    ensures { OnOk result (text.new.items ≡ text.old.items ++ early_text stage (Tail.Overwidth place)) }
+    ensures { OnOk result
+        (text.new.items ≡ text.old.items ++ early_text stage (Tail.Overwidth place)) }
 {
     let word = stage_word(stage);
     let why = format!(in alloc; "overwidth {word} ")?;

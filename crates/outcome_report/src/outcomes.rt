@@ -30,7 +30,8 @@ fn push_early_line(
     stage: Stage,
     tail: &Tail,
 ) -> Result<(), AllocError>
-    ensures { OnOk result (text.new.items ≡ text.old.items ++ answer_text (Answer.Early stage tail.now)) }
+    ensures { OnOk result
+        (text.new.items ≡ text.old.items ++ answer_text (Answer.Early stage tail.now)) }
 {
     text.extend_from_slice(b"declined ")?;
     push_early(alloc, text, stage, tail)?;
@@ -115,7 +116,8 @@ fn push_fixed(
 
 // Appends what was decided on the rows of a session.
 fn push_decided(alloc: Global, text: &mut Vec<u8>, cert: &Cert) -> Result<(), AllocError>
-    ensures { OnOk result (text.new.items ≡ text.old.items ++ tail_text cert.now.session cert.now.tail) }
+    ensures { OnOk result
+        (text.new.items ≡ text.old.items ++ tail_text cert.now.session cert.now.tail) }
 {
     match &cert.tail {
         Tail::Fixed { moved, .. } => push_fixed(alloc, text, &cert.session, moved),

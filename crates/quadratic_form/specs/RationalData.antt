@@ -1,5 +1,6 @@
 -- The sum of squares over rational data, rational baselines and whole integers: what the proofs are about.
 use Rattle.std.specs.Prelude.{◌≡◌, ◌^◌, List, [], ◌∷◌, ℤ, pos}
+use Rattle.std.specs.List.{AllZip}
 use Rattle.std.proofs.Common.{pow_pos}
 use Rattle.rational.specs.Rational.{Near, Rational, ◌<ʳ◌, of_whole, ◌+ʳ◌, ◌-ʳ◌, ◌*ʳ◌}
 use Rattle.quadratic_form.specs.Rows.{SignalRow, WholeBaseline, SignalGroup, share}
@@ -22,16 +23,10 @@ InBoxes r q = Near r.u1 r.ru1 q.u1 × Near r.u2 r.ru2 q.u2 × Near r.u3 r.ru3 q.
 
 -- data for each row, in its boxes
 abbrev pub Fits : List SignalRow → List RowData → Type 0
-Fits [] [] = Unit {0}
-Fits [] (q ∷ qs) = ⊥
-Fits (r ∷ rs) [] = ⊥
-Fits (r ∷ rs) (q ∷ qs) = InBoxes r q × Fits rs qs
+Fits rs qs = AllZip InBoxes rs qs
 
 abbrev pub FitsAll : List SignalGroup → List (List RowData) → Type 0
-FitsAll [] [] = Unit {0}
-FitsAll [] (q ∷ qs) = ⊥
-FitsAll (g ∷ gs) [] = ⊥
-FitsAll (g ∷ gs) (q ∷ qs) = Fits g.rows q × FitsAll gs qs
+FitsAll gs qs = AllZip (λ g q. Fits g.rows q) gs qs
 
 -- y - u·b + cycles·z
 abbrev pub residual : List ℤ → Baseline → SignalRow → RowData → Rational

@@ -1,5 +1,6 @@
 -- Rows, the data that lie in their boxes, the sum of squares over the data, and the normal form of the rows.
 use Rattle.std.specs.Prelude.{ℕ, suc, ◌≡◌, ◌/◌, ◌^◌, ◌<◌, ◌≤◌, List, [], ◌∷◌, ◌++◌, length, ℤ, pos, negsuc, ◌+ℤ◌, ◌-ℤ◌, ◌*ℤ◌, neg_ℤ, ◌≤ℤ◌}
+use Rattle.std.specs.List.{AllZip}
 use Rattle.whole_math.specs.Bounds.{Within}
 use Rattle.quadratic_form.specs.Forms.{Column, quad, plus, times, outer}
 use Rattle.quadratic_form.specs.Elimination.{rounded}
@@ -43,16 +44,10 @@ pub record WholeInBoxes (d : ℤ) (r : SignalRow) (t : WholeData) : Type 0 where
   pub y : Within (d *ℤ r.ry) (t.y -ℤ (d *ℤ r.y))
 
 abbrev pub WholeFits : ℤ → List SignalRow → List WholeData → Type 0
-WholeFits d [] [] = Unit {0}
-WholeFits d [] (t ∷ ts) = ⊥
-WholeFits d (r ∷ rs) [] = ⊥
-WholeFits d (r ∷ rs) (t ∷ ts) = WholeInBoxes d r t × WholeFits d rs ts
+WholeFits d rs ts = AllZip (WholeInBoxes d) rs ts
 
 abbrev pub WholeFitsAll : ℤ → List SignalGroup → List (List WholeData) → Type 0
-WholeFitsAll d [] [] = Unit {0}
-WholeFitsAll d [] (t ∷ ts) = ⊥
-WholeFitsAll d (g ∷ gs) [] = ⊥
-WholeFitsAll d (g ∷ gs) (t ∷ ts) = WholeFits d g.rows t × WholeFitsAll d gs ts
+WholeFitsAll d gs ts = AllZip (λ g t. WholeFits d g.rows t) gs ts
 
 -- d e times the residual, at data over d, a baseline over e and integers z
 abbrev pub whole_residual : ℤ → ℤ → List ℤ → WholeBaseline → SignalRow → WholeData → ℤ

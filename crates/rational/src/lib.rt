@@ -30,8 +30,10 @@ pub fn equality_laws()
     ensures sum { (p q r : Rational) → p ≈ q → p +ʳ r ≈ q +ʳ r }
     ensures product { (p q r : Rational) → p ≈ q → p *ʳ r ≈ q *ʳ r }
     ensures order { (p p' q q' : Rational) → p ≈ p' → q ≈ q' → p ≤ʳ q → p' ≤ʳ q' }
-    ensures boxes { (scale : ℕ) (lo hi : ℤ) (p q : Rational) → p ≈ q → InBox scale lo hi p → InBox scale lo hi q }
-    ensures near { (centre radius : ℤ) (p q : Rational) → p ≈ q → Near centre radius p → Near centre radius q }
+    ensures boxes { (scale : ℕ) (lo hi : ℤ) (p q : Rational) → p ≈ q → InBox scale lo hi p →
+        InBox scale lo hi q }
+    ensures near { (centre radius : ℤ) (p q : Rational) → p ≈ q → Near centre radius p →
+        Near centre radius q }
 {}
 
 /// The laws of sums and products.
@@ -59,14 +61,18 @@ pub fn ordered_ring_laws()
 
 /// A box holds what lies from its one end to the other, so it lies in each wider one.
 pub fn box_laws()
-    ensures ends { (scale : ℕ) (lo hi : ℤ) (q : Rational) → (InBox scale lo hi q) ↔ ((of_scale scale lo ≤ʳ q) × (q ≤ʳ of_scale scale hi)) }
-    ensures wider { (scale : ℕ) (a b lo hi : ℤ) (q : Rational) → lo ≤ℤ a → b ≤ℤ hi → InBox scale a b q → InBox scale lo hi q }
+    ensures ends { (scale : ℕ) (lo hi : ℤ) (q : Rational) →
+        (InBox scale lo hi q) ↔ ((of_scale scale lo ≤ʳ q) × (q ≤ʳ of_scale scale hi)) }
+    ensures wider { (scale : ℕ) (a b lo hi : ℤ) (q : Rational) → lo ≤ℤ a → b ≤ℤ hi →
+        InBox scale a b q → InBox scale lo hi q }
     ensures ordered { (scale : ℕ) (lo hi : ℤ) (q : Rational) → InBox scale lo hi q → lo ≤ℤ hi }
 {}
 
 /// Finitely many rationals have a common denominator, over which sums are those of the numerators.
 pub fn common_denominator_laws()
     ensures exists { (qs : List Rational) → HasCommonDenominator qs }
-    ensures sum { (k m n : ℤ) (p q : Rational) → Over k m p → Over k n q → Over k (m +ℤ n) (p +ʳ q) }
-    ensures product { (j k m n : ℤ) (p q : Rational) → Over j m p → Over k n q → Over (j *ℤ k) (m *ℤ n) (p *ʳ q) }
+    ensures sum { (k m n : ℤ) (p q : Rational) → Over k m p → Over k n q →
+        Over k (m +ℤ n) (p +ʳ q) }
+    ensures product { (j k m n : ℤ) (p q : Rational) → Over j m p → Over k n q →
+        Over (j *ℤ k) (m *ℤ n) (p *ʳ q) }
 {}

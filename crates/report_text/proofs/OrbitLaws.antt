@@ -10,7 +10,7 @@ use Rattle.rational.specs.Rational.{Rational}
 use Rattle.iv_core.specs.declared.Iv.{Iv}
 use Rattle.iv_core.specs.Intervals.{Holds, width_of}
 use Rattle.orbit_model.specs.Solution.{Quantities}
-use Rattle.orbit_place.specs.Held.{HoldsPlace}
+use Rattle.orbit_model.specs.SeenPlaces.{HoldsPlace, sent_place}
 use Rattle.sv_orbit.specs.declared.place.SvBox.{SvBox}
 use Rattle.sv_orbit.specs.Solutions.{HoldsSolution}
 use Rattle.report_text.specs.Orbit.{Ends, ends_of, IsBetweenEnds, AreApart, OrbitNumbers, HoldsQuantities, AreNarrow, AreNumbersOf}
@@ -67,11 +67,11 @@ clock_apart b narrow =
 -- the numbers of a box hold every solution that the box holds
 pub numbers_hold : (b : SvBox) (n : OrbitNumbers) (q : Quantities) → AreNumbersOf b n → HoldsSolution b q → HoldsQuantities n q
 numbers_hold b n q are h =
-    let place : HoldsPlace (are.first ∷ are.second ∷ are.third ∷ []) q = subst (λ (p : List (Iv 36)). HoldsPlace p q) are.place h.place in
+    let place : HoldsPlace (are.first ∷ are.second ∷ are.third ∷ []) (sent_place q) = subst (λ (p : List (Iv 36)). HoldsPlace p (sent_place q)) are.place h.place in
     record {
       x = subst (λ (e : Ends). IsBetweenEnds 6 e q.x) (sym are.x) (ends_hold 6 are.first q.x place.0);
-      y = subst (λ (e : Ends). IsBetweenEnds 6 e q.y) (sym are.y) (ends_hold 6 are.second q.y place.1);
-      z = subst (λ (e : Ends). IsBetweenEnds 6 e q.z) (sym are.z) (ends_hold 6 are.third q.z place.2);
+      y = subst (λ (e : Ends). IsBetweenEnds 6 e q.y) (sym are.y) (ends_hold 6 are.second q.y place.1.0);
+      z = subst (λ (e : Ends). IsBetweenEnds 6 e q.z) (sym are.z) (ends_hold 6 are.third q.z place.1.1.0);
       clock = subst (λ (e : Ends). IsBetweenEnds 15 e q.clock) (sym are.clock) (ends_hold 15 b.clock q.clock h.clock);
     }
 

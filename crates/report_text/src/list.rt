@@ -35,7 +35,8 @@ fn first_tag(epochs: &Epochs) -> Option<Tick>
 }
 
 fn write_tags(alloc: Global, out: &mut Vec<u8>, epochs: &Epochs) -> Result<(), AllocError>
-    ensures { OnOk result (out.new.items ≡ out.old.items ++ tag_lines (first_tag_of epochs.now) (last_tag_of epochs.now)) }
+    ensures { OnOk result (out.new.items
+        ≡ out.old.items ++ tag_lines (first_tag_of epochs.now) (last_tag_of epochs.now)) }
 {
     let Some(first) = first_tag(epochs) else {
         return Ok(());
@@ -64,7 +65,8 @@ fn write_satellite(
 }
 
 fn write_satellites(alloc: Global, out: &mut Vec<u8>, file: &ObsFile) -> Result<(), AllocError>
-    ensures { OnOk result (out.new.items ≡ out.old.items ++ satellite_lines (seen_in file.now.epochs)) }
+    ensures { OnOk result
+        (out.new.items ≡ out.old.items ++ satellite_lines (seen_in file.now.epochs)) }
 {
     let seen = file.seen(alloc)?;
     for (number, count) in seen.iter() {

@@ -33,7 +33,8 @@ fn high_end(end: i64, unit: i64, scale: u32) -> i128
 }
 
 fn write_axis(alloc: Global, out: &mut Vec<u8>, name: &str, held: &Iv<36>) -> Result<(), AllocError>
-    ensures { OnOk result (out.new.items ≡ out.old.items ++ ends_line name.now (ends_of 6 held.now)) }
+    ensures { OnOk result
+        (out.new.items ≡ out.old.items ++ ends_line name.now (ends_of 6 held.now)) }
 {
     let low = low_end(held.lo, MICROMETRES, 36);
     let high = high_end(held.hi, MICROMETRES, 36);
@@ -42,7 +43,8 @@ fn write_axis(alloc: Global, out: &mut Vec<u8>, name: &str, held: &Iv<36>) -> Re
 }
 
 fn write_clock(alloc: Global, out: &mut Vec<u8>, held: &Iv<60>) -> Result<(), AllocError>
-    ensures { OnOk result (out.new.items ≡ out.old.items ++ ends_line (codes "clock") (ends_of 15 held.now)) }
+    ensures { OnOk result
+        (out.new.items ≡ out.old.items ++ ends_line (codes "clock") (ends_of 15 held.now)) }
 {
     let low = low_end(held.lo, FEMTOSECONDS, 60);
     let high = high_end(held.hi, FEMTOSECONDS, 60);
@@ -68,7 +70,8 @@ pub fn write_orbit(
     out: &mut Vec<u8>,
     found: Option<&SvBox>,
 ) -> Result<(), AllocError>
-    ensures { OnOk result (MatchOption found.entry (out.new.items ≡ out.old.items ++ no_record_line) (λ b. AppendsOrbit b.now out.old.items out.new.items)) }
+    ensures { OnOk result (MatchOption found.entry (out.new.items
+        ≡ out.old.items ++ no_record_line) (λ b. AppendsOrbit b.now out.old.items out.new.items)) }
 {
     match found {
         Some(held) => write_box(alloc, out, held),

@@ -33,6 +33,7 @@ use Rattle.obs_fields.specs.declared.header_line.HeaderLine.TheVariants as heade
 use Rattle.rinex2_obs.specs.Obs2Rules.{HeaderSoFar, Expected, First, Head, More, Body, Names, Row, Further, Skip, bare_header, with_types, whole_header, file_of, more_types, more_sats, more_names, more_rows, more_lines, more_slips, with_satellite, admit, obs2_rules}
 use Rattle.rinex2_obs.specs.Obs2Form.{IsObs2File, HasObs2File}
 use Rattle.obs_fields.proofs.FreshNames.{AreApart, fresh, below_fresh, not_listed, a_first_byte, names_counted}
+use Rattle.obs_fields.specs.declared.types.TheConstants.{MOST_TYPES}
 use Rattle.rinex2_obs.proofs.ListedTypes.{Holds, kept}
 use Rattle.rinex2_obs.proofs.Steps.{types_there, rows_due, rows_all}
 use Rattle.rinex2_obs.proofs.FormLaws.{file_given}
@@ -276,7 +277,7 @@ record FreshLine (h : HeaderSoFar) (names : List (List ℕ)) (n : ℕ) : Type 0 
   few : length all + (n - 9) ≤ 200
   admits : admit (More h names n) line ≡ Ok (more_types h all (n - 9))
 
-more_step : (h : HeaderSoFar) (names : List (List ℕ)) (n : ℕ) → length names + n ≤ 200 → FreshLine h names n
+more_step : (h : HeaderSoFar) (names : List (List ℕ)) (n : ℕ) → length names + n ≤ MOST_TYPES → FreshLine h names n
 unfolding padded
 more_step h names n few =
     let first = a_first_byte names (omega (arith, few)) in
@@ -292,7 +293,7 @@ more_step h names n few =
       admits = rw (fresh_line-label byte, taken.1) refl;
     }
 
-more_done : (fuel : ℕ) (h : HeaderSoFar) (names : List (List ℕ)) (n : ℕ) → n ≤ fuel → length names + n ≤ 200 → Completes obs2_rules (more_types h names n)
+more_done : (fuel : ℕ) (h : HeaderSoFar) (names : List (List ℕ)) (n : ℕ) → n ≤ fuel → length names + n ≤ MOST_TYPES → Completes obs2_rules (more_types h names n)
 more_done fuel h names zero le few = head_done (with_types h names)
 more_done zero h names (suc k) le few = absurd (omega (arith, le))
 more_done (suc fuel) h names (suc k) le few =

@@ -22,7 +22,8 @@ pub fn read_epochs(
     kept: &[KeptType],
 ) -> Result<Epochs, TextFault>
     requires { kept.now ≡ kept_of header.now.types }
-    ensures { Gives (rest_gives obs2_rules lines.old (Body header.now [])) (λ epochs. file_of header.now epochs) result }
+    ensures { Gives (rest_gives obs2_rules lines.old (Body header.now [])) (λ epochs.
+        file_of header.now epochs) result }
 {
     let mut epochs = Epochs::new(alloc);
     'epochs: loop {

@@ -95,7 +95,8 @@ fn slips(line: &[u8]) -> Result<EpochLine, Flaw>
 fn epoch(line: &[u8], power: bool, epochs: &Epochs) -> Result<EpochLine, Flaw>
     ensures value { result ≡ epoch_in epochs.now line.now power }
     ensures room { IfOk result (λ l. IfEpoch l (λ tag list. length epochs.now < 20_000)) }
-    ensures later { IfOk result (λ l. IfEpoch l (λ tag list. IfSome (last_tag_of epochs.now) (λ last. last.0 < tag.0))) }
+    ensures later { IfOk result (λ l.
+        IfEpoch l (λ tag list. IfSome (last_tag_of epochs.now) (λ last. last.0 < tag.0))) }
     ensures names { IfOk result (λ l. IfEpoch l (λ tag list. length list.names + list.left ≤ 999)) }
 {
     if epochs.len() >= Epochs::MOST {
@@ -113,7 +114,8 @@ fn epoch(line: &[u8], power: bool, epochs: &Epochs) -> Result<EpochLine, Flaw>
 fn flagged(line: &[u8], flag: u8, epochs: &Epochs) -> Result<EpochLine, Flaw>
     ensures value { result ≡ by_flag epochs.now line.now flag }
     ensures room { IfOk result (λ l. IfEpoch l (λ tag list. length epochs.now < 20_000)) }
-    ensures later { IfOk result (λ l. IfEpoch l (λ tag list. IfSome (last_tag_of epochs.now) (λ last. last.0 < tag.0))) }
+    ensures later { IfOk result (λ l.
+        IfEpoch l (λ tag list. IfSome (last_tag_of epochs.now) (λ last. last.0 < tag.0))) }
     ensures names { IfOk result (λ l. IfEpoch l (λ tag list. length list.names + list.left ≤ 999)) }
 {
     match flag {
@@ -132,7 +134,8 @@ fn flagged(line: &[u8], flag: u8, epochs: &Epochs) -> Result<EpochLine, Flaw>
 pub fn epoch_line(line: &[u8], epochs: &Epochs) -> Result<EpochLine, Flaw>
     ensures value { result ≡ epoch_line_of epochs.now line.now }
     ensures room { IfOk result (λ l. IfEpoch l (λ tag list. length epochs.now < 20_000)) }
-    ensures later { IfOk result (λ l. IfEpoch l (λ tag list. IfSome (last_tag_of epochs.now) (λ last. last.0 < tag.0))) }
+    ensures later { IfOk result (λ l.
+        IfEpoch l (λ tag list. IfSome (last_tag_of epochs.now) (λ last. last.0 < tag.0))) }
     ensures names { IfOk result (λ l. IfEpoch l (λ tag list. length list.names + list.left ≤ 999)) }
 {
     if all_blank(line) {

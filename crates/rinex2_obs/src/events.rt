@@ -14,7 +14,8 @@ use rinex_head::{At, What, next_line};
 
 /// The lines of an event, after which the header may change or not.
 pub fn skip_lines(lines: &mut Lines<'_>, changes: bool, count: u32) -> Result<(), At>
-    ensures reads { (h : Header) (epochs : List Epoch) → ReadsFree obs2_rules lines.old lines.new (more_lines h epochs changes count) (λ u. Body h epochs) result }
+    ensures reads { (h : Header) (epochs : List Epoch) → ReadsFree obs2_rules lines.old lines.new
+        (more_lines h epochs changes count) (λ u. Body h epochs) result }
     ensures less { length lines.new.left ≤ length lines.old.left }
 {
     let mut left = count;
@@ -31,7 +32,8 @@ pub fn skip_lines(lines: &mut Lines<'_>, changes: bool, count: u32) -> Result<()
 
 // Further lines of names, of which none is read.
 fn skip_names(lines: &mut Lines<'_>, count: u16) -> Result<(), At>
-    ensures reads { (h : Header) (epochs : List Epoch) (rows : ℕ) → ReadsFree obs2_rules lines.old lines.new (more_slips h epochs count rows) (λ u. more_slips h epochs 0 rows) result }
+    ensures reads { (h : Header) (epochs : List Epoch) (rows : ℕ) → ReadsFree obs2_rules lines.old
+        lines.new (more_slips h epochs count rows) (λ u. more_slips h epochs 0 rows) result }
     ensures less { length lines.new.left ≤ length lines.old.left }
 {
     let mut left = count;
@@ -54,7 +56,9 @@ fn further_lines(count: u16) -> u16
 
 /// The further lines of the names of the satellites with cycle slips, and the lines of these.
 pub fn skip_slips(lines: &mut Lines<'_>, header: &Header, count: u16) -> Result<(), At>
-    ensures reads { (epochs : List Epoch) → ReadsFree obs2_rules lines.old lines.new (more_slips header.now epochs (further_lines_of count) (count * rows_of header.now.types)) (λ u. Body header.now epochs) result }
+    ensures reads { (epochs : List Epoch) → ReadsFree obs2_rules lines.old lines.new
+        (more_slips header.now epochs (further_lines_of count) (count * rows_of header.now.types))
+        (λ u. Body header.now epochs) result }
     ensures less { length lines.new.left ≤ length lines.old.left }
 {
     skip_names(lines, further_lines(count))?;

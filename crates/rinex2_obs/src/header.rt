@@ -1,5 +1,6 @@
 //! The header, from the first line to the end of the header.
 ghost use Rattle.std.specs.Prelude.{◌≡◌, ◌+◌, ◌≤◌, [], length};
+ghost use Rattle.obs_fields.specs.declared.types.TheConstants.{MOST_TYPES};
 ghost use Rattle.decimal_text.specs.Fixed.{fixed_of};
 ghost use Rattle.rinex_head.specs.Columns.{columns};
 ghost use Rattle.rinex_head.specs.LineRules.{ReadsFree};
@@ -68,7 +69,8 @@ pub fn first_line(line: &Line<'_>) -> Result<u16, Flaw>
 }
 
 fn read_first(lines: &mut Lines<'_>) -> Result<u16, At>
-    ensures { ReadsFree obs2_rules lines.old lines.new First (λ hundredths. Head (bare_header hundredths)) result }
+    ensures { ReadsFree obs2_rules lines.old lines.new First (λ hundredths.
+        Head (bare_header hundredths)) result }
 {
     let line = next_line(lines, What::ObsVersion)?;
     match first_line(&line) {
@@ -79,8 +81,9 @@ fn read_first(lines: &mut Lines<'_>) -> Result<u16, At>
 
 // The further lines of a list of types.
 fn read_further(lines: &mut Lines<'_>, list: TypeList) -> Result<TypeNames, At>
-    requires { length list.names + list.left ≤ 200 }
-    ensures reads { (h : HeaderSoFar) → ReadsFree obs2_rules lines.old lines.new (more_types h list.names list.left) (λ names. Head (with_types h names)) result }
+    requires { length list.names + list.left ≤ MOST_TYPES }
+    ensures reads { (h : HeaderSoFar) → ReadsFree obs2_rules lines.old lines.new
+        (more_types h list.names list.left) (λ names. Head (with_types h names)) result }
     ensures less { length lines.new.left ≤ length lines.old.left }
 {
     let mut list = list;
@@ -95,7 +98,8 @@ fn read_further(lines: &mut Lines<'_>, list: TypeList) -> Result<TypeNames, At>
 }
 
 fn read_lines(lines: &mut Lines<'_>, hundredths: u16) -> Result<Header, At>
-    ensures { ReadsFree obs2_rules lines.old lines.new (Head (bare_header hundredths)) (λ h. Body h []) result }
+    ensures { ReadsFree obs2_rules lines.old lines.new (Head (bare_header hundredths)) (λ h.
+        Body h []) result }
 {
     let mut position: Option<[i64; 3]> = None;
     let mut delta: [i64; 3] = [0; 3];

@@ -24,7 +24,9 @@ use std::alloc::Global;
 // The further lines of names.
 fn read_names(lines: &mut Lines<'_>, list: NameList) -> Result<SatNames, At>
     requires { length list.names + list.left ≤ 999 }
-    ensures reads { (h : Header) (epochs : List Epoch) (tag : Tick) (power : Bool) → ReadsFree obs2_rules lines.old lines.new (more_names h epochs tag power list.names list.left) (λ names. more_sats h epochs tag power [] names) result }
+    ensures reads { (h : Header) (epochs : List Epoch) (tag : Tick) (power : Bool) →
+        ReadsFree obs2_rules lines.old lines.new (more_names h epochs tag power list.names
+        list.left) (λ names. more_sats h epochs tag power [] names) result }
     ensures less { length lines.new.left ≤ length lines.old.left }
 {
     let mut list = list;
@@ -47,7 +49,11 @@ fn read_rows(
 ) -> Result<(), At>
     requires kept { kept.now ≡ kept_of header.now.types }
     requires missing { values.old ≡ missing_values }
-    ensures reads { (number : ℕ) (epochs : List Epoch) (tag : Tick) (power : Bool) (sats : List SatObs) (names : List (Option ℕ)) → ReadsFree obs2_rules lines.old lines.new (more_sats header.now epochs tag power sats (Some number ∷ names)) (λ u. more_sats header.now epochs tag power (sats ++ record { number = number; values = values.new } ∷ []) names) result }
+    ensures reads { (number : ℕ) (epochs : List Epoch) (tag : Tick) (power : Bool)
+        (sats : List SatObs) (names : List (Option ℕ)) →
+        ReadsFree obs2_rules lines.old lines.new (more_sats header.now epochs tag power sats
+        (Some number ∷ names)) (λ u. more_sats header.now epochs tag power
+        (sats ++ record { number = number; values = values.new } ∷ []) names) result }
     ensures less { length lines.new.left ≤ length lines.old.left }
 {
     for at in 0..header.rows() {
@@ -62,7 +68,10 @@ fn read_rows(
 
 // The lines of a satellite of another system.
 fn skip_rows(lines: &mut Lines<'_>, header: &Header) -> Result<(), At>
-    ensures reads { (epochs : List Epoch) (tag : Tick) (power : Bool) (sats : List SatObs) (names : List (Option ℕ)) → ReadsFree obs2_rules lines.old lines.new (more_sats header.now epochs tag power sats (None ∷ names)) (λ u. more_sats header.now epochs tag power sats names) result }
+    ensures reads { (epochs : List Epoch) (tag : Tick) (power : Bool) (sats : List SatObs)
+        (names : List (Option ℕ)) →
+        ReadsFree obs2_rules lines.old lines.new (more_sats header.now epochs tag power sats
+        (None ∷ names)) (λ u. more_sats header.now epochs tag power sats names) result }
     ensures less { length lines.new.left ≤ length lines.old.left }
 {
     for _at in 0..header.rows() {
@@ -81,7 +90,9 @@ fn read_satellite(
     requires kept { kept.now ≡ kept_of header.now.types }
     requires named { AreNames (name ∷ []) }
     requires once { AreNew sats.old (name ∷ []) }
-    ensures reads { (epochs : List Epoch) (tag : Tick) (power : Bool) (names : List (Option ℕ)) → Reads obs2_rules lines.old lines.new (more_sats header.now epochs tag power sats.old (name ∷ names)) (λ u. more_sats header.now epochs tag power sats.new names) result }
+    ensures reads { (epochs : List Epoch) (tag : Tick) (power : Bool) (names : List (Option ℕ)) →
+        Reads obs2_rules lines.old lines.new (more_sats header.now epochs tag power sats.old
+        (name ∷ names)) (λ u. more_sats header.now epochs tag power sats.new names) result }
     ensures added { OnOk result (IsWith name sats.old sats.new) }
     ensures less { length lines.new.left ≤ length lines.old.left }
 {
@@ -113,7 +124,9 @@ fn read_satellites(
 ) -> Result<Satellites, TextFault>
     requires kept { kept.now ≡ kept_of header.now.types }
     requires named { AreNames names.now }
-    ensures reads { (epochs : List Epoch) (tag : Tick) (power : Bool) → Reads obs2_rules lines.old lines.new (more_sats header.now epochs tag power [] names.now) (λ sats. Body header.now (epochs ++ epoch_of tag power sats ∷ [])) result }
+    ensures reads { (epochs : List Epoch) (tag : Tick) (power : Bool) →
+        Reads obs2_rules lines.old lines.new (more_sats header.now epochs tag power [] names.now)
+        (λ sats. Body header.now (epochs ++ epoch_of tag power sats ∷ [])) result }
     ensures less { length lines.new.left ≤ length lines.old.left }
 {
     let mut sats = Satellites::new(alloc);
@@ -133,7 +146,9 @@ pub fn read_epoch(
 ) -> Result<Satellites, TextFault>
     requires kept { kept.now ≡ kept_of header.now.types }
     requires few { length list.names + list.left ≤ 999 }
-    ensures reads { (epochs : List Epoch) (tag : Tick) (power : Bool) → Reads obs2_rules lines.old lines.new (more_names header.now epochs tag power list.names list.left) (λ sats. Body header.now (epochs ++ epoch_of tag power sats ∷ [])) result }
+    ensures reads { (epochs : List Epoch) (tag : Tick) (power : Bool) →
+        Reads obs2_rules lines.old lines.new (more_names header.now epochs tag power list.names
+        list.left) (λ sats. Body header.now (epochs ++ epoch_of tag power sats ∷ [])) result }
     ensures less { length lines.new.left ≤ length lines.old.left }
 {
     match read_names(lines, list) {

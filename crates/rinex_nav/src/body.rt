@@ -16,8 +16,9 @@ use std::alloc::Global;
 // The further line of a record at that place, counted from 0.
 fn read_quad(lines: &mut Lines<'_>, place: u8) -> Result<Quad, At>
     requires { place < 7 }
-    ensures reads { (system : System) (raws : List Raw) (s : Start) (quads : List Quad) → length quads ≡ place
-        → ReadsFree (nav_rules system) lines.old lines.new (Further raws s quads) (λ q. behind raws s (quads ++ q ∷ [])) result }
+    ensures reads { (system : System) (raws : List Raw) (s : Start) (quads : List Quad) →
+        length quads ≡ place → ReadsFree (nav_rules system) lines.old lines.new
+        (Further raws s quads) (λ q. behind raws s (quads ++ q ∷ [])) result }
     ensures less { length lines.new.left ≤ length lines.old.left }
 {
     let line = next_line(lines, What::Truncated)?;
@@ -29,7 +30,8 @@ fn read_quad(lines: &mut Lines<'_>, place: u8) -> Result<Quad, At>
 
 // The seven further lines of a record.
 fn read_record(lines: &mut Lines<'_>, start: Start) -> Result<Raw, At>
-    ensures reads { (system : System) (raws : List Raw) → ReadsFree (nav_rules system) lines.old lines.new (Further raws start []) (λ raw. Body (raws ++ raw ∷ []) false) result }
+    ensures reads { (system : System) (raws : List Raw) → ReadsFree (nav_rules system) lines.old
+        lines.new (Further raws start []) (λ raw. Body (raws ++ raw ∷ []) false) result }
     ensures less { length lines.new.left ≤ length lines.old.left }
 {
     let second = read_quad(lines, 0)?;
@@ -72,7 +74,8 @@ pub fn read_records(
     system: System,
     lines: &mut Lines<'_>,
 ) -> Result<NavFile, TextFault>
-    ensures { Gives (rest_gives (nav_rules system) lines.old (Body [] false)) (λ file. file.all) result }
+    ensures { Gives (rest_gives (nav_rules system) lines.old (Body [] false)) (λ file.
+        file.all) result }
 {
     let mut file = NavFile::new(alloc);
     let mut skipping = false;

@@ -54,7 +54,8 @@ fn is_last(line: &Line<'_>) -> bool
 }
 
 fn read_lines(lines: &mut Lines<'_>) -> Result<(), At>
-    ensures { (system : System) → ReadsFree (nav_rules system) lines.old lines.new Head (λ u. Body [] false) result }
+    ensures { (system : System) →
+        ReadsFree (nav_rules system) lines.old lines.new Head (λ u. Body [] false) result }
 {
     'header: loop {
         let line = next_line(lines, What::NoEnd)?;

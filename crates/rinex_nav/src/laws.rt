@@ -11,15 +11,18 @@ ghost use Rattle.rinex_nav.specs.NavRules.{nav_rules, nav_of};
 
 /// Lines stand for at most one list of the records of a system.
 pub fn one_nav_law()
-    ensures { (system : System) (lines : List (List ℕ)) (records other : List Raw) → IsNavFile system lines records → IsNavFile system lines other → records ≡ other }
+    ensures { (system : System) (lines : List (List ℕ)) (records other : List Raw) →
+        IsNavFile system lines records → IsNavFile system lines other → records ≡ other }
 {}
 
 /// The records of a list determine the usable ones.
 pub fn one_fit_law()
-    ensures { (records : List Raw) (fit other : List Eph) → AreFit records fit → AreFit records other → fit ≡ other }
+    ensures { (records : List Raw) (fit other : List Eph) → AreFit records fit →
+        AreFit records other → fit ≡ other }
 {}
 
 /// The column and the reason of a refusal are those of the check of its own line.
 pub fn nav_flaw_law()
-    ensures { (system : System) (lines : List (List ℕ)) (at : At) → nav_of system lines ≡ Err at → IsOwnFlaw (nav_rules system) lines at }
+    ensures { (system : System) (lines : List (List ℕ)) (at : At) → nav_of system lines ≡ Err at →
+        IsOwnFlaw (nav_rules system) lines at }
 {}

@@ -2,6 +2,7 @@
 ghost use Rattle.std.specs.Prelude.{◌≡◌, ◌≤◌, List, length, IfOk};
 ghost use Rattle.eph_store.specs.declared.record.Raw.{Raw};
 ghost use Rattle.line_source.specs.Lines.{lines_of};
+ghost use Rattle.line_source.specs.declared.transfer.TheConstants.{MAX_FILE};
 ghost use Rattle.rinex_head.specs.FirstFailing.{IsFirstFailing};
 ghost use Rattle.rinex_head.specs.LineRules.{rest_gives, Gives, OnRefusal, IfRefused};
 ghost use Rattle.rinex_nav.specs.NavForm.{IsNavFile, HasNavFile};
@@ -18,11 +19,13 @@ use std::alloc::Global;
 ///
 /// A record's numbers are decimals in the units of the file. Records of other systems are skipped.
 pub fn read_records_of(alloc: Global, system: System, text: &[u8]) -> Result<NavFile, TextFault>
-    requires { length text.now ≤ 67_108_864 }
+    requires { length text.now ≤ MAX_FILE }
     ensures ok { IfOk result (λ file. IsNavFile system (lines_of text.now) file.all) }
-    ensures only { IfOk result (λ file. (other : List Raw) → IsNavFile system (lines_of text.now) other → other ≡ file.all) }
+    ensures only { IfOk result (λ file. (other : List Raw) →
+        IsNavFile system (lines_of text.now) other → other ≡ file.all) }
     ensures refused { OnRefusal result (HasNavFile system (lines_of text.now) → ⊥) }
-    ensures first { IfRefused result (λ at. IsFirstFailing (HasNavFile system) (lines_of text.now) at.line) }
+    ensures first { IfRefused result (λ at.
+        IsFirstFailing (HasNavFile system) (lines_of text.now) at.line) }
     ensures exact { Gives (nav_of system (lines_of text.now)) (λ file. file.all) result }
 {
     read_lines(alloc, system, Lines::new(text))

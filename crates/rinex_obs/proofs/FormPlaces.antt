@@ -28,6 +28,7 @@ use Rattle.obs_fields.specs.declared.labels.Label.TheVariants as label
 use Rattle.rinex_obs.specs.ObsRules.{HeaderSoFar, Expected, First, Head, More, Body, Sats, Skip, bare_header, with_types, whole_header, file_of, more_types, more_sats, more_lines, admit, obs_rules}
 use Rattle.rinex_obs.specs.ObsForm.{IsObsFile, HasObsFile}
 use Rattle.obs_fields.proofs.FreshNames.{AreApart, fresh, below_fresh, not_listed, a_first_byte, names_counted}
+use Rattle.obs_fields.specs.declared.types.TheConstants.{MOST_TYPES}
 use Rattle.rinex_obs.proofs.Steps.{types_there}
 use Rattle.rinex_obs.proofs.ListedTypes.{Holds, kept}
 use Rattle.rinex_obs.proofs.FormLaws.{file_given}
@@ -169,7 +170,7 @@ module _ (system : System) where
     few : length all + (n - 13) ≤ 200
     admits : admit (More h names n) line ≡ Ok (more_types h all (n - 13))
 
-  more_step : (h : HeaderSoFar) (names : List (List ℕ)) (n : ℕ) → length names + n ≤ 200 → FreshLine h names n
+  more_step : (h : HeaderSoFar) (names : List (List ℕ)) (n : ℕ) → length names + n ≤ MOST_TYPES → FreshLine h names n
   unfolding padded
   more_step h names n few =
       let first = a_first_byte names (omega (arith, few)) in
@@ -185,7 +186,7 @@ module _ (system : System) where
         admits = rw (fresh_line-label c, taken.1) refl;
       }
 
-  more_done : (fuel : ℕ) (h : HeaderSoFar) (names : List (List ℕ)) (n : ℕ) → n ≤ fuel → length names + n ≤ 200 → Completes (obs_rules system) (more_types h names n)
+  more_done : (fuel : ℕ) (h : HeaderSoFar) (names : List (List ℕ)) (n : ℕ) → n ≤ fuel → length names + n ≤ MOST_TYPES → Completes (obs_rules system) (more_types h names n)
   more_done fuel h names zero le few = head_done (with_types h names)
   more_done zero h names (suc k) le few = absurd (omega (arith, le))
   more_done (suc fuel) h names (suc k) le few =

@@ -12,6 +12,7 @@ use Rattle.obs_fields.specs.declared.header_line.HeaderLine.TheVariants as heade
 use Rattle.obs_fields.specs.Labels.{event_line_of}
 use Rattle.obs_fields.specs.Types.{first_types_of, further_types_of, kept_from}
 use Rattle.obs_fields.proofs.FreshNames.{first_counted, further_counted}
+use Rattle.obs_fields.specs.declared.types.TheConstants.{MOST_TYPES}
 use Rattle.rinex_obs.specs.FirstLine.{first_line_of}
 use Rattle.rinex_obs.specs.HeaderLines.{header_line_of}
 use Rattle.rinex_obs.specs.EpochLines.{epoch_line_of}
@@ -24,12 +25,12 @@ use Rattle.rinex_obs.specs.ObsRules.{HeaderSoFar, Expected, First, Head, More, B
 abbrev pub Holds : Expected → Type 0
 Holds (First system) = Unit {0}
 Holds (Head h) = Unit {0}
-Holds (More h names n) = length names + n ≤ 200
+Holds (More h names n) = length names + n ≤ MOST_TYPES
 Holds (Body h epochs) = Unit {0}
 Holds (Sats h epochs tag power sats n) = Unit {0}
 Holds (Skip h epochs changes n) = Unit {0}
 
-types_hold : (h : HeaderSoFar) (names : List (List ℕ)) (n : ℕ) → length names + n ≤ 200 → Holds (more_types h names n)
+types_hold : (h : HeaderSoFar) (names : List (List ℕ)) (n : ℕ) → length names + n ≤ MOST_TYPES → Holds (more_types h names n)
 types_hold h names zero few = tt
 types_hold h names (suc n) few = few
 

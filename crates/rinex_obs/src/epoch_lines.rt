@@ -47,7 +47,8 @@ fn event(line: &[u8], changes: bool) -> Result<EpochLine, Flaw>
 fn epoch(line: &[u8], power: bool, epochs: &Epochs) -> Result<EpochLine, Flaw>
     ensures value { result ≡ epoch_in epochs.now line.now power }
     ensures room { IfOk result (λ l. IfEpoch l (λ tag. length epochs.now < 20_000)) }
-    ensures later { IfOk result (λ l. IfEpoch l (λ tag. IfSome (last_tag_of epochs.now) (λ last. last.0 < tag.0))) }
+    ensures later { IfOk result (λ l.
+        IfEpoch l (λ tag. IfSome (last_tag_of epochs.now) (λ last. last.0 < tag.0))) }
 {
     if epochs.len() >= Epochs::MOST {
         return Err(flaw(1, What::TooMany));
@@ -63,7 +64,8 @@ fn epoch(line: &[u8], power: bool, epochs: &Epochs) -> Result<EpochLine, Flaw>
 fn flagged(line: &[u8], flag: u8, epochs: &Epochs) -> Result<EpochLine, Flaw>
     ensures value { result ≡ by_flag epochs.now line.now flag }
     ensures room { IfOk result (λ l. IfEpoch l (λ tag. length epochs.now < 20_000)) }
-    ensures later { IfOk result (λ l. IfEpoch l (λ tag. IfSome (last_tag_of epochs.now) (λ last. last.0 < tag.0))) }
+    ensures later { IfOk result (λ l.
+        IfEpoch l (λ tag. IfSome (last_tag_of epochs.now) (λ last. last.0 < tag.0))) }
 {
     match flag {
         b'0' => epoch(line, false, epochs),
@@ -80,7 +82,8 @@ fn flagged(line: &[u8], flag: u8, epochs: &Epochs) -> Result<EpochLine, Flaw>
 pub fn epoch_line(line: &[u8], epochs: &Epochs) -> Result<EpochLine, Flaw>
     ensures value { result ≡ epoch_line_of epochs.now line.now }
     ensures room { IfOk result (λ l. IfEpoch l (λ tag. length epochs.now < 20_000)) }
-    ensures later { IfOk result (λ l. IfEpoch l (λ tag. IfSome (last_tag_of epochs.now) (λ last. last.0 < tag.0))) }
+    ensures later { IfOk result (λ l.
+        IfEpoch l (λ tag. IfSome (last_tag_of epochs.now) (λ last. last.0 < tag.0))) }
 {
     if all_blank(line) {
         return Ok(EpochLine::Blank);

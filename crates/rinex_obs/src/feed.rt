@@ -1,6 +1,7 @@
 //! An observation file that is taken in pieces.
 ghost use Rattle.std.specs.Prelude.{◌≡◌, ◌+◌, ◌≤◌, ◌<◌, ◌++◌, List, ℕ, [], length, OnOk, OnErr, IfErr, IsErr, Ok, Err};
 ghost use Rattle.std.specs.Str.Lines.{strip_carriage_return};
+ghost use Rattle.line_source.specs.declared.transfer.TheConstants.{MAX_FILE};
 ghost use Rattle.rinex_head.specs.Places.{place, at_line};
 ghost use Rattle.rinex_head.specs.declared.system.System.{System};
 ghost use Rattle.rinex_head.specs.LineRules.{Gives, FailsBy};
@@ -41,7 +42,8 @@ fn long_line(number: u32) -> At
 
 // Reads a line, which may be too long.
 fn take_line(alloc: Global, file: &mut OpenFile, number: u32, bytes: &[u8]) -> Result<(), TextFault>
-    ensures { Takes (line_gives (expected_in file.old) bytes.now) number (expected_in file.new) result }
+    ensures { Takes (line_gives (expected_in file.old) bytes.now) number
+        (expected_in file.new) result }
 {
     if bytes.len() > MAX_LINE {
         return Err(TextFault::Refused(long_line(number)));
@@ -52,8 +54,10 @@ fn take_line(alloc: Global, file: &mut OpenFile, number: u32, bytes: &[u8]) -> R
 impl OpenText {
     // The line that has begun ends with these bytes.
     fn end_line(&mut self, alloc: Global, bytes: &[u8]) -> Result<(), TextFault>
-        requires { self.old.number < 67108864 }
-        ensures taken { Takes (line_gives (expected_in self.old.file) (strip_carriage_return (self.old.line ++ bytes.now))) (self.old.number + 1) (expected_in self.new.file) result }
+        requires { self.old.number < MAX_FILE }
+        ensures taken { Takes (line_gives (expected_in self.old.file)
+            (strip_carriage_return (self.old.line ++ bytes.now))) (self.old.number
+            + 1) (expected_in self.new.file) result }
         ensures ended { OnOk result (self.new.line ≡ []) }
         ensures counted { OnOk result (self.new.number ≡ self.old.number + 1) }
     {
@@ -73,11 +77,13 @@ impl OpenText {
 
     // The line that has begun goes on with these bytes.
     fn go_on(&mut self, bytes: &[u8]) -> Result<(), At>
-        requires { self.old.number ≤ 67108864 }
+        requires { self.old.number ≤ MAX_FILE }
         ensures line { OnOk result (self.new.line ≡ self.old.line ++ bytes.now) }
         ensures number { OnOk result (self.new.number ≡ self.old.number) }
         ensures file { OnOk result (expected_in self.new.file ≡ expected_in self.old.file) }
-        ensures err { IfErr result (λ at. (system : System) (more : List ℕ) → gives_with system self.old.number (self.old.line ++ bytes.now) (expected_in self.old.file) more ≡ Err at) }
+        ensures err { IfErr result (λ at. (system : System) (more : List ℕ) →
+            gives_with system self.old.number
+            (self.old.line ++ bytes.now) (expected_in self.old.file) more ≡ Err at) }
     {
         match self.line.extend(bytes) {
             Ok(()) => Ok(()),
@@ -87,9 +93,11 @@ impl OpenText {
 
     // Reads the lines that end in the piece, and keeps the beginning of the next one.
     fn take(&mut self, alloc: Global, piece: &[u8]) -> Result<(), TextFault>
-        requires { self.old.number + length self.old.line + length piece.now ≤ 67108864 }
-        ensures takes { (system : System) → TakesAll piece.now (gives_behind system self.old) (gives_behind system self.new) result }
-        ensures within { OnOk result (self.new.number + length self.new.line ≤ self.old.number + length self.old.line + length piece.now) }
+        requires { self.old.number + length self.old.line + length piece.now ≤ MAX_FILE }
+        ensures takes { (system : System) → TakesAll piece.now (gives_behind system self.old)
+            (gives_behind system self.new) result }
+        ensures within { OnOk result (self.new.number + length self.new.line
+            ≤ self.old.number + length self.old.line + length piece.now) }
     {
         let mut rest = piece;
         'lines: while let Some((bytes, behind)) = split_line(rest) {
@@ -104,9 +112,11 @@ impl OpenText {
 
     // Reads the last line, if one has begun.
     fn take_last(&mut self, alloc: Global) -> Result<(), TextFault>
-        requires { self.old.number ≤ 67108864 }
-        ensures ok { OnOk result ((system : System) → gives_behind system self.old [] ≡ at_line (self.new.number + 1) (finish (expected_in self.new.file))) }
-        ensures refused { IfErr result (λ fault. (system : System) → FailsBy (gives_behind system self.old []) fault) }
+        requires { self.old.number ≤ MAX_FILE }
+        ensures ok { OnOk result ((system : System) → gives_behind system self.old []
+            ≡ at_line (self.new.number + 1) (finish (expected_in self.new.file))) }
+        ensures refused { IfErr result (λ fault. (system : System) →
+            FailsBy (gives_behind system self.old []) fault) }
         ensures number { self.new.number ≤ self.old.number + 1 }
     {
         if self.line.as_slice().is_empty() {
@@ -118,7 +128,7 @@ impl OpenText {
 
     // The file, where the text ends here.
     fn finish(mut self, alloc: Global) -> Result<ObsFile, TextFault>
-        requires { self.number ≤ 67108864 }
+        requires { self.number ≤ MAX_FILE }
         ensures { (system : System) → Gives (gives_behind system self []) (λ file. file) result }
     {
         self.take_last(alloc)?;
@@ -137,7 +147,7 @@ pub struct Feed {
     pub system: System,
     taken: u32,
     state: FeedState,
-    ghost few: { taken ≤ 67108864 },
+    ghost few: { taken ≤ MAX_FILE },
     ghost within: { LinesWithin state taken } by { LinesWithin-prop state taken },
 }
 
@@ -163,7 +173,8 @@ impl Feed {
     /// The observation file that the text taken stands for, or the first place at which it stands for none: the same for
     /// all texts for which the feed stands, however they were cut.
     pub fn finish(self) -> Result<ObsFile, TextFault>
-        ensures answers { (text : List ℕ) → ⟦<Feed as Taker>⟧.stands_for self text → IsAnswerTo self.system text result }
+        ensures answers { (text : List ℕ) → ⟦<Feed as Taker>⟧.stands_for self text →
+            IsAnswerTo self.system text result }
         ensures no_memory { HasNoMemory self.state → result ≡ Err TextFault.NoMemory }
     {
         let alloc = self.alloc;
@@ -186,9 +197,11 @@ impl Taker for Feed {
     /// Takes the next piece. After a line that is refused it drops what follows. After running out of memory it answers so
     /// again, and so does `finish`.
     fn take(&mut self, piece: &[u8]) -> Result<(), AllocError>
-        requires { self.old.taken + length piece.now ≤ 67108864 }
+        requires { self.old.taken + length piece.now ≤ MAX_FILE }
         ensures counted { OnOk result (self.new.taken ≡ self.old.taken + length piece.now) }
-        ensures stands { OnOk result ((text : List ℕ) → StandsFor self.old.system self.old.state self.old.taken text → StandsFor self.new.system self.new.state self.new.taken (text ++ piece.now)) }
+        ensures stands { OnOk result ((text : List ℕ) →
+            StandsFor self.old.system self.old.state self.old.taken text →
+            StandsFor self.new.system self.new.state self.new.taken (text ++ piece.now)) }
         ensures system { self.new.system ≡ self.old.system }
         ensures no_memory { OnErr result (HasNoMemory self.new.state) }
         ensures again { HasNoMemory self.old.state → IsErr result }

@@ -35,7 +35,8 @@ impl OpenEpoch {
         line: &Line<'_>,
     ) -> Result<(), TextFault>
         requires due { 0 < self.old.left }
-        ensures sats { Takes (sats_with system kept.now self.old.sats line.now.bytes.now) line.now.number self.new.sats result }
+        ensures sats { Takes (sats_with system kept.now self.old.sats line.now.bytes.now)
+            line.now.number self.new.sats result }
         ensures left { self.new.left ≡ self.old.left - 1 }
         ensures tag { self.new.tag ≡ self.old.tag }
         ensures power { self.new.power ≡ self.old.power }
@@ -99,7 +100,8 @@ impl OpenBody {
     /// Reads the next line.
     #[tactic(auto, using(crate::proofs::Admits::sats_due, crate::proofs::Admits::sats_taken, crate::proofs::Admits::lines_due))]
     pub fn take_line(&mut self, alloc: Global, line: &Line<'_>) -> Result<(), TextFault>
-        ensures { Takes (admit (expected_in_body self.old) line.now.bytes.now) line.now.number (expected_in_body self.new) result }
+        ensures { Takes (admit (expected_in_body self.old) line.now.bytes.now) line.now.number
+            (expected_in_body self.new) result }
     {
         // An epoch or an event of which more lines are due stays in its place.
         match &mut self.part {
@@ -122,7 +124,8 @@ impl OpenBody {
     // Reads a line after which the part may be whole.
     #[inline(never)]
     fn take_any_line(&mut self, alloc: Global, line: &Line<'_>) -> Result<(), TextFault>
-        ensures { Takes (admit (expected_in_body self.old) line.now.bytes.now) line.now.number (expected_in_body self.new) result }
+        ensures { Takes (admit (expected_in_body self.old) line.now.bytes.now) line.now.number
+            (expected_in_body self.new) result }
     {
         match mem::replace(&mut self.part, Part::Between) {
             Part::Between => self.begin_part(alloc, line),
@@ -135,7 +138,8 @@ impl OpenBody {
     #[inline(never)]
     fn begin_part(&mut self, alloc: Global, line: &Line<'_>) -> Result<(), TextFault>
         requires { self.old.part ≡ Part.Between }
-        ensures { Takes (admit (Body self.old.header self.old.epochs) line.now.bytes.now) line.now.number (expected_in_body self.new) result }
+        ensures { Takes (admit (Body self.old.header self.old.epochs) line.now.bytes.now)
+            line.now.number (expected_in_body self.new) result }
     {
         match epoch_line(line.bytes, &self.epochs) {
             Ok(EpochLine::Blank) => Ok(()),
@@ -172,7 +176,9 @@ impl OpenBody {
         requires due { 0 < epoch.left }
         requires room { length self.old.epochs < 20_000 }
         requires later { IfSome (last_tag_of self.old.epochs) (λ last. last.0 < epoch.tag.0) }
-        ensures { Takes (admit (Sats self.old.header self.old.epochs epoch.tag epoch.power epoch.sats epoch.left) line.now.bytes.now) line.now.number (expected_in_body self.new) result }
+        ensures { Takes (admit (Sats self.old.header self.old.epochs epoch.tag epoch.power
+            epoch.sats epoch.left) line.now.bytes.now) line.now.number
+            (expected_in_body self.new) result }
     {
         epoch.take_line(self.header.system, &self.kept, line)?;
         match self.expect_epoch(alloc, epoch) {
@@ -189,7 +195,8 @@ impl OpenBody {
     ) -> Result<(), TextFault>
         requires between { self.old.part ≡ Part.Between }
         requires due { 0 < left }
-        ensures { Takes (admit (Skip self.old.header self.old.epochs changes left) line.now.bytes.now) line.now.number (expected_in_body self.new) result }
+        ensures { Takes (admit (Skip self.old.header self.old.epochs changes left)
+            line.now.bytes.now) line.now.number (expected_in_body self.new) result }
     {
         match event_line(Layout::Rinex3, line, changes) {
             Ok(()) => {
@@ -206,7 +213,8 @@ impl OpenBody {
         requires between { self.old.part ≡ Part.Between }
         requires room { length self.old.epochs < 20_000 }
         requires later { IfSome (last_tag_of self.old.epochs) (λ last. last.0 < epoch.tag.0) }
-        ensures { OnOk result (expected_in_body self.new ≡ more_sats self.old.header self.old.epochs epoch.tag epoch.power epoch.sats epoch.left) }
+        ensures { OnOk result (expected_in_body self.new ≡ more_sats self.old.header self.old.epochs
+            epoch.tag epoch.power epoch.sats epoch.left) }
     {
         if epoch.left > 0 {
             self.part = Part::Epoch(epoch);
@@ -225,7 +233,8 @@ impl OpenBody {
     #[tactic(auto, using(crate::proofs::Admits::lines_due, crate::proofs::Admits::lines_all))]
     fn expect_event(&mut self, changes: bool, left: u16)
         requires { self.old.part ≡ Part.Between }
-        ensures { expected_in_body self.new ≡ more_lines self.old.header self.old.epochs changes left }
+        ensures { expected_in_body self.new
+            ≡ more_lines self.old.header self.old.epochs changes left }
     {
         if left > 0 {
             self.part = Part::Event { changes, left };

@@ -25,7 +25,8 @@ pub enum OpenFile {
 impl OpenFile {
     /// Reads the next line.
     pub fn take_line(&mut self, alloc: Global, line: &Line<'_>) -> Result<(), TextFault>
-        ensures { Takes (admit (expected_in self.old) line.now.bytes.now) line.now.number (expected_in self.new) result }
+        ensures { Takes (admit (expected_in self.old) line.now.bytes.now) line.now.number
+            (expected_in self.new) result }
     {
         match self {
             OpenFile::Body(body) => body.take_line(alloc, line),
@@ -36,7 +37,8 @@ impl OpenFile {
     // Reads a line in any state. It stands apart, since its large locals are cleared at each call.
     #[inline(never)]
     fn take_any_line(&mut self, alloc: Global, line: &Line<'_>) -> Result<(), TextFault>
-        ensures { Takes (admit (expected_in self.old) line.now.bytes.now) line.now.number (expected_in self.new) result }
+        ensures { Takes (admit (expected_in self.old) line.now.bytes.now) line.now.number
+            (expected_in self.new) result }
     {
         match self {
             OpenFile::First(system) => match first_line(*system, line) {

@@ -1,6 +1,7 @@
 //! A header whose end isn't read yet.
 ghost use Rattle.std.specs.Prelude.{◌≡◌, ◌+◌, ◌<◌, ◌≤◌, length, IfSome, IfOk, OnOk, IfErr, Ok, Err, [], None};
 ghost use Rattle.std.proofs.Props.{props};
+ghost use Rattle.obs_fields.specs.declared.types.TheConstants.{MOST_TYPES};
 ghost use Rattle.rinex_obs.specs.ObsRules.{Head, More, Body, bare_header, more_types, begun_list, ended_header, admit};
 
 use crate::header::Header;
@@ -19,7 +20,7 @@ pub struct OpenHeader {
     types: Option<TypeNames>,
     // the list of types, while further lines of it are due
     list: Option<TypeList>,
-    ghost due: { IfSome list (λ l. (0 < l.left) × (length l.names + l.left ≤ 200)) } by { Prim.hlevel props },
+    ghost due: { IfSome list (λ l. (0 < l.left) × (length l.names + l.left ≤ MOST_TYPES)) } by { Prim.hlevel props },
 }
 
 impl OpenHeader {
@@ -41,8 +42,10 @@ impl OpenHeader {
 
     /// Reads the next line. It answers the whole header where the line is its end.
     pub fn take_line(&mut self, line: &Line<'_>) -> Result<Option<Header>, Flaw>
-        ensures ok { IfOk result (λ found. admit (expected_in_header self.old) line.now.bytes.now ≡ Ok (behind_line self.new found)) }
-        ensures err { IfErr result (λ flaw. admit (expected_in_header self.old) line.now.bytes.now ≡ Err flaw) }
+        ensures ok { IfOk result (λ found. admit (expected_in_header self.old) line.now.bytes.now
+            ≡ Ok (behind_line self.new found)) }
+        ensures err { IfErr result (λ flaw.
+            admit (expected_in_header self.old) line.now.bytes.now ≡ Err flaw) }
     {
         match self.list.take() {
             Some(list) => {
@@ -55,10 +58,12 @@ impl OpenHeader {
 
     // A line in the place of a further line of the list of types.
     fn take_further(&mut self, line: &Line<'_>, list: TypeList) -> Result<(), Flaw>
-        requires few { length list.names + list.left ≤ 200 }
+        requires few { length list.names + list.left ≤ MOST_TYPES }
         requires no_list { self.old.list ≡ None }
-        ensures ok { OnOk result (admit (More (said_so_far self.old) list.names list.left) line.now.bytes.now ≡ Ok (expected_in_header self.new)) }
-        ensures err { IfErr result (λ flaw. admit (More (said_so_far self.old) list.names list.left) line.now.bytes.now ≡ Err flaw) }
+        ensures ok { OnOk result (admit (More (said_so_far self.old) list.names list.left)
+            line.now.bytes.now ≡ Ok (expected_in_header self.new)) }
+        ensures err { IfErr result (λ flaw. admit (More (said_so_far self.old) list.names list.left)
+            line.now.bytes.now ≡ Err flaw) }
     {
         let list = further_types(Layout::Rinex3, line, list)?;
         self.expect_types(list);
@@ -67,8 +72,10 @@ impl OpenHeader {
 
     fn take_other(&mut self, line: &Line<'_>) -> Result<Option<Header>, Flaw>
         requires { self.old.list ≡ None }
-        ensures ok { IfOk result (λ found. admit (Head (said_so_far self.old)) line.now.bytes.now ≡ Ok (behind_line self.new found)) }
-        ensures err { IfErr result (λ flaw. admit (Head (said_so_far self.old)) line.now.bytes.now ≡ Err flaw) }
+        ensures ok { IfOk result (λ found. admit (Head (said_so_far self.old)) line.now.bytes.now
+            ≡ Ok (behind_line self.new found)) }
+        ensures err { IfErr result (λ flaw.
+            admit (Head (said_so_far self.old)) line.now.bytes.now ≡ Err flaw) }
     {
         match header_line(self.system, line)? {
             HeaderLine::Skipped => Ok(None),
@@ -91,8 +98,10 @@ impl OpenHeader {
     // The first line of the list of types, which must stand once.
     fn begin_list(&mut self, line: &[u8]) -> Result<(), Flaw>
         requires { self.old.list ≡ None }
-        ensures ok { OnOk result (begun_list (said_so_far self.old) line.now self.old.types ≡ Ok (expected_in_header self.new)) }
-        ensures err { IfErr result (λ flaw. begun_list (said_so_far self.old) line.now self.old.types ≡ Err flaw) }
+        ensures ok { OnOk result (begun_list (said_so_far self.old) line.now self.old.types
+            ≡ Ok (expected_in_header self.new)) }
+        ensures err { IfErr result (λ flaw.
+            begun_list (said_so_far self.old) line.now self.old.types ≡ Err flaw) }
     {
         if self.types.is_some() {
             return Err(flaw(1, What::Types));
@@ -105,9 +114,10 @@ impl OpenHeader {
     // The list of types has these names, and others are due or not.
     #[tactic(auto, using(crate::proofs::Admits::types_due, crate::proofs::Admits::types_all))]
     fn expect_types(&mut self, list: TypeList)
-        requires few { length list.names + list.left ≤ 200 }
+        requires few { length list.names + list.left ≤ MOST_TYPES }
         requires no_list { self.old.list ≡ None }
-        ensures { expected_in_header self.new ≡ more_types (said_so_far self.old) list.names list.left }
+        ensures { expected_in_header self.new
+            ≡ more_types (said_so_far self.old) list.names list.left }
     {
         if list.left == 0 {
             self.types = Some(list.names);
@@ -117,8 +127,10 @@ impl OpenHeader {
     }
 
     fn end(&mut self) -> Result<Header, Flaw>
-        ensures ok { IfOk result (λ header. ended_header (said_so_far self.old) self.old.types ≡ Ok (Body header [])) }
-        ensures err { IfErr result (λ flaw. ended_header (said_so_far self.old) self.old.types ≡ Err flaw) }
+        ensures ok { IfOk result (λ header.
+            ended_header (said_so_far self.old) self.old.types ≡ Ok (Body header [])) }
+        ensures err { IfErr result (λ flaw.
+            ended_header (said_so_far self.old) self.old.types ≡ Err flaw) }
     {
         match self.types.take() {
             Some(types) => Ok(Header {

@@ -19,8 +19,10 @@ pub fn satellite_line(
     values: &mut SatValues,
 ) -> Result<Option<u8>, Flaw>
     requires { values.old ≡ missing_values }
-    ensures ok { IfOk result (λ found. satellite_line_of system kept.now sats.now line.now ≡ Ok (found_with found values.new)) }
-    ensures err { IfErr result (λ flaw. satellite_line_of system kept.now sats.now line.now ≡ Err flaw) }
+    ensures ok { IfOk result (λ found.
+        satellite_line_of system kept.now sats.now line.now ≡ Ok (found_with found values.new)) }
+    ensures err { IfErr result (λ flaw.
+        satellite_line_of system kept.now sats.now line.now ≡ Err flaw) }
     ensures from_one { IfOk result (λ found. IfSome found (λ n. 1 ≤ n)) }
     ensures to_last { IfOk result (λ found. IfSome found (λ n. n ≤ 36)) }
     ensures once { IfOk result (λ found. IfSome found (λ n. has_satellite n sats.now ≡ false)) }

@@ -70,7 +70,8 @@ impl StartedLine {
 pub fn split_line(bytes: &[u8]) -> Option<(&[u8], &[u8])>
     ensures ends { IfSome result (λ parts. EndsLine bytes.now parts.0.now parts.1.now) }
     ensures front { IfSome result (λ parts. parts.0.now ≡ take (length parts.0.now) bytes.now) }
-    ensures long { IfSome result (λ parts. length parts.0.now + length parts.1.now + 1 ≡ length bytes.now) }
+    ensures long { IfSome result (λ parts.
+        length parts.0.now + length parts.1.now + 1 ≡ length bytes.now) }
     ensures none { IfNone result (GoesOn bytes.now) }
 {
     match memchr(b'\n', bytes) {

@@ -1,5 +1,6 @@
 //! A feed whose type says the satellite system.
 ghost use Rattle.std.specs.Prelude.{◌≡◌, ◌+◌, ◌≤◌, ◌++◌, List, ℕ, [], length, OnOk, OnErr, IsErr, Err};
+ghost use Rattle.line_source.specs.declared.transfer.TheConstants.{MAX_FILE};
 ghost use Rattle.rinex_head.specs.declared.system.System.{System};
 ghost use Rattle.rinex_head.specs.declared.system.System.TheVariants.{Gps, Galileo};
 ghost use Rattle.rinex_obs.specs.Feeding.{IsAnswerTo};
@@ -75,7 +76,8 @@ impl<S: OneSystem> SystemFeed<S> {
     /// The observation file that the text taken stands for, or the first place at which it stands for none: the same for
     /// all texts for which the feed stands, however they were cut.
     pub fn finish(self) -> Result<ObsFile, TextFault>
-        ensures answers { (text : List ℕ) → ⟦<SystemFeed<S> as Taker>⟧.stands_for self text → IsAnswerTo S.system text result }
+        ensures answers { (text : List ℕ) → ⟦<SystemFeed<S> as Taker>⟧.stands_for self text →
+            IsAnswerTo S.system text result }
         ensures no_memory { HasNoMemory self.feed.state → result ≡ Err TextFault.NoMemory }
     {
         self.feed.finish()
@@ -92,9 +94,12 @@ impl<S: OneSystem> Taker for SystemFeed<S> {
     /// Takes the next piece. After a line that is refused it drops what follows. After running out of memory it answers
     /// so again, and so does `finish`.
     fn take(&mut self, piece: &[u8]) -> Result<(), AllocError>
-        requires { ⟦<Feed as Taker>⟧.taken self.old.feed + length piece.now ≤ 67108864 }
-        ensures counted { OnOk result (⟦<Feed as Taker>⟧.taken self.new.feed ≡ ⟦<Feed as Taker>⟧.taken self.old.feed + length piece.now) }
-        ensures stands { OnOk result ((text : List ℕ) → ⟦<Feed as Taker>⟧.stands_for self.old.feed text → ⟦<Feed as Taker>⟧.stands_for self.new.feed (text ++ piece.now)) }
+        requires { ⟦<Feed as Taker>⟧.taken self.old.feed + length piece.now ≤ MAX_FILE }
+        ensures counted { OnOk result (⟦<Feed as Taker>⟧.taken self.new.feed
+            ≡ ⟦<Feed as Taker>⟧.taken self.old.feed + length piece.now) }
+        ensures stands { OnOk result ((text : List ℕ) →
+            ⟦<Feed as Taker>⟧.stands_for self.old.feed text →
+            ⟦<Feed as Taker>⟧.stands_for self.new.feed (text ++ piece.now)) }
         ensures no_memory { OnErr result (HasNoMemory self.new.feed.state) }
         ensures again { HasNoMemory self.old.feed.state → IsErr result }
     {

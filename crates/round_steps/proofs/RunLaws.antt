@@ -1,5 +1,5 @@
 -- Runs, round by round.
-use Rattle.std.proofs.Common.{◌≡◌, ℕ, ◌+◌, ◌-◌, ◌*◌, ◌^◌, ◌<◌, ◌≤◌, inl, inr, true, false, Bool, cond, nat_eq, Option, Some, List, ◌∷◌, All, ℤ, arith, sym, ap, ◌∙◌, refl, subst}
+use Rattle.std.proofs.Common.{◌≡◌, ℕ, ◌+◌, ◌-◌, ◌*◌, ◌^◌, ◌<◌, ◌≤◌, inl, inr, true, false, Bool, cond, nat_eq, Option, Some, List, [], ◌∷◌, All, ℤ, arith, sym, ap, ◌∙◌, refl, subst}
 use Rattle.std.proofs.lemmas.Bool.Decides.{nat_tests}
 use Rattle.std.proofs.lemmas.List.Sums.{sum_by-cons}
 use Rattle.obs_rows.specs.declared.arcs.Arc.{Arc}
@@ -16,7 +16,7 @@ use Rattle.obs_rows.specs.ReceiverPoints.{IsReceiverPoint}
 use Rattle.round_steps.specs.Shifts.{AreGrown, AreSameArcs, AreShiftsBelow}
 use Rattle.cert_check.specs.Settled.{IsDecision}
 use Rattle.round_steps.specs.Steps.{IsSettledForm, IsMoved, IsRoundDeclined}
-use Rattle.round_steps.specs.Runs.{Round, Rules, round_of, IsSessionOf, IsSessionAt, coarse, fine, IsRunTo, rounds_at, rounds_with, most_rounds, is_last, Reaches, EndsEarly, EndsFull, coarse_alone, SettlesAt}
+use Rattle.round_steps.specs.Runs.{Round, Rules, round_of, IsSessionOf, IsSessionAt, MayBegin, coarse, fine, IsRunTo, rounds_at, rounds_with, most_rounds, is_last, Reaches, EndsEarly, EndsFull, coarse_alone, SettlesAt}
 use Rattle.round_steps.proofs.ShiftLaws.{grown_same}
 use Rattle.round_steps.proofs.UsedShifts.{grown_used}
 
@@ -73,6 +73,17 @@ pub record CoarseSoFar (rules : Rules) (point : List ℤ) (arcs : List Arc) (mad
   pub few : made ≤ most_rounds COARSE_SCALE
   pub none_fine : rounds_at 0 before ≡ 0
   pub in_reach : IsReceiverPoint point
+
+-- the first of them is at the base
+pub coarse_begins : (rules : Rules) (made : ℕ) (arcs : List Arc) (base : List ℤ) → MayBegin rules made arcs base → CoarseSoFar rules base arcs 1
+coarse_begins rules made arcs base begins = record {
+  before = [];
+  run = ap (λ (point : List ℤ). coarse point arcs) begins.base_is ∙ ap (λ (others : List Arc). coarse rules.base others) begins.arcs_are;
+  count = refl;
+  few = omega arith;
+  none_fine = refl;
+  in_reach = begins.base_in;
+}
 
 coarse_reached : (rules : Rules) (point : List ℤ) (arcs : List Arc) (made : ℕ) (so_far : CoarseSoFar rules point arcs made) → Reaches rules (coarse_alone made) so_far.before (coarse point arcs)
 coarse_reached rules point arcs made so_far = record {

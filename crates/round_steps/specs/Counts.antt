@@ -3,6 +3,7 @@ use Rattle.std.specs.Prelude.{ℕ, ◌<◌, ◌⊎◌, Bool, ◌&&◌, nat_le, L
 use Rattle.obs_rows.specs.declared.arcs.Arc.{Arc}
 use Rattle.obs_rows.specs.Arcs.{free_count}
 use Rattle.obs_rows.specs.declared.units.TheConstants.{MOST_FREE_ARCS}
+use Rattle.obs_rows.specs.declared.limits.TheConstants.{MOST_ARCS}
 
 -- the arc holds the pair of this number
 abbrev pub holds : ℕ → Arc → Bool
@@ -18,4 +19,4 @@ AreFew pairs arcs = (number : ℕ) → number < pairs → held arcs number < 4
 
 -- over 20 arcs are free, or there are over 200
 abbrev pub AreMany : List Arc → Type 0
-AreMany arcs = (MOST_FREE_ARCS < free_count arcs) ⊎ (200 < length arcs)
+AreMany arcs = (MOST_FREE_ARCS < free_count arcs) ⊎ (MOST_ARCS < length arcs)

@@ -1,11 +1,12 @@
 -- Runs of rounds, from the first coarse round to the end. What a session has to stand for is given by the files; here it
 -- is a part of the rules.
-use Rattle.std.specs.Prelude.{◌≡◌, ℕ, Option, Some, None, ◌+◌, ◌≤◌, ◌⊎◌, ◌↔◌, ◌==◌, Bool, if◌then◌else◌, List, [], ◌∷◌, count_by, ℤ}
+use Rattle.std.specs.Prelude.{◌≡◌, ℕ, Option, Some, None, ◌+◌, ◌≤◌, ◌⊎◌, ◌↔◌, ◌^◌, ◌==◌, Bool, if◌then◌else◌, List, [], ◌∷◌, count_by, All, ℤ}
 use Rattle.obs_rows.specs.declared.arcs.Arc.{Arc}
 use Rattle.obs_rows.specs.declared.bands.Signals.{Signals}
 use Rattle.obs_rows.specs.declared.sessions.Session.{Session}
 use Rattle.obs_rows.specs.declared.units.TheConstants.{COARSE_SCALE}
 use Rattle.obs_rows.specs.Signals.{fine_signals}
+use Rattle.obs_rows.specs.Unused.{HasUsedShifts}
 use Rattle.integer_form.specs.declared.form.Form.{Form}
 use Rattle.integer_form.specs.declared.faults.Place.TheVariants as Place
 use Rattle.cert_data.specs.Tails.{IsTailOf}
@@ -15,7 +16,7 @@ use Rattle.cert_data.specs.declared.outcomes.Stage.{Stage}
 use Rattle.cert_data.specs.declared.outcomes.Stage.TheVariants.{Coarse, Fine}
 use Rattle.round_steps.specs.declared.runs.RunEnd.{RunEnd}
 use Rattle.round_steps.specs.declared.runs.CoarseEnd.{CoarseEnd}
-use Rattle.round_steps.specs.Shifts.{AreGrown}
+use Rattle.round_steps.specs.Shifts.{AreGrown, AreShiftsBelow}
 use Rattle.obs_rows.specs.ReceiverPoints.{IsReceiverPoint}
 use Rattle.cert_check.specs.Settled.{IsBestWhereFixed}
 use Rattle.round_steps.specs.Steps.{IsSettledForm, IsMoved, IsRoundDeclined, IsRoundDecided}
@@ -35,6 +36,16 @@ pub record Rules : Type 1 where
   pub stands : Session → Type 0
   pub begins : List ℤ → List Arc → Type 0
   pub may_be_wide : Round → Type 0
+
+-- a run that keeps to these rules may begin with these arcs at this base: none of its sessions was made, and they are those of the
+-- rules, in their ranges
+pub record MayBegin (rules : Rules) (made : ℕ) (arcs : List Arc) (base : List ℤ) : Type 0 where
+  pub fresh : made ≡ 0
+  pub base_is : base ≡ rules.base
+  pub arcs_are : arcs ≡ rules.arcs
+  pub base_in : IsReceiverPoint base
+  pub shifts_in : AreShiftsBelow (2 ^ 40) arcs
+  pub used : All (HasUsedShifts (fine_signals rules.signals)) arcs
 
 -- what a run keeps to, before and after one of its sessions was made
 pub record StayTheSame (old new : Rules) : Type 0 where

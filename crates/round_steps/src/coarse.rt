@@ -56,7 +56,8 @@ fn numbers_by_front(
     session: &Session,
     tables: &mut CoarseTables,
 ) -> Result<[i64; MOST_FACTORS], Tail>
-    requires of_rows { IsNormalOf session.now.arcs (counted session.now.signals session.now.scale) session.now.pairs tables.old.normal }
+    requires of_rows { IsNormalOf session.now.arcs
+        (counted session.now.signals session.now.scale) session.now.pairs tables.old.normal }
     requires no_integers { tables.old.normal.columns ≡ 4 }
     ensures float { IfOk result (λ x. IsFloatOf session.now x) }
     ensures refused { IfErr result (λ t. (last : Bool) → IsRoundDeclined last session.now t) }
@@ -72,7 +73,8 @@ fn numbers_by_front(
 
 /// The numbers of the float point, by the whole form.
 fn numbers_by_form(session: &Session, normal: &Normal) -> Result<[i64; MOST_FACTORS], Tail>
-    requires of_rows { IsNormalOf session.now.arcs (counted session.now.signals session.now.scale) session.now.pairs normal.now }
+    requires of_rows { IsNormalOf session.now.arcs
+        (counted session.now.signals session.now.scale) session.now.pairs normal.now }
     ensures float { IfOk result (λ x. IsFloatOf session.now x) }
     ensures refused { IfErr result (λ t. (last : Bool) → IsRoundDeclined last session.now t) }
 {

@@ -4,13 +4,10 @@ ghost use Rattle.obs_rows.specs.Arcs.{free_count};
 ghost use Rattle.obs_rows.specs.declared.limits.TheConstants.{MOST_KEPT_ARCS};
 ghost use Rattle.round_steps.specs.Counts.{held, AreFew, AreMany};
 
-use obs_rows::{Arc, MOST_FREE_ARCS, free_arcs};
+use obs_rows::{Arc, MOST_ARCS, MOST_FREE_ARCS, free_arcs};
 
 /// A baseline and the clock are four numbers.
 pub const LEAST_SATELLITES: usize = 4;
-
-/// The most arcs of a session.
-const MOST_ARCS: usize = 200;
 
 /// How many of the arcs hold the pair of this number.
 pub fn held(arcs: &[Arc], number: u32) -> usize

@@ -17,7 +17,8 @@ use whole_math::nearest;
 fn unit(scale: u32) -> i64
     requires { IsScale scale }
     ensures value { result ≡ pos (2 ^ scale * unsigned_abs LIGHT_SPEED) }
-    ensures size { 2 ^ scale * unsigned_abs LIGHT_SPEED ≤ 2 ^ COARSE_SCALE * unsigned_abs LIGHT_SPEED }
+    ensures size { 2 ^ scale * unsigned_abs LIGHT_SPEED
+        ≤ 2 ^ COARSE_SCALE * unsigned_abs LIGHT_SPEED }
 {
     if scale == 0 {
         LIGHT_SPEED
@@ -40,7 +41,8 @@ fn scaled(scale: u32, number: i64) -> i128
 fn in_point_units(scale: u32, number: i64) -> i64
     requires scale { IsScale scale }
     requires number { IsBelow (2 ^ 46) number }
-    ensures value { result ≡ nearest_div (number *ℤ pos (2 ^ scale * unsigned_abs LIGHT_SPEED)) parts }
+    ensures value { result
+        ≡ nearest_div (number *ℤ pos (2 ^ scale * unsigned_abs LIGHT_SPEED)) parts }
     ensures size { unsigned_abs result < 2 ^ 58 }
 {
     nearest(scaled(scale, number), MOVE_DIVISOR) as i64

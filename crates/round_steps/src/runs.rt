@@ -6,9 +6,9 @@ ghost use Rattle.obs_rows.specs.Signals.{fine_signals};
 ghost use Rattle.obs_rows.specs.Unused.{HasUsedShifts};
 ghost use Rattle.obs_rows.specs.declared.units.TheConstants.{COARSE_SCALE, MOST_FREE_ARCS};
 ghost use Rattle.obs_rows.specs.ReceiverPoints.{IsReceiverPoint};
-ghost use Rattle.obs_rows.specs.declared.limits.TheConstants.{MOST_RATIO};
+ghost use Rattle.obs_rows.specs.declared.limits.TheConstants.{MOST_RATIO, MOST_ARCS};
 ghost use Rattle.round_steps.specs.Shifts.{AreSameArcs, AreShiftsBelow};
-ghost use Rattle.round_steps.specs.Runs.{Rules, StayTheSame, IsSessionAt, SettlesAt, IsCoarseEnd, IsEnd, FitsEnd, IsBestEnd, round_at, most_rounds, coarse_sessions, sessions_of};
+ghost use Rattle.round_steps.specs.Runs.{Rules, MayBegin, StayTheSame, IsSessionAt, SettlesAt, IsCoarseEnd, IsEnd, FitsEnd, IsBestEnd, round_at, most_rounds, coarse_sessions, sessions_of};
 
 use crate::coarse::{CoarseTables, coarse_step};
 use crate::{Step, grown, round_step};
@@ -44,7 +44,8 @@ pub trait Rounds {
         requires arcs { AreSameArcs (rules self.old).arcs arcs.now }
         requires shifts { AreShiftsBelow (2 ^ 40) arcs.now }
         requires used { All (HasUsedShifts (fine_signals (rules self.old).signals)) arcs.now }
-        ensures session { IfOk result (IsSessionAt (rules self.old) (round_at scale point.now arcs.now)) }
+        ensures session { IfOk result
+            (IsSessionAt (rules self.old) (round_at scale point.now arcs.now)) }
         ensures rules { StayTheSame (rules self.old) (rules self.new) }
         ensures ready { ready self.new }
         ensures made { made self.new ≡ made self.old + 1 };
@@ -56,7 +57,8 @@ pub trait Rounds {
         ensures begins { IfOk result (λ v. (rules self.now).begins point.now v.items) }
         ensures arcs { IfOk result (λ v. AreSameArcs (rules self.now).arcs v.items) }
         ensures shifts { IfOk result (λ v. AreShiftsBelow (2 ^ 39) v.items) }
-        ensures used { IfOk result (λ v. All (HasUsedShifts (fine_signals (rules self.now).signals)) v.items) };
+        ensures used { IfOk result (λ v.
+            All (HasUsedShifts (fine_signals (rules self.now).signals)) v.items) };
 }
 
 /// How a run ends, and after how many rounds.
@@ -101,12 +103,7 @@ pub fn coarse_rounds<R: Rounds>(
     base: &[i64; 3],
 ) -> Result<CoarseEnd, AllocError>
     requires ready { R.ready rounds.old }
-    requires fresh { R.made rounds.old ≡ 0 }
-    requires base { base.now ≡ (R.rules rounds.old).base }
-    requires arcs { arcs.now ≡ (R.rules rounds.old).arcs }
-    requires point { IsReceiverPoint base.now }
-    requires shifts { AreShiftsBelow (2 ^ 40) arcs.now }
-    requires used { All (HasUsedShifts (fine_signals (R.rules rounds.old).signals)) arcs.now }
+    requires begins { MayBegin (R.rules rounds.old) (R.made rounds.old) arcs.now base.now }
     ensures end { IfOk result (IsCoarseEnd (R.rules rounds.old)) }
     ensures rules { StayTheSame (R.rules rounds.old) (R.rules rounds.new) }
     ensures ready { R.ready rounds.new }
@@ -142,7 +139,7 @@ fn fine_rounds<R: Rounds>(
     requires ready { R.ready rounds.old }
     requires made { R.made rounds.old ≡ coarse }
     requires first { SettlesAt (R.rules rounds.old) coarse first.now }
-    requires few { length (R.rules rounds.old).arcs ≤ 200 }
+    requires few { length (R.rules rounds.old).arcs ≤ MOST_ARCS }
     requires free { free_count (R.rules rounds.old).arcs ≤ MOST_FREE_ARCS }
     requires ratio_from { 1000 ≤ ratio }
     requires ratio_to { ratio ≤ MOST_RATIO }
@@ -208,13 +205,8 @@ pub fn run<R: Rounds>(
     budget: u64,
 ) -> Result<RunEnd, AllocError>
     requires ready { R.ready rounds.old }
-    requires fresh { R.made rounds.old ≡ 0 }
-    requires base { base.now ≡ (R.rules rounds.old).base }
-    requires arcs { arcs.now ≡ (R.rules rounds.old).arcs }
-    requires point { IsReceiverPoint base.now }
-    requires shifts { AreShiftsBelow (2 ^ 40) arcs.now }
-    requires used { All (HasUsedShifts (fine_signals (R.rules rounds.old).signals)) arcs.now }
-    requires few { length arcs.now ≤ 200 }
+    requires begins { MayBegin (R.rules rounds.old) (R.made rounds.old) arcs.now base.now }
+    requires few { length arcs.now ≤ MOST_ARCS }
     requires free { free_count arcs.now ≤ MOST_FREE_ARCS }
     requires ratio_from { 1000 ≤ ratio }
     requires ratio_to { ratio ≤ MOST_RATIO }

@@ -4,6 +4,7 @@ ghost use Rattle.obs_rows.specs.Ranges.{IsBelow};
 ghost use Rattle.obs_rows.specs.Arcs.{free_count};
 ghost use Rattle.obs_rows.specs.Signals.{is_phase, AreCounted};
 ghost use Rattle.obs_rows.specs.declared.units.TheConstants.{MOST_FREE_ARCS, SIGNALS};
+ghost use Rattle.obs_rows.specs.declared.limits.TheConstants.{MOST_ARCS};
 ghost use Rattle.integer_form.specs.FloatPoint.{item};
 ghost use Rattle.round_steps.specs.Shifts.{growth, grown_shift, grown_arc, AreGrown, AreShiftsBelow};
 
@@ -67,7 +68,8 @@ fn grown_arc(
     requires numbers { (j : ℕ) → unsigned_abs (item numbers.now j) < 2 ^ 46 }
     requires shifts { All (IsBelow (2 ^ 40)) arc.now.shift }
     ensures grown { result ≡ grown_arc arcs.now signals.now numbers.now k arc.now }
-    ensures below { (m : ℕ) → All (IsBelow m) arc.now.shift → 0 < m → All (IsBelow (m + 2 ^ 30)) result.shift }
+    ensures below { (m : ℕ) → All (IsBelow m) arc.now.shift → 0 < m →
+        All (IsBelow (m + 2 ^ 30)) result.shift }
 {
     let mut shift = [0; PHASES];
     for band in 0..PHASES {
@@ -91,13 +93,14 @@ pub fn grown(
     signals: &[usize],
     numbers: &[i64; MOST_FACTORS],
 ) -> Result<Vec<Arc>, AllocError>
-    requires few { length arcs.now ≤ 200 }
+    requires few { length arcs.now ≤ MOST_ARCS }
     requires few_free { free_count arcs.now ≤ MOST_FREE_ARCS }
     requires counted { AreCounted signals.now }
     requires numbers { (j : ℕ) → unsigned_abs (item numbers.now j) < 2 ^ 46 }
     requires shifts { AreShiftsBelow (2 ^ 40) arcs.now }
     ensures grown { IfOk result (λ v. AreGrown arcs.now signals.now numbers.now v.items) }
-    ensures below { IfOk result (λ v. (m : ℕ) → AreShiftsBelow m arcs.now → 0 < m → AreShiftsBelow (m + 2 ^ 30) v.items) }
+    ensures below { IfOk result (λ v. (m : ℕ) → AreShiftsBelow m arcs.now → 0 < m →
+        AreShiftsBelow (m + 2 ^ 30) v.items) }
 {
     let mut after = Vec::new(alloc);
     for k in 0..arcs.len() {

@@ -64,7 +64,8 @@ pub fn round_step(session: &Session, last: bool) -> Result<Step, Tail>
     ensures step { IfOk result (IsStep last session.now) }
     ensures declined { IfErr result (IsRoundDeclined last session.now) }
     ensures never_fixed { IfErr result (IsBestWhereFixed session.now) }
-    ensures fits { IfErr result (λ t. (ss : List ℕ) (budget : ℕ) → IsTailOf ss session.now.arcs budget t) }
+    ensures fits { IfErr result (λ t. (ss : List ℕ) (budget : ℕ) →
+        IsTailOf ss session.now.arcs budget t) }
 {
     let solved = solve(session)?;
     let Some(entry) = first_over(session.scale, &solved.numbers) else {

@@ -179,8 +179,10 @@ fn observed_box(signal: usize, amount: i64) -> Observed
     ensures holds { InBox iota_exponent result.lo result.hi (observed signal amount) }
     ensures lo_size { unsigned_abs result.lo ≤ 2 ^ 67 }
     ensures hi_size { unsigned_abs result.hi ≤ 2 ^ 67 }
-    ensures phase { IsTrue (is_phase signal) → 1000 * unsigned_abs result.lo ≤ unsigned_abs (wavelength signal) * 2 ^ 63 + 1000 }
-    ensures code { IsTrue (not (is_phase signal)) → unsigned_abs amount < 2 ^ 37 → unsigned_abs result.lo ≤ 2 ^ 56 }
+    ensures phase { IsTrue (is_phase signal) →
+        1000 * unsigned_abs result.lo ≤ unsigned_abs (wavelength signal) * 2 ^ 63 + 1000 }
+    ensures code { IsTrue (not (is_phase signal)) → unsigned_abs amount < 2 ^ 37 →
+        unsigned_abs result.lo ≤ 2 ^ 56 }
 {
     match signal {
         0 => l1_box(amount),
@@ -204,10 +206,13 @@ fn less(observed: i128, rover: i64, base: i64) -> i128
 pub fn prefit_of(signal: usize, amount: i64, base: &Pseudorange, rover: &Pseudorange) -> Prefit
     requires signal { signal < SIGNALS }
     requires size { unsigned_abs amount < 2 ^ 48 }
-    ensures holds { (b r : Rational) → InBox iota_exponent base.now.lo base.now.hi b → InBox iota_exponent rover.now.lo rover.now.hi r →
+    ensures holds { (b r : Rational) → InBox iota_exponent base.now.lo base.now.hi b →
+        InBox iota_exponent rover.now.lo rover.now.hi r →
         InBox iota_exponent result.lo result.hi (observed signal amount -ʳ (r -ʳ b)) }
-    ensures phase { IsTrue (is_phase signal) → 1000 * unsigned_abs result.lo ≤ unsigned_abs (wavelength signal) * 2 ^ 63 + 1000 * 2 ^ 57 }
-    ensures code { IsTrue (not (is_phase signal)) → unsigned_abs amount < 2 ^ 37 → unsigned_abs result.lo ≤ 2 ^ 57 }
+    ensures phase { IsTrue (is_phase signal) →
+        1000 * unsigned_abs result.lo ≤ unsigned_abs (wavelength signal) * 2 ^ 63 + 1000 * 2 ^ 57 }
+    ensures code { IsTrue (not (is_phase signal)) → unsigned_abs amount < 2 ^ 37 →
+        unsigned_abs result.lo ≤ 2 ^ 57 }
 {
     let held = observed_box(signal, amount);
     Prefit {

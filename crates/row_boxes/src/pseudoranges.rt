@@ -62,7 +62,8 @@ pub fn over_half_light_speed(units: u128) -> u64
 // What is raised, in units of 2^-15 ι over HALF_LIGHT_SPEED · 2^39
 fn raised_units(metres: i128) -> u128
     requires { unsigned_abs metres ≤ 2 ^ 86 + 2 ^ 83 }
-    ensures value { pos result ≡ (metres *ℤ pos METRE_UNITS) +ℤ pos (METRE_UNITS * HALF_LIGHT_SPEED * 2 ^ 60) }
+    ensures value { pos result
+        ≡ (metres *ℤ pos METRE_UNITS) +ℤ pos (METRE_UNITS * HALF_LIGHT_SPEED * 2 ^ 60) }
     ensures size { result < 2 ^ 122 }
 {
     (metres + METRE_OFFSET) as u128 * METRE_UNITS
@@ -91,7 +92,8 @@ pub fn pseudorange_of(range: &Iv<36>, clock: &Iv<60>) -> Pseudorange
     requires range_narrow { width_of range.now ≤ℤ pos (2 ^ 19) }
     requires clock_narrow { width_of clock.now ≤ℤ pos (2 ^ 10) }
     requires clock_small { IsWithin (2 ^ 54) clock.now }
-    ensures { (r t : Rational) → Holds range.now r → Holds clock.now t → InBox iota_exponent result.lo result.hi (pseudorange r t) }
+    ensures { (r t : Rational) → Holds range.now r → Holds clock.now t →
+        InBox iota_exponent result.lo result.hi (pseudorange r t) }
 {
     Pseudorange {
         lo: below(less_clock(range.lo, clock.hi)),

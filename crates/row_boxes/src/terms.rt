@@ -69,7 +69,8 @@ fn y_of_signal(
     requires shift { All (IsBelow (2 ^ 40)) shift.now }
     requires scale { IsScale scale }
     ensures holds { (p : Pairing) → HoldsBoth p base.now rover.now →
-        HoldsY p scale signal (number_at amounts.now signal) group (number_at shift.now (band signal)) result.centre result.radius }
+        HoldsY p scale signal (number_at amounts.now signal) group
+        (number_at shift.now (band signal)) result.centre result.radius }
     ensures radius { result.radius ≤ℤ most_radius scale }
 {
     let prefit = prefit_of(signal, amounts[signal], base, rover);
@@ -103,10 +104,12 @@ pub fn observations_of(
     requires group { unsigned_abs group ≤ 2 ^ 43 }
     requires shift { All (IsBelow (2 ^ 40)) shift.now }
     requires scale { IsScale scale }
-    ensures holds { IfSome result (λ o. (p : Pairing) → HoldsBoth p base.now rover.now → HoldsYs p ss.now scale amounts.now group shift.now o.y o.ry) }
+    ensures holds { IfSome result (λ o. (p : Pairing) → HoldsBoth p base.now rover.now →
+        HoldsYs p ss.now scale amounts.now group shift.now o.y o.ry) }
     ensures radius { IfSome result (λ o. o.ry ≤ℤ most_radius scale) }
     ensures others { IfSome result (λ o. IsZeroOff ss.now o.y) }
-    ensures far { result ≡ None → (p : Pairing) → HoldsBoth p base.now rover.now → HasSightings p → HasFarSignal p ss.now scale amounts.now group shift.now }
+    ensures far { result ≡ None → (p : Pairing) → HoldsBoth p base.now rover.now → HasSightings p →
+        HasFarSignal p ss.now scale amounts.now group shift.now }
 {
     let mut y = [0; SIGNALS];
     let mut ry = 0;

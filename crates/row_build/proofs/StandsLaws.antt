@@ -7,8 +7,7 @@ use Rattle.rational.specs.Rational.{Rational, Near}
 use Rattle.orbit_model.specs.Solution.{Quantities}
 use Rattle.sv_orbit.specs.declared.place.SvBox.{SvBox}
 use Rattle.sv_orbit.specs.Solutions.{HoldsSolution}
-use Rattle.orbit_model.specs.SeenPlaces.{Place, sent_place}
-use Rattle.signal_travel.specs.Boxes.{HoldsPlace}
+use Rattle.orbit_model.specs.SeenPlaces.{Place, sent_place, HoldsPlace}
 use Rattle.eph_store.specs.declared.ephemeris.Eph.{Eph}
 use Rattle.obs_store.specs.declared.series.Epoch.{Epoch}
 use Rattle.epoch_pair.specs.declared.pairs.PairOf.{PairOf}
@@ -25,7 +24,6 @@ use Rattle.slip_arcs.specs.Linked.{HaveDatums}
 use Rattle.screening.specs.declared.sv_pair.SvPair.{SvPair}
 use Rattle.screening.specs.Sightings.{Setting, Sent, WasSent, code_of}
 use Rattle.screening.specs.Screening.{AreEpochsOf, AreUsedPairs, IsSvPair}
-use Rattle.screening.proofs.SightLaws.{place_held}
 use Rattle.row_boxes.specs.Sightings.{Sighting, IsSighting, HasSighting, y_in_rows}
 use Rattle.row_build.specs.Entries.{IsEntry}
 use Rattle.row_build.specs.Rows.{setting, IsRow}
@@ -41,7 +39,7 @@ solved : (t : Setting) (eph : Eph) (tag : ℕ) (code : ℤ) (point : List ℤ) (
 solved t eph tag code point b s holds h =
     let holds_solution : HoldsSolution b h.solution = holds h.solution h.sent in
     record {
-      sent_in = subst (λ (p : Place). HoldsPlace b.place p) (sym h.place) (place_held b.place h.solution holds_solution.place);
+      sent_in = subst (λ (p : Place). HoldsPlace b.place p) (sym h.place) holds_solution.place;
       clock_in = subst (λ (c : Rational). Holds b.clock c) (sym h.clock) holds_solution.clock;
       seen_is = h.seen;
     }
@@ -51,7 +49,7 @@ has_solved : (t : Setting) (eph : Eph) (tag : ℕ) (code : ℤ) (point : List �
     HasSighting b point → HasSolved t eph tag code point
 has_solved t eph tag code point b holds was seen =
     let quantities : Quantities = was.quantities in
-    let there = seen.every (sent_place quantities) (place_held b.place quantities (holds quantities was.is).place) in
+    let there = seen.every (sent_place quantities) (holds quantities was.is).place in
     record {
       sighting = record { sent = sent_place quantities; clock = quantities.clock; seen = there.seen; travel = there.travel };
       is = record { solution = quantities; sent = was.is; place = refl; clock = refl; seen = there.is_seen };

@@ -2,7 +2,7 @@
 use Rattle.std.specs.Prelude.{◌≡◌, ℕ, ◌^◌, Some, List, All, slice_get, ℤ, pos, ◌≤ℤ◌}
 use Rattle.rational.specs.Rational.{Rational, of_whole, ◌*ʳ◌, Near}
 use Rattle.sv_orbit.specs.declared.place.SvBox.{SvBox}
-use Rattle.orbit_model.specs.SeenPlaces.{Place, IsDisplacement, IsMeanDirection}
+use Rattle.orbit_model.specs.SeenPlaces.{Place, IsDisplacement, IsMeanDirection, place_at}
 use Rattle.obs_rows.specs.declared.arcs.Arc.{Arc}
 use Rattle.obs_rows.specs.declared.rows.Row.{Row}
 use Rattle.obs_rows.specs.Data.{number_at}
@@ -11,7 +11,7 @@ use Rattle.obs_rows.specs.Signals.{counted}
 use Rattle.obs_rows.specs.Unused.{IsZeroOff}
 use Rattle.obs_rows.specs.declared.units.TheConstants.{DIRECTION_EXPONENT}
 use Rattle.screening.specs.declared.sv_pair.SvPair.{SvPair}
-use Rattle.row_boxes.specs.Sightings.{Sighting, IsSighting, place_at}
+use Rattle.row_boxes.specs.Sightings.{Sighting, IsSighting}
 use Rattle.row_boxes.specs.YBoxes.{Pairing, HasSightings, HoldsYs, most_radius}
 use Rattle.row_build.specs.declared.sources.RowSource.{RowSource}
 use Rattle.row_build.specs.Entries.{IsEntry}

@@ -1,11 +1,11 @@
 -- What the rover sees of an entry's satellite, and what both receivers do.
 use Rattle.std.specs.Prelude.{◌≡◌, ℕ, Some, List, [], ◌∷◌, slice_get, ℤ}
-use Rattle.orbit_model.specs.SeenPlaces.{Place, IsDisplacement, IsMeanDirection}
+use Rattle.orbit_model.specs.SeenPlaces.{Place, IsDisplacement, IsMeanDirection, place_at}
 use Rattle.signal_travel.specs.declared.spread.Spread.{Spread}
 use Rattle.signal_travel.specs.Directions.{IsInSpread}
 use Rattle.screening.specs.declared.sv_pair.SvPair.{SvPair}
 use Rattle.row_boxes.specs.declared.sights.Sight.{Sight}
-use Rattle.row_boxes.specs.Sightings.{Sighting, IsSighting, HasSighting, place_at}
+use Rattle.row_boxes.specs.Sightings.{Sighting, IsSighting, HasSighting}
 use Rattle.row_boxes.specs.YBoxes.{HoldsPseudoranges}
 use Rattle.row_build.specs.Halves.{IsBaseHalf}
 use Rattle.row_build.specs.declared.entries.Entry.{Entry}

@@ -2,7 +2,7 @@
 use Rattle.std.specs.Prelude.{◌≡◌, ℕ, Some, List, length, map, All, slice_get, ℤ, pos, ◌≤ℤ◌}
 use Rattle.rational.specs.Rational.{Near}
 use Rattle.orbit_model.specs.Solution.{Quantities}
-use Rattle.orbit_model.specs.SeenPlaces.{Place, IsSeenPlace, IsDisplacement, IsMeanDirection, sent_place}
+use Rattle.orbit_model.specs.SeenPlaces.{Place, IsSeenPlace, IsDisplacement, IsMeanDirection, sent_place, place_at}
 use Rattle.eph_store.specs.declared.ephemeris.Eph.{Eph}
 use Rattle.obs_store.specs.declared.series.Epoch.{Epoch}
 use Rattle.epoch_pair.specs.declared.pairs.PairOf.{PairOf}
@@ -21,7 +21,7 @@ use Rattle.screening.specs.Amounts.{differences}
 use Rattle.screening.specs.Sightings.{Setting, Sent, code_of}
 use Rattle.screening.specs.Sightings.{Sighting as Observed, IsSighting as AreObserved}
 use Rattle.screening.specs.Screening.{AreEpochsOf, AreUsedPairs}
-use Rattle.row_boxes.specs.Sightings.{Sighting, place_at, y_in_rows}
+use Rattle.row_boxes.specs.Sightings.{Sighting, y_in_rows}
 use Rattle.row_boxes.specs.YBoxes.{most_radius, MeetsOne}
 use Rattle.row_build.specs.HeldArcs.{arcs_at}
 use Rattle.row_build.specs.Rows.{IsInU}

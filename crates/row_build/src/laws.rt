@@ -21,15 +21,20 @@ ghost use Rattle.row_build.specs.Stands.{StandsForFiles};
 /// The session that `rows_at` makes of what `screen_in` screened and of the arcs that `cut` kept, with whatever shifts, stands for the
 /// files. There is nothing to run: the contract is the law.
 pub fn stands_law()
-    ensures { (rules : Setting) (base rover : List Epoch) (taken : List PairOf) (bands : List ℕ) (jump least short : ℕ) (used : List UsedPair) (boxes : List SvPair) (s : Session) →
-        AreUsedPairs rules base rover taken used → All (IsSvPair rules base rover taken) boxes → AreKept bands jump least used s.arcs short → HaveDatums s.arcs →
-        AreSessionRows (setting boxes s.arcs s.base s.point s.signals s.scale) (length used) s.pairs →
-        StandsForFiles rules base rover taken bands jump least s.system s.base s.signals s.point (map (λ a. a.shift) s.arcs) s.scale s }
+    ensures { (rules : Setting) (base rover : List Epoch) (taken : List PairOf) (bands : List ℕ)
+        (jump least short : ℕ) (used : List UsedPair) (boxes : List SvPair) (s : Session) →
+        AreUsedPairs rules base rover taken used → All (IsSvPair rules base rover taken) boxes →
+        AreKept bands jump least used s.arcs short → HaveDatums s.arcs →
+        AreSessionRows (setting boxes s.arcs s.base s.point s.signals s.scale)
+        (length used) s.pairs → StandsForFiles rules base rover taken bands jump least s.system
+        s.base s.signals s.point (map (λ a. a.shift) s.arcs) s.scale s }
 {}
 
 /// The rows of a pair stay what they are where shifts of arcs that don't hold it change: they are the rows of all arcs that agree at
 /// the pair.
 pub fn carried_law()
-    ensures { (boxes : List SvPair) (arcs others : List Arc) (base point : List ℤ) (signals : Signals) (scale pair : ℕ) (p : PairRows) →
-        AgreeAt pair arcs others → ArePairRows (setting boxes arcs base point signals scale) pair p → ArePairRows (setting boxes others base point signals scale) pair p }
+    ensures { (boxes : List SvPair) (arcs others : List Arc) (base point : List ℤ)
+        (signals : Signals) (scale pair : ℕ) (p : PairRows) → AgreeAt pair arcs others →
+        ArePairRows (setting boxes arcs base point signals scale) pair p →
+        ArePairRows (setting boxes others base point signals scale) pair p }
 {}

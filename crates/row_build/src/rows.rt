@@ -19,7 +19,8 @@ fn row_over(arc: u16, held: &Observations, direction: &[Spread; 3]) -> Row
     ensures y { result.y ≡ held.now.y }
     ensures ry { result.ry ≡ held.now.ry }
     ensures u { (place : Place) → IsInSpreads direction.now place →
-        IsInU 0 result.u result.ru place.x × IsInU 1 result.u result.ru place.y × IsInU 2 result.u result.ru place.z }
+        IsInU 0 result.u result.ru place.x × IsInU 1 result.u result.ru place.y
+        × IsInU 2 result.u result.ru place.z }
     ensures narrow { All (λ n. n ≤ℤ pos 32) result.ru }
 {
     let [x, y, z] = *direction;
@@ -46,12 +47,17 @@ pub fn row_of(
     requires group { unsigned_abs group ≤ 2 ^ 43 }
     requires scale { IsScale scale }
     ensures arc { IfSome result (λ r. r.arc ≡ arc) }
-    ensures y { IfSome result (λ r. (base point : List ℤ) → IsSeen entry.now base point → HoldsYs (seen_by entry.now.sv.now base point) ss.now scale entry.now.sv.now.observed group shift.now r.y r.ry) }
+    ensures y { IfSome result (λ r. (base point : List ℤ) → IsSeen entry.now base point →
+        HoldsYs (seen_by entry.now.sv.now base point) ss.now scale entry.now.sv.now.observed group
+        shift.now r.y r.ry) }
     ensures radius { IfSome result (λ r. r.ry ≤ℤ most_radius scale) }
     ensures others { IfSome result (λ r. IsZeroOff ss.now r.y) }
-    ensures u { IfSome result (λ r. (base point : List ℤ) → IsSeen entry.now base point → HoldsU entry.now.sv.now.rover point r.u r.ru) }
+    ensures u { IfSome result (λ r. (base point : List ℤ) → IsSeen entry.now base point →
+        HoldsU entry.now.sv.now.rover point r.u r.ru) }
     ensures narrow { IfSome result (λ r. All (λ n. n ≤ℤ pos 32) r.ru) }
-    ensures far { result ≡ None → (base point : List ℤ) → IsSeen entry.now base point → HasFarSignal (seen_by entry.now.sv.now base point) ss.now scale entry.now.sv.now.observed group shift.now }
+    ensures far { result ≡ None → (base point : List ℤ) → IsSeen entry.now base point →
+        HasFarSignal (seen_by entry.now.sv.now base point) ss.now scale entry.now.sv.now.observed
+        group shift.now }
 {
     // All six, which the proof names.
     let sv = entry.sv;

@@ -4,10 +4,10 @@ ghost use Rattle.obs_rows.specs.ReceiverPoints.{IsReceiverPoint};
 ghost use Rattle.obs_rows.specs.Ranges.{IsScale, IsSystem};
 ghost use Rattle.obs_rows.specs.Arcs.{AreArcs};
 ghost use Rattle.obs_rows.specs.Pairs.{IsAfter, HasItsArcs};
+ghost use Rattle.obs_rows.specs.Heads.{KeepsHead};
 ghost use Rattle.obs_rows.specs.Signals.{fine_signals};
 ghost use Rattle.obs_rows.specs.Unused.{HasUsedRows, HasUsedShifts};
 ghost use Rattle.slip_arcs.specs.Linked.{IsCutOf};
-ghost use Rattle.row_build.specs.Halves.{AreBaseHalves};
 ghost use Rattle.row_build.specs.Rows.{setting, setting_from};
 ghost use Rattle.row_build.specs.SessionRows.{AreSessionRows, HasFarPair, listed};
 
@@ -23,12 +23,7 @@ fn add_pair(session: &mut SessionBuilder, rows: Option<PairRows>) -> Result<(), 
     requires arcs { IfSome rows (λ p. HasItsArcs session.old.arcs p) }
     requires rows { IfSome rows (HasUsedRows (fine_signals session.old.signals)) }
     ensures added { OnOk result (session.new.pairs ≡ session.old.pairs ++ listed rows) }
-    ensures scale { session.new.scale ≡ session.old.scale }
-    ensures system { session.new.system ≡ session.old.system }
-    ensures base { session.new.base ≡ session.old.base }
-    ensures point { session.new.point ≡ session.old.point }
-    ensures signals { session.new.signals ≡ session.old.signals }
-    ensures arcs { session.new.arcs ≡ session.old.arcs }
+    ensures head { KeepsHead session.old session.new }
 {
     match rows {
         Some(rows) => session.push(rows),
@@ -43,11 +38,7 @@ pub fn rows_with(
     scale: u32,
     system: u8,
 ) -> Result<Session, RowFault>
-    requires cut { IsCutOf from.now.screened.now.used from.now.arcs.now }
     requires arcs { AreArcs from.now.arcs.now }
-    requires halves { AreBaseHalves from.now.screened.now.boxes from.now.base.now from.now.halves.now }
-    requires base { IsReceiverPoint from.now.base.now }
-    requires point { IsReceiverPoint from.now.point.now }
     requires scale { IsScale scale }
     requires system { IsSystem system }
     requires shifts { All (HasUsedShifts (fine_signals from.now.signals)) from.now.arcs.now }
@@ -57,7 +48,8 @@ pub fn rows_with(
     ensures point { IfOk result (λ s. s.point ≡ from.now.point.now) }
     ensures signals { IfOk result (λ s. s.signals ≡ from.now.signals) }
     ensures arcs { IfOk result (λ s. s.arcs ≡ from.now.arcs.now) }
-    ensures rows { IfOk result (λ s. AreSessionRows (setting_from from.now scale) (length from.now.screened.now.used) s.pairs) }
+    ensures rows { IfOk result (λ s.
+        AreSessionRows (setting_from from.now scale) (length from.now.screened.now.used) s.pairs) }
     ensures overwidth { result ≡ Err RowFault.Overwidth → HasFarPair (setting_from from.now scale) }
 {
     let held = ArcList::new(Vec::from_slice(alloc, from.arcs)?);
@@ -96,8 +88,10 @@ pub fn rows_at(
     ensures point { IfOk result (λ s. s.point ≡ point.now) }
     ensures signals { IfOk result (λ s. s.signals ≡ signals) }
     ensures arcs { IfOk result (λ s. s.arcs ≡ arcs.now) }
-    ensures rows { IfOk result (λ s. AreSessionRows (setting screened.now.boxes arcs.now base.now point.now signals scale) (length screened.now.used) s.pairs) }
-    ensures overwidth { result ≡ Err RowFault.Overwidth → HasFarPair (setting screened.now.boxes arcs.now base.now point.now signals scale) }
+    ensures rows { IfOk result (λ s. AreSessionRows (setting screened.now.boxes arcs.now base.now
+        point.now signals scale) (length screened.now.used) s.pairs) }
+    ensures overwidth { result ≡ Err RowFault.Overwidth →
+        HasFarPair (setting screened.now.boxes arcs.now base.now point.now signals scale) }
 {
     let from = RowSource {
         screened,

@@ -7,12 +7,12 @@ ghost use Rattle.obs_rows.specs.Ranges.{IsScale, IsBelow};
 ghost use Rattle.obs_rows.specs.Data.{number_at};
 ghost use Rattle.obs_rows.specs.Signals.{wavelength, is_phase, band, phase_bands};
 ghost use Rattle.obs_rows.specs.Unused.{IsZeroOff};
+ghost use Rattle.obs_rows.specs.declared.limits.TheConstants.{MOST_ARCS};
 ghost use Rattle.slip_arcs.specs.Used.{is_used};
 ghost use Rattle.slip_arcs.specs.Linked.{IsCutOf};
 ghost use Rattle.row_boxes.specs.Sightings.{Sighting, y_of};
 ghost use Rattle.row_boxes.specs.YBoxes.{AreSightings, IsWithinHalf, IsAllowedGroup};
 ghost use Rattle.row_build.specs.HeldArcs.{holds_pair, arcs_at};
-ghost use Rattle.row_build.specs.Halves.{AreBaseHalves};
 ghost use Rattle.row_build.specs.Sights.{IsSeen};
 ghost use Rattle.row_build.specs.Rows.{setting, setting_from, seen_by};
 ghost use Rattle.row_build.specs.Far.{IsFirstEntry};
@@ -27,12 +27,7 @@ use screening::Screened;
 
 /// The entry of the satellite of a pair's first row, which is looked for from a likely place on first.
 pub fn first_entry<'a>(from: &RowSource<'a>, pair: u32, likely: usize) -> Entry<'a>
-    requires cut { IsCutOf from.now.screened.now.used from.now.arcs.now }
-    requires few { length from.now.arcs.now ≤ 200 }
     requires held { arcs_at from.now.arcs.now pair ≢ [] }
-    requires halves { AreBaseHalves from.now.screened.now.boxes from.now.base.now from.now.halves.now }
-    requires base { IsReceiverPoint from.now.base.now }
-    requires point { IsReceiverPoint from.now.point.now }
     ensures entry { IsFirstEntry from.now.screened.now.boxes from.now.arcs.now pair result.sv.now }
     ensures seen { IsSeen result from.now.base.now from.now.point.now }
 {
@@ -43,10 +38,12 @@ pub fn first_entry<'a>(from: &RowSource<'a>, pair: u32, likely: usize) -> Entry<
 
 /// The group of a pair, from the entry of its first row's satellite.
 pub fn group_of(entry: &Entry<'_>) -> i64
-    ensures near { (base point : List ℤ) → IsSeen entry.now base point → (b r : Sighting) → AreSightings (seen_by entry.now.sv.now base point) b r →
+    ensures near { (base point : List ℤ) → IsSeen entry.now base point → (b r : Sighting) →
+        AreSightings (seen_by entry.now.sv.now base point) b r →
         IsWithinHalf (pos 1) (y_of 2 (number_at entry.now.sv.now.observed 2) result (pos 0) b r) }
-    ensures allowed { (base point : List ℤ) → IsSeen entry.now base point → (scale : ℕ) → IsScale scale →
-        IsAllowedGroup (seen_by entry.now.sv.now base point) scale (number_at entry.now.sv.now.observed 2) result }
+    ensures allowed { (base point : List ℤ) → IsSeen entry.now base point → (scale : ℕ) →
+        IsScale scale → IsAllowedGroup (seen_by entry.now.sv.now base point) scale
+        (number_at entry.now.sv.now.observed 2) result }
     ensures size { unsigned_abs result ≤ 2 ^ 43 }
 {
     first_group(entry.sv.observed[2], &entry.half, &entry.rover.pseudorange)
@@ -64,8 +61,10 @@ fn shift_of(ss: &[usize], signal: usize, entry: &Entry<'_>, group: i64) -> i64
     requires signal { signal < SIGNALS }
     requires phase { IsTrue (is_phase signal) }
     requires group { unsigned_abs group ≤ 2 ^ 43 }
-    ensures near { IsTrue (counts ss.now signal) → (base point : List ℤ) → IsSeen entry.now base point →
-        (b r : Sighting) → AreSightings (seen_by entry.now.sv.now base point) b r → IsWithinHalf (wavelength signal) (y_of signal (number_at entry.now.sv.now.observed signal) group result b r) }
+    ensures near { IsTrue (counts ss.now signal) → (base point : List ℤ) →
+        IsSeen entry.now base point → (b r : Sighting) →
+        AreSightings (seen_by entry.now.sv.now base point) b r → IsWithinHalf (wavelength signal)
+        (y_of signal (number_at entry.now.sv.now.observed signal) group result b r) }
     ensures unused { counts ss.now signal ≡ false → result ≡ pos 0 }
     ensures size { unsigned_abs result < 2 ^ 39 }
 {
@@ -84,8 +83,10 @@ fn shift_of(ss: &[usize], signal: usize, entry: &Entry<'_>, group: i64) -> i64
 // The shifts with which, under this group, the observations of the phases that count are least
 fn shifts_of(ss: &[usize], entry: &Entry<'_>, group: i64) -> [i64; PHASES]
     requires group { unsigned_abs group ≤ 2 ^ 43 }
-    ensures near { (base point : List ℤ) → IsSeen entry.now base point → (s : ℕ) → s < SIGNALS → IsTrue (is_phase s) → IsTrue (counts ss.now s) → (b r : Sighting) → AreSightings (seen_by entry.now.sv.now base point) b r →
-        IsWithinHalf (wavelength s) (y_of s (number_at entry.now.sv.now.observed s) group (number_at result (band s)) b r) }
+    ensures near { (base point : List ℤ) → IsSeen entry.now base point → (s : ℕ) → s < SIGNALS →
+        IsTrue (is_phase s) → IsTrue (counts ss.now s) → (b r : Sighting) →
+        AreSightings (seen_by entry.now.sv.now base point) b r → IsWithinHalf (wavelength s)
+        (y_of s (number_at entry.now.sv.now.observed s) group (number_at result (band s)) b r) }
     ensures unused { IsZeroOff (phase_bands ss.now) result }
     ensures size { All (IsBelow (2 ^ 39)) result }
 {
@@ -97,13 +98,8 @@ fn shifts_of(ss: &[usize], entry: &Entry<'_>, group: i64) -> [i64; PHASES]
 
 // Of a satellite that the pair uses
 fn first_shifts(from: &RowSource<'_>, sat: u8, pair: u32) -> [i64; PHASES]
-    requires cut { IsCutOf from.now.screened.now.used from.now.arcs.now }
-    requires few { length from.now.arcs.now ≤ 200 }
     requires held { arcs_at from.now.arcs.now pair ≢ [] }
     requires used { is_used from.now.screened.now.used sat pair ≡ true }
-    requires halves { AreBaseHalves from.now.screened.now.boxes from.now.base.now from.now.halves.now }
-    requires base { IsReceiverPoint from.now.base.now }
-    requires point { IsReceiverPoint from.now.point.now }
     ensures near { AreFirstShifts (setting_from from.now 0) pair sat result }
     ensures size { All (IsBelow (2 ^ 39)) result }
 {
@@ -115,14 +111,10 @@ fn first_shifts(from: &RowSource<'_>, sat: u8, pair: u32) -> [i64; PHASES]
 
 /// The shifts of `shift_at`, with the base's halves that are kept.
 pub fn shift_with(from: &RowSource<'_>, arc: u16, pair: u32) -> Option<[i64; PHASES]>
-    requires cut { IsCutOf from.now.screened.now.used from.now.arcs.now }
-    requires few { length from.now.arcs.now ≤ 200 }
     requires arc { arc < length from.now.arcs.now }
     requires pair { pair < length from.now.screened.now.used }
-    requires halves { AreBaseHalves from.now.screened.now.boxes from.now.base.now from.now.halves.now }
-    requires base { IsReceiverPoint from.now.base.now }
-    requires point { IsReceiverPoint from.now.point.now }
-    ensures none { (a : Arc) → slice_get from.now.arcs.now arc ≡ Some a → (result ≡ None) ↔ (holds_pair a pair ≡ false) }
+    ensures none { (a : Arc) → slice_get from.now.arcs.now arc ≡ Some a →
+        (result ≡ None) ↔ (holds_pair a pair ≡ false) }
     ensures near { (a : Arc) → slice_get from.now.arcs.now arc ≡ Some a → IfSome result (λ shift.
         AreFirstShifts (setting_from from.now 0) pair a.sat shift) }
     ensures size { IfSome result (λ shift. All (IsBelow (2 ^ 39)) shift) }
@@ -149,14 +141,16 @@ pub fn shift_at(
     signals: Signals,
 ) -> Option<[i64; PHASES]>
     requires cut { IsCutOf screened.now.used arcs.now }
-    requires few { length arcs.now ≤ 200 }
+    requires few { length arcs.now ≤ MOST_ARCS }
     requires arc { arc < length arcs.now }
     requires pair { pair < length screened.now.used }
     requires base { IsReceiverPoint base.now }
     requires point { IsReceiverPoint point.now }
-    ensures none { (a : Arc) → slice_get arcs.now arc ≡ Some a → (result ≡ None) ↔ (holds_pair a pair ≡ false) }
-    ensures near { (a : Arc) → slice_get arcs.now arc ≡ Some a → IfSome result (λ shift.
-        AreFirstShifts (setting screened.now.boxes arcs.now base.now point.now signals 0) pair a.sat shift) }
+    ensures none { (a : Arc) → slice_get arcs.now arc ≡ Some a →
+        (result ≡ None) ↔ (holds_pair a pair ≡ false) }
+    ensures near { (a : Arc) → slice_get arcs.now arc ≡ Some a →
+        IfSome result (λ shift. AreFirstShifts
+        (setting screened.now.boxes arcs.now base.now point.now signals 0) pair a.sat shift) }
     ensures size { IfSome result (λ shift. All (IsBelow (2 ^ 39)) shift) }
 {
     let from = RowSource {

@@ -18,7 +18,8 @@ fn rover_sight(entry: &SvPair, point: &Point) -> Sight
 
 /// The sight of the entry in this place: the one that is kept, or else one that is made.
 pub fn sight_at(sights: &[Sight], place: usize, entry: &SvPair, point: &[i64; 3]) -> Sight
-    requires kept { (sight : Sight) → slice_get sights.now place ≡ Some sight → IsRoverSight entry.now point.now sight }
+    requires kept { (sight : Sight) → slice_get sights.now place ≡ Some sight →
+        IsRoverSight entry.now point.now sight }
     requires point { IsReceiverPoint point.now }
     ensures { IsRoverSight entry.now point.now result }
 {

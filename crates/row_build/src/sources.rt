@@ -1,11 +1,16 @@
 //! What rows are made from.
+ghost use Rattle.std.specs.Prelude.{◌≤◌, length};
+ghost use Rattle.obs_rows.specs.ReceiverPoints.{IsReceiverPoint};
+ghost use Rattle.obs_rows.specs.declared.limits.TheConstants.{MOST_ARCS};
+ghost use Rattle.slip_arcs.specs.Linked.{IsCutOf};
+ghost use Rattle.row_build.specs.Halves.{AreBaseHalves};
 ghost use Rattle.row_build.specs.Sights.{AreRoverSights};
 
 use obs_rows::{Arc, Signals};
 use row_boxes::{Pseudorange, Sight};
 use screening::Screened;
 
-/// What the rows of a point are made from.
+/// What the rows of a point are made from: each call that takes one knows what the ghost fields say.
 #[derive(Clone, Copy)]
 pub struct RowSource<'a> {
     /// The satellites that the pairs use, with their boxes.
@@ -13,7 +18,7 @@ pub struct RowSource<'a> {
     /// The base's halves that are kept, each in the place of its entry: `base_halves` makes them once for all points of a run.
     /// What is not kept is made, so the rows are the same with none.
     pub halves: &'a [Pseudorange],
-    /// The arcs with their shifts.
+    /// The arcs with their shifts: but for these some cut of the screened pairs keeps them.
     pub arcs: &'a [Arc],
     /// The base's position, in units of 0.1 mm.
     pub base: &'a [i64; 3],
@@ -24,5 +29,10 @@ pub struct RowSource<'a> {
     pub sights: &'a [Sight],
     /// The signals that `screened` was made of.
     pub signals: Signals,
+    pub ghost cut: { ∥ IsCutOf screened.now.used arcs.now ∥₁ },
+    pub ghost few: { length arcs.now ≤ MOST_ARCS },
+    pub ghost base_in: { IsReceiverPoint base.now },
+    pub ghost point_in: { IsReceiverPoint point.now },
+    pub ghost halves_hold: { ∥ AreBaseHalves screened.now.boxes base.now halves.now ∥₁ },
     pub ghost sights_hold: { AreRoverSights screened.now.boxes point.now sights.now },
 }

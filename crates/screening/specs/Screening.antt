@@ -15,11 +15,12 @@ use Rattle.epoch_pair.specs.Pairs.{IsNearPair, Follows}
 use Rattle.obs_rows.specs.declared.used.UsedSat.{UsedSat}
 use Rattle.obs_rows.specs.declared.used.UsedPair.{UsedPair}
 use Rattle.obs_rows.specs.declared.limits.TheConstants.{MOST_PAIRS, MOST_SATELLITES}
+use Rattle.orbit_model.specs.SeenPlaces.{place_at}
 use Rattle.screening.specs.declared.sv_pair.SvPair.{SvPair}
 use Rattle.screening.specs.BaseRanges.{HoldsRange}
 use Rattle.screening.specs.Amounts.{types_of, differences, phase_differences}
 use Rattle.screening.specs.Marks.{Passed, passed, power_failed, lost_lock}
-use Rattle.screening.specs.Sightings.{Setting, Sighting, IsSighting, MayBeKept, MayBeLeftOut, Sent, WasSent, point_at, code_of}
+use Rattle.screening.specs.Sightings.{Setting, Sighting, IsSighting, MayBeKept, MayBeLeftOut, Sent, WasSent, code_of}
 
 -- the header gives a position from 6,000 km to 7,000 km from the Earth's centre
 abbrev pub HasPosition : Option (List ℤ) → Type 0
@@ -37,7 +38,7 @@ setting_of base nav signals mask world = record {
   records = nav.fit;
   world = world;
   mask = mask;
-  point = point_at (position_of base.position);
+  point = place_at (position_of base.position);
 }
 
 -- the pairs that may be screened: at most 3,600 of epochs that rise in both files, with tags at most half a second apart

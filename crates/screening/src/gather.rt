@@ -31,15 +31,18 @@ pub struct PairAt<'a> {
 
 // Whether power failed up to the pair.
 fn power_up_to(at: &PairAt<'_>) -> bool
-    ensures { result ≡ power_failed (record { base = at.now.base_passed.now; rover = at.now.rover_passed.now }) }
+    ensures { result
+        ≡ power_failed (record { base = at.now.base_passed.now; rover = at.now.rover_passed.now }) }
 {
     power_failed(at.base_passed) || power_failed(at.rover_passed)
 }
 
 // Whether a phase of the satellite lost lock up to the pair; nothing is looked at where none may have.
 fn lost_up_to(may: bool, types: &SignalTypes, number: u8, at: &PairAt<'_>) -> bool
-    requires { may ≡ false → (types : SignalTypes) (number : ℕ) → lost_lock types number (record { base = at.now.base_passed.now; rover = at.now.rover_passed.now }) ≡ false }
-    ensures { result ≡ lost_lock types.now number (record { base = at.now.base_passed.now; rover = at.now.rover_passed.now }) }
+    requires { may ≡ false → (types : SignalTypes) (number : ℕ) → lost_lock types number
+        (record { base = at.now.base_passed.now; rover = at.now.rover_passed.now }) ≡ false }
+    ensures { result ≡ lost_lock types.now number
+        (record { base = at.now.base_passed.now; rover = at.now.rover_passed.now }) }
 {
     may && (lost_in(types, number, at.base_passed) || lost_in(types, number, at.rover_passed))
 }
@@ -69,11 +72,13 @@ fn add_sat(
 ) -> Result<(), AllocError>
     requires near { abs_diff at.now.base.now.tag.0 at.now.rover.now.tag.0 ≤ 5_000_000 }
     requires number { IsSatNumber number }
-    requires may { may ≡ false → (types : SignalTypes) (number : ℕ) → lost_lock types number (record { base = at.now.base_passed.now; rover = at.now.rover_passed.now }) ≡ false }
-    ensures { OnOk result
-        (IsPassedOver (setting_with rules.now table.now) at.now.base.now at.now.rover.now number sats.old.items sats.new.items boxes.old boxes.new
-        ⊎ IsAdded (setting_with rules.now table.now) at.now.base.now at.now.rover.now (record { base = at.now.base_passed.now; rover = at.now.rover_passed.now })
-        at.now.number number sats.old.items sats.new.items boxes.old boxes.new) }
+    requires may { may ≡ false → (types : SignalTypes) (number : ℕ) → lost_lock types number
+        (record { base = at.now.base_passed.now; rover = at.now.rover_passed.now }) ≡ false }
+    ensures { OnOk result (IsPassedOver (setting_with rules.now table.now) at.now.base.now
+        at.now.rover.now number sats.old.items sats.new.items boxes.old boxes.new
+        ⊎ IsAdded (setting_with rules.now table.now) at.now.base.now at.now.rover.now
+        (record { base = at.now.base_passed.now; rover = at.now.rover_passed.now }) at.now.number
+        number sats.old.items sats.new.items boxes.old boxes.new) }
 {
     if sats.len() >= MOST_SATELLITES {
         return Ok(());
@@ -96,8 +101,8 @@ fn sats_of(
     boxes: &mut SvPairList,
 ) -> Result<Vec<UsedSat>, AllocError>
     requires near { abs_diff at.now.base.now.tag.0 at.now.rover.now.tag.0 ≤ 5_000_000 }
-    ensures { IfOk result (λ sats.
-        AreGathered (setting_with rules.now table.now) at.now.base.now at.now.rover.now (record { base = at.now.base_passed.now; rover = at.now.rover_passed.now })
+    ensures { IfOk result (λ sats. AreGathered (setting_with rules.now table.now) at.now.base.now
+        at.now.rover.now (record { base = at.now.base_passed.now; rover = at.now.rover_passed.now })
         at.now.number 37 boxes.old sats.items boxes.new) }
 {
     let may = may_lose(at.base_passed, at.rover_passed);
@@ -117,8 +122,8 @@ pub fn gather(
     boxes: &mut SvPairList,
 ) -> Result<UsedPair, AllocError>
     requires near { abs_diff at.now.base.now.tag.0 at.now.rover.now.tag.0 ≤ 5_000_000 }
-    ensures { IfOk result (λ u.
-        IsGathered (setting_with rules.now table.now) at.now.base.now at.now.rover.now (record { base = at.now.base_passed.now; rover = at.now.rover_passed.now })
+    ensures { IfOk result (λ u. IsGathered (setting_with rules.now table.now) at.now.base.now
+        at.now.rover.now (record { base = at.now.base_passed.now; rover = at.now.rover_passed.now })
         at.now.number boxes.old u boxes.new) }
 {
     let power = power_up_to(at);

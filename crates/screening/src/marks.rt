@@ -58,7 +58,8 @@ pub fn lost_in(types: &SignalTypes, number: u8, epochs: &[Epoch]) -> bool
 
 // Whether one of these epochs may say that lock was lost, of whatever satellite. That is asked of one epoch alone, as there mostly is.
 fn may_be_lost(epochs: &[Epoch]) -> bool
-    ensures { result ≡ false → (types : SignalTypes) (number : ℕ) → list_any (lost_at types number) epochs.now ≡ false }
+    ensures { result ≡ false → (types : SignalTypes) (number : ℕ) →
+        list_any (lost_at types number) epochs.now ≡ false }
 {
     match epochs {
         [only] => only.sats.may_be_lost(),
@@ -68,7 +69,8 @@ fn may_be_lost(epochs: &[Epoch]) -> bool
 
 /// The same of the epochs of both files up to a pair. Where it isn't so, the satellites need not be looked at one by one.
 pub fn may_lose(base: &[Epoch], rover: &[Epoch]) -> bool
-    ensures { result ≡ false → (types : SignalTypes) (number : ℕ) → lost_lock types number (record { base = base.now; rover = rover.now }) ≡ false }
+    ensures { result ≡ false → (types : SignalTypes) (number : ℕ) →
+        lost_lock types number (record { base = base.now; rover = rover.now }) ≡ false }
 {
     may_be_lost(base) || may_be_lost(rover)
 }

@@ -13,7 +13,7 @@ use Rattle.obs_rows.specs.Unused.{IsZeroOff, HasUsedShifts}
 use Rattle.obs_rows.specs.Arcs.{free_count, IsArcInRange, AreArcs}
 use Rattle.obs_rows.specs.declared.used.UsedSat.{UsedSat}
 use Rattle.obs_rows.specs.declared.used.UsedPair.{UsedPair}
-use Rattle.obs_rows.specs.declared.limits.TheConstants.{MOST_PAIRS}
+use Rattle.obs_rows.specs.declared.limits.TheConstants.{MOST_PAIRS, MOST_ARCS}
 use Rattle.slip_arcs.specs.Used.{entry_in, is_used}
 use Rattle.slip_arcs.specs.Runs.{IsArc, run_of}
 use Rattle.slip_arcs.specs.Linked.{AreNeighbours, IsCutOf}
@@ -146,7 +146,7 @@ able used kept taken c few numbered shifts not_few not_many =
     let holders : TwoHolders kept pair_held.0 = two_holders kept pair_held.0 (half (held kept pair_held.0) pair_held.1) in
     record {
       some = two holders.first.place holders.second.place (length kept) holders.order (slice_get_within kept holders.second.place holders.second.arc holders.second.arc_is);
-      few = most (length kept) 200 (λ h. not_many (inr h));
+      few = most (length kept) MOST_ARCS (λ h. not_many (inr h));
       some_free = later_is_free kept holders.first.place holders.second.place holders.order c.datums (neighbours kept pair_held.0 holders);
       few_free = most (free_count kept) MOST_FREE_ARCS (λ h. not_many (inl h));
       ranges = λ k d i. arc_in_range used kept c few numbered k (get_or kept k d) (slice_get-get_or kept k d i) (shifts k d i);
@@ -178,7 +178,7 @@ in_range_along a b e r s =
 pub arcs_along : (xs ys : List Arc) → AreSameArcs xs ys → AreArcs xs → AreShiftsBelow (2 ^ 40) ys → AreArcs ys
 arcs_along xs ys e h s = record {
   some = subst (λ (n : ℕ). 2 ≤ n) (sym (length_same xs ys e)) h.some;
-  few = subst (λ (n : ℕ). n ≤ 200) (sym (length_same xs ys e)) h.few;
+  few = subst (λ (n : ℕ). n ≤ MOST_ARCS) (sym (length_same xs ys e)) h.few;
   some_free = subst (λ (n : ℕ). 1 ≤ n) (sym (free_same xs ys e)) h.some_free;
   few_free = subst (λ (n : ℕ). n ≤ MOST_FREE_ARCS) (sym (free_same xs ys e)) h.few_free;
   ranges = λ k d i.

@@ -1,10 +1,7 @@
 //! The answer of a run over the arcs that were kept.
-ghost use Rattle.std.specs.Prelude.{◌≡◌, ◌+◌, ◌≤◌, ◌^◌, length, All, IfOk};
-ghost use Rattle.obs_rows.specs.Signals.{fine_signals};
-ghost use Rattle.obs_rows.specs.Unused.{HasUsedShifts};
-ghost use Rattle.obs_rows.specs.ReceiverPoints.{IsReceiverPoint};
+ghost use Rattle.std.specs.Prelude.{◌≡◌, ◌+◌, ◌≤◌, length, IfOk};
 ghost use Rattle.obs_rows.specs.declared.limits.TheConstants.{MOST_KEPT_ARCS};
-ghost use Rattle.round_steps.specs.Shifts.{AreShiftsBelow};
+ghost use Rattle.round_steps.specs.Runs.{MayBegin};
 ghost use Rattle.session.specs.Answers.{GoesOn, IsAnswer, IsBestAnswer};
 
 use cert_data::{Answer, Cert, RoundCounts};
@@ -33,14 +30,10 @@ pub fn answer<R: Rounds>(
     options: &Options,
 ) -> Result<RunAnswer, AllocError>
     requires ready { GoesOn (R.rules rounds.old) taken → R.ready rounds.old }
-    requires fresh { R.made rounds.old ≡ 0 }
-    requires base { base.now ≡ (R.rules rounds.old).base }
-    requires arcs { kept.now ≡ (R.rules rounds.old).arcs }
-    requires point { IsReceiverPoint base.now }
-    requires shifts { AreShiftsBelow (2 ^ 40) kept.now }
-    requires used { All (HasUsedShifts (fine_signals (R.rules rounds.old).signals)) kept.now }
+    requires begins { MayBegin (R.rules rounds.old) (R.made rounds.old) kept.now base.now }
     requires few { length kept.now ≤ MOST_KEPT_ARCS }
-    ensures answer { IfOk result (λ a. IsAnswer (R.rules rounds.old) taken options.now a.rounds a.answer) }
+    ensures answer { IfOk result (λ a.
+        IsAnswer (R.rules rounds.old) taken options.now a.rounds a.answer) }
     ensures made { IfOk result (λ a. R.made rounds.new ≡ a.rounds.coarse + a.rounds.fine) }
     ensures strictly_best { IfOk result (λ a. IsBestAnswer a.answer) }
 {

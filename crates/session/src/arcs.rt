@@ -34,8 +34,10 @@ pub fn screened_arcs(
     requires position { IsPosition base.now begun.now.position }
     requires few { length begun.now.taken.items ≤ MOST_PAIRS }
     requires rises { AllPairs Follows begun.now.taken.items }
-    requires near { All (IsNearPair options.now.gap (tags_of base.now.epochs) (tags_of rover.now.epochs)) begun.now.taken.items }
-    ensures screened { IfOk result (λ f. AreScreenedArcs base.now rover.now nav.now options.now begun.now.signals begun.now.taken.items f.screened f.arcs.kept f.arcs.short) }
+    requires near { All (IsNearPair options.now.gap (tags_of base.now.epochs)
+        (tags_of rover.now.epochs)) begun.now.taken.items }
+    ensures screened { IfOk result (λ f. AreScreenedArcs base.now rover.now nav.now options.now
+        begun.now.signals begun.now.taken.items f.screened f.arcs.kept f.arcs.short) }
     ensures cut { IfOk result (λ f. IsCutOf f.screened.used f.arcs.kept) }
 {
     let taken = begun.taken.as_slice();

@@ -43,9 +43,14 @@ pub struct FileRun<'a> {
 }
 
 impl<'a> Rounds for FileRun<'a> {
-    ghost rules = { λ r. rules_of r.files.now.screened.boxes (length r.files.now.screened.used) r.files.now.kept r.files.now.position r.files.now.signals r.files.now.system };
+    ghost rules = { λ r. rules_of r.files.now.screened.boxes (length r.files.now.screened.used)
+        r.files.now.kept r.files.now.position r.files.now.signals r.files.now.system };
 
-    ghost ready = { λ r. IsCutOf r.files.now.screened.used r.files.now.kept × (AreArcs r.files.now.kept × IsReceiverPoint r.files.now.position) × (AreBaseHalves r.files.now.screened.boxes r.files.now.position r.files.now.halves.items × IsSystem r.files.now.system) × AreRoverSights r.files.now.screened.boxes r.kept.point r.kept.sights.items };
+    ghost ready = { λ r. IsCutOf r.files.now.screened.used r.files.now.kept
+        × (AreArcs r.files.now.kept × IsReceiverPoint r.files.now.position)
+        × (AreBaseHalves r.files.now.screened.boxes r.files.now.position r.files.now.halves.items
+        × IsSystem r.files.now.system)
+        × AreRoverSights r.files.now.screened.boxes r.kept.point r.kept.sights.items };
 
     ghost made = { λ r. r.made };
 
@@ -89,11 +94,15 @@ fn first_arc(files: &FileRounds, k: usize, point: &[i64; 3]) -> Arc
     requires cut { IsCutOf files.now.screened.used files.now.kept }
     requires arcs { AreArcs files.now.kept }
     requires base { IsReceiverPoint files.now.position }
-    requires halves { AreBaseHalves files.now.screened.boxes files.now.position files.now.halves.items }
+    requires halves { AreBaseHalves files.now.screened.boxes files.now.position
+        files.now.halves.items }
     requires point { IsReceiverPoint point.now }
     requires inside { k < length files.now.kept }
-    ensures same { (a : Arc) → slice_get files.now.kept k ≡ Some a → without_shifts result ≡ without_shifts a }
-    ensures near { (a : Arc) → slice_get files.now.kept k ≡ Some a → AreFirstShifts (setting files.now.screened.boxes files.now.kept files.now.position point.now files.now.signals 0) a.first a.sat result.shift }
+    ensures same { (a : Arc) → slice_get files.now.kept k ≡ Some a →
+        without_shifts result ≡ without_shifts a }
+    ensures near { (a : Arc) → slice_get files.now.kept k ≡ Some a →
+        AreFirstShifts (setting files.now.screened.boxes files.now.kept files.now.position point.now
+        files.now.signals 0) a.first a.sat result.shift }
     ensures size { All (IsBelow (2 ^ 39)) result.shift }
     ensures used { HasUsedShifts (fine_signals files.now.signals) result }
 {

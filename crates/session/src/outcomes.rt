@@ -1,10 +1,7 @@
 //! The counts of an outcome, with its answer.
-ghost use Rattle.std.specs.Prelude.{◌≡◌, ◌+◌, ◌≤◌, ◌^◌, ◌⊎◌, ◌↔◌, length, All, IsTrue, IfOk};
-ghost use Rattle.obs_rows.specs.Signals.{fine_signals};
-ghost use Rattle.obs_rows.specs.Unused.{HasUsedShifts};
-ghost use Rattle.obs_rows.specs.ReceiverPoints.{IsReceiverPoint};
+ghost use Rattle.std.specs.Prelude.{◌≡◌, ◌+◌, ◌≤◌, ◌⊎◌, ◌↔◌, length, IsTrue, IfOk};
 ghost use Rattle.obs_rows.specs.declared.limits.TheConstants.{MOST_PAIRS, MOST_KEPT_ARCS};
-ghost use Rattle.round_steps.specs.Shifts.{AreShiftsBelow};
+ghost use Rattle.round_steps.specs.Runs.{MayBegin};
 ghost use Rattle.session.specs.Answers.{GoesOn, HasDelta, IsAnswer, IsBestAnswer};
 
 use crate::answer;
@@ -37,20 +34,18 @@ pub fn outcome<R: Rounds>(
     delta: bool,
     options: &Options,
 ) -> Result<Outcome, AllocError>
-    requires ready { GoesOn (R.rules rounds.old) (length begun.now.taken.items) → R.ready rounds.old }
-    requires fresh { R.made rounds.old ≡ 0 }
-    requires base { begun.now.position ≡ (R.rules rounds.old).base }
-    requires arcs { kept.now ≡ (R.rules rounds.old).arcs }
-    requires point { IsReceiverPoint begun.now.position }
-    requires shifts { AreShiftsBelow (2 ^ 40) kept.now }
-    requires used { All (HasUsedShifts (fine_signals (R.rules rounds.old).signals)) kept.now }
+    requires ready { GoesOn (R.rules rounds.old) (length begun.now.taken.items) →
+        R.ready rounds.old }
+    requires begins { MayBegin (R.rules rounds.old)
+        (R.made rounds.old) kept.now begun.now.position }
     requires few { length begun.now.taken.items ≤ MOST_PAIRS }
     requires few_arcs { length kept.now ≤ MOST_KEPT_ARCS }
     ensures taken { IfOk result (λ o. o.taken ≡ length begun.now.taken.items) }
     ensures all { IfOk result (λ o. o.all ≡ begun.now.all) }
     ensures kept { IfOk result (λ o. o.kept ≡ length kept.now) }
     ensures delta { IfOk result (λ o. o.delta ≡ delta) }
-    ensures answer { IfOk result (λ o. IsAnswer (R.rules rounds.old) o.taken options.now o.rounds o.answer) }
+    ensures answer { IfOk result (λ o.
+        IsAnswer (R.rules rounds.old) o.taken options.now o.rounds o.answer) }
     ensures made { IfOk result (λ o. R.made rounds.new ≡ o.rounds.coarse + o.rounds.fine) }
     ensures strictly_best { IfOk result (λ o. IsBestAnswer o.answer) }
 {

@@ -32,8 +32,10 @@ pub fn screened(
     requires position { IsPosition base.now begun.now.position }
     requires few { length begun.now.taken.items ≤ MOST_PAIRS }
     requires rises { AllPairs Follows begun.now.taken.items }
-    requires near { All (IsNearPair options.now.gap (tags_of base.now.epochs) (tags_of rover.now.epochs)) begun.now.taken.items }
-    ensures screened { IfOk result (AreScreened base.now rover.now nav.now options.now begun.now.position begun.now.signals begun.now.taken.items) }
+    requires near { All (IsNearPair options.now.gap (tags_of base.now.epochs)
+        (tags_of rover.now.epochs)) begun.now.taken.items }
+    ensures screened { IfOk result (AreScreened base.now rover.now nav.now options.now
+        begun.now.position begun.now.signals begun.now.taken.items) }
     ensures cut { IfOk result (λ f. IsCutOf f.screened.used f.kept) }
     ensures halves { IfOk result (λ f. AreBaseHalves f.screened.boxes f.position f.halves.items) }
 {
@@ -84,7 +86,8 @@ pub fn start_run(
 /// Where it says fixed, the integers are with their move strictly best for all data in the boxes of the session.
 pub fn finish_run(alloc: Global, run: &RunStart, options: &Options) -> Result<Outcome, AllocError>
     requires { MayRun options.now run.now }
-    ensures outcome { IfOk result (λ o. (base rover : ObsFile) (nav : Records) → IsRunStart base rover nav options.now run.now → IsOutcome base rover nav options.now o) }
+    ensures outcome { IfOk result (λ o. (base rover : ObsFile) (nav : Records) →
+        IsRunStart base rover nav options.now run.now → IsOutcome base rover nav options.now o) }
     ensures rounds { IfOk result (λ o. AreAllowed o.rounds) }
     ensures strictly_best { IfOk result (λ o. IsBestAnswer o.answer) }
 {

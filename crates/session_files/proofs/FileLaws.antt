@@ -13,6 +13,7 @@ use Rattle.line_source.specs.Lines.{lines_of}
 use Rattle.line_source.specs.Reports.{Same}
 use Rattle.line_source.specs.Pieces.{IsTakenWhole}
 use Rattle.line_source.specs.Givens.{Given, GivesWhole, IsKnownFrom}
+use Rattle.line_source.specs.declared.transfer.TheConstants.{MAX_FILE}
 use Rattle.job_answers.specs.declared.status.Status.TheVariants.{ReadFault}
 use Rattle.job_answers.specs.declared.stop.JobStop.{JobStop}
 use Rattle.job_answers.specs.Answers.{IfStopped}
@@ -134,7 +135,7 @@ refused_along : (text_of later : List ℕ → Option (List ℕ)) (before : List 
 refused_along text_of later before left name end same (inl refused) =
     inl (record { at = refused.at; end_is = refused.end_is; read = read_along text_of later left name same refused.read; text = refused.text; given = refused.given })
 refused_along text_of later before left name end same (inr large) =
-    let here : HasTooManyBytes text_of name = subst (λ (o : Option (List ℕ)). IfSome o (λ bytes. 67108864 < length bytes)) (same name) large.large.large in
+    let here : HasTooManyBytes text_of name = subst (λ (o : Option (List ℕ)). IfSome o (λ bytes. MAX_FILE < length bytes)) (same name) large.large.large in
     inr (record { large = record { large = here; end_is = large.large.end_is }; given = large.given })
 
 -- the refusal of a file, after others were read, is that of one among all

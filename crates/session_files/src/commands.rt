@@ -26,8 +26,10 @@ pub trait SessionCommand {
         files: SessionFiles,
         options: &Options,
     ) -> Result<JobOutput, SessionFault>
-        ensures answered { IfOk result (λ a. AreAnswered answers options.now files.base files.rover files.nav (ending_of a)) }
-        ensures refused { IfPairRefused result (λ what. IsSessionFault files.base files.rover options.now (fault.Refused what)) };
+        ensures answered { IfOk result (λ a.
+            AreAnswered answers options.now files.base files.rover files.nav (ending_of a)) }
+        ensures refused { IfPairRefused result (λ what.
+            IsSessionFault files.base files.rover options.now (fault.Refused what)) };
 }
 
 // What it ends with by the three files.
@@ -58,7 +60,9 @@ pub fn answer_session<C: SessionCommand, F: Files>(
     nav: &str,
     options: &Options,
 ) -> Result<JobOutput, JobStop>
-    ensures { IsDoneOver (file_work F.Files files.old files.new) (base.now ∷ rover.now ∷ nav.now ∷ []) IsPairLine (SessionEnds C.answers (known_between F.Files files.old files.new) base.now rover.now nav.now options.now) result }
+    ensures { IsDoneOver (file_work F.Files files.old files.new)
+        (base.now ∷ rover.now ∷ nav.now ∷ []) IsPairLine (SessionEnds C.answers
+        (known_between F.Files files.old files.new) base.now rover.now nav.now options.now) result }
 {
     let system = System::of_letter(options.system);
     let read = read_session(alloc, files, system, base, rover, nav)?;

@@ -12,11 +12,11 @@
 
 ghost use Rattle.std.specs.Prelude.{◌≡◌, ◌≢◌, ◌≤◌, ℕ, List, [], ◌∷◌, length, IfOk, OnOk, All};
 ghost use Rattle.line_source.specs.Causes.{Rose};
-ghost use Rattle.line_source.specs.Openings.{OpensIt, OpensFirst, IsReadToEnd, unread};
-ghost use Rattle.line_source.specs.Reports.{Same, Stays};
+ghost use Rattle.line_source.specs.Openings.{OpensFirst, unread};
 ghost use Rattle.line_source.specs.Pieces.{IsTakenWhole};
 ghost use Rattle.line_source.specs.Givens.{GivesFirst};
 ghost use Rattle.line_source.specs.Lines.{lines_of};
+ghost use Rattle.line_source.specs.declared.transfer.TheConstants.{MAX_FILE};
 ghost use Rattle.rinex_head.specs.declared.system.System.{System};
 ghost use Rattle.obs_source.specs.Formats.{any_of, IsObservation, HasObservation};
 ghost use Rattle.obs_source.specs.Taking.{IsAnswer};
@@ -25,7 +25,7 @@ ghost use Rattle.rinex_nav.specs.NavRules.{nav_of};
 ghost use Rattle.eph_store.specs.Records.{AreFit};
 ghost use Rattle.job_answers.specs.Answers.{IfStopped};
 ghost use Rattle.job_answers.specs.Endings.{EndsUnloaded, IsRefusal, IsRefusalOf};
-ghost use Rattle.job_answers.specs.Works.{ForAllKnown, known_between, file_work, AreAllRead, IsRefusalAmong, IsFaultOf};
+ghost use Rattle.job_answers.specs.Works.{ForAllKnown, UsesFile, ReadsWhole, known_between, file_work, AreAllRead, IsRefusalAmong, IsFaultOf};
 ghost use Rattle.session_files.specs.SessionFiles.{IsObsGiven, IsNavGiven, StopsAtObs, StopsAtNav, StopsAtFiles, AreFilesOf};
 
 mod commands;
@@ -62,18 +62,18 @@ fn take_file<F: Files, T: Taker>(
 ) -> Result<(), JobStop>
     requires none_taken { T.taken taker.old ≡ 0 }
     requires stands_for_none { T.stands_for taker.old [] }
-    ensures taken { OnOk result (IsTakenWhole (F.text_of files.old name.now) name.now (F.given files.old) (F.given files.new) (T.taken taker.new) (T.stands_for taker.new)) }
-    ensures stopped { ForAllKnown F.Files files.old files.new (λ known. IfStopped result (λ end. EndsUnloaded known name.now end)) }
-    ensures gives { GivesFirst (name.now ∷ []) (F.given files.old) (F.given files.new) }
-    ensures whole { OnOk result (IsReadToEnd (F.text_of files.old) (unread (F.openings files.new) (F.unread files.new) (F.given files.new)) name.now) }
-    ensures refused { IfStopped result (IsRefusalOf (F.text_of files.old) (F.given files.old) (unread (F.openings files.new) (F.unread files.new) (F.given files.new)) name.now) }
-    ensures opened { OpensFirst (name.now ∷ []) (F.openings files.old) (F.openings files.new) }
-    ensures opens { OnOk result (OpensIt name.now (F.openings files.old) (F.openings files.new)) }
-    ensures cause { F.faults files.old ≤ F.faults files.new }
-    ensures fault { IfStopped result (λ end. end.status ≡ Status.ReadFault → Rose (F.faults files.old) (F.faults files.new)) }
-    ensures sure { F.is_sure_name files.old name.now → IfStopped result (λ end. end.status ≢ Status.ReadFault) }
-    ensures texts { Same (F.text_of files.old) (F.text_of files.new) }
-    ensures sure_names { Stays (F.is_sure_name files.old) (F.is_sure_name files.new) }
+    ensures taken { OnOk result (IsTakenWhole (F.text_of files.old name.now) name.now
+        (F.given files.old) (F.given files.new) (T.taken taker.new) (T.stands_for taker.new)) }
+    ensures stopped { ForAllKnown F.Files files.old files.new (λ known.
+        IfStopped result (λ end. EndsUnloaded known name.now end)) }
+    ensures uses { UsesFile F.Files name.now files.old files.new }
+    ensures reads { OnOk result (ReadsWhole F.Files name.now files.old files.new) }
+    ensures refused { IfStopped result (IsRefusalOf (F.text_of files.old) (F.given files.old)
+        (unread (F.openings files.new) (F.unread files.new) (F.given files.new)) name.now) }
+    ensures fault { IfStopped result (λ end. end.status ≡ Status.ReadFault →
+        Rose (F.faults files.old) (F.faults files.new)) }
+    ensures sure { F.is_sure_name files.old name.now →
+        IfStopped result (λ end. end.status ≢ Status.ReadFault) }
 {
     match load_into(files, name, taker) {
         Ok(()) => Ok(()),
@@ -89,8 +89,11 @@ fn file_of(
     name: &str,
     answer: Result<ObsFile, TextFault>,
 ) -> Result<ObsFile, JobStop>
-    ensures file { (system : System) (text : List ℕ) → IsAnswer system text answer → IfOk result (λ file. IsObservation system (lines_of text) file) }
-    ensures stopped { (system : System) (text : List ℕ) → IsAnswer system text answer → IfStopped result (λ end. IsRefusal (any_of system) (HasObservation system) name.now text end) }
+    ensures file { (system : System) (text : List ℕ) → IsAnswer system text answer →
+        IfOk result (λ file. IsObservation system (lines_of text) file) }
+    ensures stopped { (system : System) (text : List ℕ) → IsAnswer system text answer →
+        IfStopped result (λ end.
+        IsRefusal (any_of system) (HasObservation system) name.now text end) }
     ensures status { IfStopped result (λ end. end.status ≡ Status.Refused) }
 {
     match answer {
@@ -101,10 +104,11 @@ fn file_of(
 }
 
 fn nav_in(alloc: Global, system: System, name: &str, text: &[u8]) -> Result<NavFile, JobStop>
-    requires { length text.now ≤ 67108864 }
+    requires { length text.now ≤ MAX_FILE }
     ensures file { IfOk result (λ file. IsNavFile system (lines_of text.now) file.all) }
     ensures fit { IfOk result (λ file. AreFit file.all file.fit) }
-    ensures stopped { IfStopped result (λ end. IsRefusal (nav_of system) (HasNavFile system) name.now text.now end) }
+    ensures stopped { IfStopped result (λ end.
+        IsRefusal (nav_of system) (HasNavFile system) name.now text.now end) }
 {
     match read_records_of(alloc, system, text) {
         Ok(file) => {
@@ -124,18 +128,18 @@ pub fn obs_file<F: Files>(
     system: System,
     name: &str,
 ) -> Result<ObsFile, JobStop>
-    ensures read { IfOk result (λ file. IsObsGiven system (F.text_of files.old) name.now (F.given files.old) (F.given files.new) file) }
-    ensures stopped { ForAllKnown F.Files files.old files.new (λ known. IfStopped result (λ end. StopsAtObs system known name.now end)) }
-    ensures gives { GivesFirst (name.now ∷ []) (F.given files.old) (F.given files.new) }
-    ensures whole { OnOk result (IsReadToEnd (F.text_of files.old) (unread (F.openings files.new) (F.unread files.new) (F.given files.new)) name.now) }
-    ensures refused { IfStopped result (IsRefusalOf (F.text_of files.old) (F.given files.old) (unread (F.openings files.new) (F.unread files.new) (F.given files.new)) name.now) }
-    ensures opened { OpensFirst (name.now ∷ []) (F.openings files.old) (F.openings files.new) }
-    ensures opens { OnOk result (OpensIt name.now (F.openings files.old) (F.openings files.new)) }
-    ensures cause { F.faults files.old ≤ F.faults files.new }
-    ensures fault { IfStopped result (λ end. end.status ≡ Status.ReadFault → Rose (F.faults files.old) (F.faults files.new)) }
-    ensures sure { F.is_sure_name files.old name.now → IfStopped result (λ end. end.status ≢ Status.ReadFault) }
-    ensures texts { Same (F.text_of files.old) (F.text_of files.new) }
-    ensures sure_names { Stays (F.is_sure_name files.old) (F.is_sure_name files.new) }
+    ensures read { IfOk result (λ file. IsObsGiven system (F.text_of files.old) name.now
+        (F.given files.old) (F.given files.new) file) }
+    ensures stopped { ForAllKnown F.Files files.old files.new (λ known.
+        IfStopped result (λ end. StopsAtObs system known name.now end)) }
+    ensures uses { UsesFile F.Files name.now files.old files.new }
+    ensures reads { OnOk result (ReadsWhole F.Files name.now files.old files.new) }
+    ensures refused { IfStopped result (IsRefusalOf (F.text_of files.old) (F.given files.old)
+        (unread (F.openings files.new) (F.unread files.new) (F.given files.new)) name.now) }
+    ensures fault { IfStopped result (λ end. end.status ≡ Status.ReadFault →
+        Rose (F.faults files.old) (F.faults files.new)) }
+    ensures sure { F.is_sure_name files.old name.now →
+        IfStopped result (λ end. end.status ≢ Status.ReadFault) }
 {
     match system {
         System::Gps => {
@@ -157,16 +161,18 @@ fn nav_file<F: Files>(
     system: System,
     name: &str,
 ) -> Result<NavFile, JobStop>
-    ensures read { IfOk result (λ file. IsNavGiven system (F.text_of files.old) name.now (F.given files.old) (F.given files.new) file) }
-    ensures stopped { ForAllKnown F.Files files.old files.new (λ known. IfStopped result (λ end. StopsAtNav system known name.now end)) }
-    ensures gives { GivesFirst (name.now ∷ []) (F.given files.old) (F.given files.new) }
-    ensures whole { OnOk result (IsReadToEnd (F.text_of files.old) (unread (F.openings files.new) (F.unread files.new) (F.given files.new)) name.now) }
-    ensures refused { IfStopped result (IsRefusalOf (F.text_of files.old) (F.given files.old) (unread (F.openings files.new) (F.unread files.new) (F.given files.new)) name.now) }
-    ensures opened { OpensFirst (name.now ∷ []) (F.openings files.old) (F.openings files.new) }
-    ensures opens { OnOk result (OpensIt name.now (F.openings files.old) (F.openings files.new)) }
-    ensures cause { F.faults files.old ≤ F.faults files.new }
-    ensures fault { IfStopped result (λ end. end.status ≡ Status.ReadFault → Rose (F.faults files.old) (F.faults files.new)) }
-    ensures sure { F.is_sure_name files.old name.now → IfStopped result (λ end. end.status ≢ Status.ReadFault) }
+    ensures read { IfOk result (λ file. IsNavGiven system (F.text_of files.old) name.now
+        (F.given files.old) (F.given files.new) file) }
+    ensures stopped { ForAllKnown F.Files files.old files.new (λ known.
+        IfStopped result (λ end. StopsAtNav system known name.now end)) }
+    ensures uses { UsesFile F.Files name.now files.old files.new }
+    ensures reads { OnOk result (ReadsWhole F.Files name.now files.old files.new) }
+    ensures refused { IfStopped result (IsRefusalOf (F.text_of files.old) (F.given files.old)
+        (unread (F.openings files.new) (F.unread files.new) (F.given files.new)) name.now) }
+    ensures fault { IfStopped result (λ end. end.status ≡ Status.ReadFault →
+        Rose (F.faults files.old) (F.faults files.new)) }
+    ensures sure { F.is_sure_name files.old name.now →
+        IfStopped result (λ end. end.status ≢ Status.ReadFault) }
 {
     let text = load_file(alloc, files, name)?;
     nav_in(alloc, system, name, &text)
@@ -182,15 +188,24 @@ pub fn read_session<F: Files>(
     rover: &str,
     nav: &str,
 ) -> Result<SessionFiles, JobStop>
-    ensures read { IfOk result (λ s. AreFilesOf system (known_between F.Files files.old files.new) base.now rover.now nav.now s.base s.rover s.nav) }
-    ensures stopped { IfStopped result (λ end. StopsAtFiles system (known_between F.Files files.old files.new) base.now rover.now nav.now end) }
-    ensures gives { GivesFirst (base.now ∷ rover.now ∷ nav.now ∷ []) (F.given files.old) (F.given files.new) }
-    ensures whole { OnOk result (AreAllRead (file_work F.Files files.old files.new) (base.now ∷ rover.now ∷ nav.now ∷ [])) }
-    ensures refused { IfStopped result (IsRefusalAmong (file_work F.Files files.old files.new) (base.now ∷ rover.now ∷ nav.now ∷ [])) }
-    ensures opened { OpensFirst (base.now ∷ rover.now ∷ nav.now ∷ []) (F.openings files.old) (F.openings files.new) }
-    ensures fault { IfStopped result (λ end. end.status ≡ Status.ReadFault → Rose (F.faults files.old) (F.faults files.new)) }
-    ensures sure { All (F.is_sure_name files.old) (base.now ∷ rover.now ∷ nav.now ∷ []) → IfStopped result (λ end. end.status ≢ Status.ReadFault) }
-    ensures named { IfStopped result (IsFaultOf (file_work F.Files files.old files.new) (base.now ∷ rover.now ∷ nav.now ∷ [])) }
+    ensures read { IfOk result (λ s. AreFilesOf system (known_between F.Files files.old files.new)
+        base.now rover.now nav.now s.base s.rover s.nav) }
+    ensures stopped { IfStopped result (λ end. StopsAtFiles system
+        (known_between F.Files files.old files.new) base.now rover.now nav.now end) }
+    ensures gives { GivesFirst (base.now ∷ rover.now ∷ nav.now ∷ []) (F.given files.old)
+        (F.given files.new) }
+    ensures whole { OnOk result
+        (AreAllRead (file_work F.Files files.old files.new) (base.now ∷ rover.now ∷ nav.now ∷ [])) }
+    ensures refused { IfStopped result (IsRefusalAmong (file_work F.Files files.old files.new)
+        (base.now ∷ rover.now ∷ nav.now ∷ [])) }
+    ensures opened { OpensFirst (base.now ∷ rover.now ∷ nav.now ∷ []) (F.openings files.old)
+        (F.openings files.new) }
+    ensures fault { IfStopped result (λ end. end.status ≡ Status.ReadFault →
+        Rose (F.faults files.old) (F.faults files.new)) }
+    ensures sure { All (F.is_sure_name files.old) (base.now ∷ rover.now ∷ nav.now ∷ []) →
+        IfStopped result (λ end. end.status ≢ Status.ReadFault) }
+    ensures named { IfStopped result
+        (IsFaultOf (file_work F.Files files.old files.new) (base.now ∷ rover.now ∷ nav.now ∷ [])) }
 {
     let base_file = obs_file(alloc, files, system, base)?;
     let rover_file = obs_file(alloc, files, system, rover)?;

@@ -31,7 +31,8 @@ pub trait SessionOutcome {
 
 /// The two texts of an outcome, with its status: done for a fix, else declined.
 pub fn output_of<O: SessionOutcome>(alloc: Global, outcome: &O) -> Result<JobOutput, AllocError>
-    ensures ended { IfOk result (λ a. ending_of a ≡ ending (verdict_status (O.fixed outcome.now)) (O.out_text outcome.now) (O.err_text outcome.now)) }
+    ensures ended { IfOk result (λ a. ending_of a ≡ ending (verdict_status (O.fixed outcome.now))
+        (O.out_text outcome.now) (O.err_text outcome.now)) }
     ensures verdict { IfOk result (λ a. IsVerdictStatus a.status) }
     ensures whole { OnOk result (O.is_whole outcome.now) }
 {

@@ -63,7 +63,8 @@ pub fn write_arcs(
     system: u8,
 ) -> Result<(), AllocError>
     requires { IsSystem system }
-    ensures { OnOk result (out.new.items ≡ out.old.items ++ arcs_text system arcs.now.kept arcs.now.short) }
+    ensures { OnOk result
+        (out.new.items ≡ out.old.items ++ arcs_text system arcs.now.kept arcs.now.short) }
 {
     write_kept(alloc, out, arcs.kept.as_slice(), system)?;
     write_short(alloc, out, arcs.short)?;

@@ -3,9 +3,8 @@ use Rattle.std.proofs.Common.{◌≡◌, ℕ, zero, suc, List, [], ◌∷◌, �
 use Rattle.iv_core.specs.declared.Iv.{Iv}
 use Rattle.iv_core.specs.Intervals.{width_of}
 use Rattle.orbit_model.specs.Places.{IsBetweenDistances}
-use Rattle.orbit_model.specs.SeenPlaces.{Place, point_of}
+use Rattle.orbit_model.specs.SeenPlaces.{Place, point_of, HoldsPlace}
 use Rattle.signal_travel.specs.declared.places.VectorBox.{VectorBox}
-use Rattle.signal_travel.specs.Boxes.{HoldsPlace}
 use Rattle.signal_travel.specs.VectorBoxes.{HoldsVector}
 
 pub same_point : (s : List ℤ) (a b c x y z : ℤ) → s ≡ a ∷ b ∷ c ∷ [] → s ≡ x ∷ y ∷ z ∷ [] → point_of x y z ≡ point_of a b c

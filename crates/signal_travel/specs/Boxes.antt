@@ -1,20 +1,8 @@
 -- What the boxes of a seen place say.
-use Rattle.std.specs.Prelude.{List, [], ◌∷◌}
-use Rattle.rational.specs.Rational.{Rational, AreWithin, two_to_minus}
+use Rattle.std.specs.Prelude.{List}
+use Rattle.rational.specs.Rational.{AreWithin, two_to_minus}
 use Rattle.iv_core.specs.declared.Iv.{Iv}
-use Rattle.iv_core.specs.Intervals.{Holds}
-use Rattle.orbit_model.specs.SeenPlaces.{Place}
-
--- each rational lies in the box in its place, and the lists are equally long
-abbrev pub HoldsEach : List (Iv 36) → List Rational → Type 0
-HoldsEach [] [] = Unit {0}
-HoldsEach [] (q ∷ qs) = ⊥
-HoldsEach (b ∷ bs) [] = ⊥
-HoldsEach (b ∷ bs) (q ∷ qs) = Holds b q × HoldsEach bs qs
-
--- each coordinate lies in its box
-abbrev pub HoldsPlace : List (Iv 36) → Place → Type 0
-HoldsPlace boxes p = HoldsEach boxes (p.x ∷ p.y ∷ p.z ∷ [])
+use Rattle.orbit_model.specs.SeenPlaces.{Place, HoldsPlace}
 
 -- each coordinate is within 2^-17 m of that coordinate of every place in the boxes
 abbrev pub IsNearPlaces : List (Iv 36) → Place → Type 0

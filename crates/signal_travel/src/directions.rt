@@ -31,7 +31,8 @@ fn sum_of_ranges(before: &Iv<36>) -> Iv<35>
     ensures hi { result.hi ≡ before.now.hi +ℤ pos (33 * 2 ^ 34) }
     ensures holds { (r s : Rational) → Holds before.now r →
         of_whole (pos 2) *ʳ s ≤ʳ of_whole (pos 2) *ʳ r +ʳ of_whole (pos 33) →
-        of_whole (pos 2) *ʳ r -ʳ of_whole (pos 33) ≤ʳ of_whole (pos 2) *ʳ s → Holds result (r +ʳ s) }
+        of_whole (pos 2) *ʳ r -ʳ of_whole (pos 33) ≤ʳ of_whole (pos 2) *ʳ s →
+        Holds result (r +ʳ s) }
 {
     Iv::from_ends(before.lo - MOST_CHANGE, before.hi + MOST_CHANGE)
 }
@@ -41,7 +42,8 @@ fn move_less_twice(x: &Iv<36>) -> Iv<35>
     requires { IsWithin (45200000 * 2 ^ 36) x.now }
     ensures lo { result.lo ≡ neg_ℤ x.now.hi -ℤ pos (16 * 2 ^ 35) }
     ensures hi { result.hi ≡ pos (16 * 2 ^ 35) -ℤ x.now.lo }
-    ensures holds { (q m : Rational) → Holds x.now q → IsAtMostInSize (of_whole (pos 16)) m → Holds result (m -ʳ of_whole (pos 2) *ʳ q) }
+    ensures holds { (q m : Rational) → Holds x.now q → IsAtMostInSize (of_whole (pos 16)) m →
+        Holds result (m -ʳ of_whole (pos 2) *ʳ q) }
 {
     Iv::from_ends(-x.hi - LONGEST_MOVE, LONGEST_MOVE - x.lo)
 }
@@ -53,7 +55,8 @@ fn quotient_of(change: &Iv<35>, sum: &Iv<35>, inverses: &Inverses) -> Iv<DIRECTI
     requires high { change.now.hi ≤ℤ (sum.now.lo +ℤ pos (66 * 2 ^ 34)) }
     requires change_width { width_of change.now ≤ℤ pos (2 ^ 40 + 2 ^ 20) }
     requires sum_width { width_of sum.now ≤ℤ pos (33 * 2 ^ 35 + 2 ^ 20) }
-    ensures holds { (x y z : Rational) → Holds change.now x → Holds sum.now y → z *ʳ y ≈ x → Holds result z }
+    ensures holds { (x y z : Rational) → Holds change.now x → Holds sum.now y → z *ʳ y ≈ x →
+        Holds result z }
     ensures size { IsWithin (2 ^ DIRECTION_EXPONENT + 28) result }
     ensures width { width_of result ≤ℤ pos 57 }
 {
@@ -107,7 +110,8 @@ fn coordinate_spread(x: &Iv<36>, range: &Iv<36>, inverses: &Inverses) -> Spread
     requires range_width { width_of range.now ≤ℤ pos (2 ^ 20) }
     requires low { neg_ℤ (range.now.lo +ℤ pos (2 ^ 20)) ≤ℤ x.now.lo }
     requires high { x.now.hi ≤ℤ (range.now.lo +ℤ pos (2 ^ 20)) }
-    ensures { (q m r s u : Rational) → Holds x.now q → Holds range.now r → IsAtMostInSize (of_whole (pos 16)) m →
+    ensures { (q m r s u : Rational) → Holds x.now q → Holds range.now r →
+        IsAtMostInSize (of_whole (pos 16)) m →
         of_whole (pos 2) *ʳ s ≤ʳ of_whole (pos 2) *ʳ r +ʳ of_whole (pos 33) →
         of_whole (pos 2) *ʳ r -ʳ of_whole (pos 33) ≤ʳ of_whole (pos 2) *ʳ s →
         u *ʳ (r +ʳ s) ≈ m -ʳ of_whole (pos 2) *ʳ q → IsInSpread result u }
@@ -125,9 +129,11 @@ pub struct Direction {
 
 /// The mean directions from the point to the places of the box.
 pub fn direction_to(seen: &SeenPlace, point: &Point) -> Direction
-    ensures { (place move direction : Place) → HoldsVector seen.now.place place → IsDisplacement move →
+    ensures { (place move direction : Place) → HoldsVector seen.now.place place →
+        IsDisplacement move →
         IsMeanDirection place (point_of point.now.x point.now.y point.now.z) move direction →
-        IsInSpread result.x direction.x × IsInSpread result.y direction.y × IsInSpread result.z direction.z }
+        IsInSpread result.x direction.x × IsInSpread result.y direction.y
+        × IsInSpread result.z direction.z }
 {
     let vector = vector_from(point, &seen.place);
     let range = length_by(&vector, 0);
@@ -141,14 +147,18 @@ pub fn direction_to(seen: &SeenPlace, point: &Point) -> Direction
 
 /// The mean directions from the point of a sight to its places, by the vector and the range that it has.
 pub fn direction_of(sight: &Sight, point: &Point) -> Direction
-    requires vector { (p : Place) → HoldsVector sight.now.place p → HoldsVector sight.now.vector (difference p (point_of point.now.x point.now.y point.now.z)) }
+    requires vector { (p : Place) → HoldsVector sight.now.place p →
+        HoldsVector sight.now.vector (difference p (point_of point.now.x point.now.y point.now.z)) }
     requires narrow { IsVectorAtMostWide (pos (2 ^ 19)) sight.now.place }
     requires range_narrow { width_of sight.now.range ≤ℤ pos (2 ^ 19) }
     requires far { pos (10000000 * 2 ^ 36) ≤ℤ sight.now.range.lo }
-    requires away { IsBetweenDistances 18900000 38100000 sight.now.place.x sight.now.place.y sight.now.place.z }
-    ensures { (place move direction : Place) → HoldsVector sight.now.place place → IsDisplacement move →
+    requires away { IsBetweenDistances 18900000 38100000 sight.now.place.x sight.now.place.y
+        sight.now.place.z }
+    ensures { (place move direction : Place) → HoldsVector sight.now.place place →
+        IsDisplacement move →
         IsMeanDirection place (point_of point.now.x point.now.y point.now.z) move direction →
-        IsInSpread result.x direction.x × IsInSpread result.y direction.y × IsInSpread result.z direction.z }
+        IsInSpread result.x direction.x × IsInSpread result.y direction.y
+        × IsInSpread result.z direction.z }
 {
     let inverses = sum_of_ranges(&sight.range).inverses();
     Direction {

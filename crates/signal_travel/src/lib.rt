@@ -18,9 +18,9 @@ ghost use Rattle.iv_core.specs.declared.Iv.{Iv};
 ghost use Rattle.iv_core.specs.Intervals.{Holds, width_of};
 ghost use Rattle.orbit_model.specs.Places.{IsBetweenDistances};
 ghost use Rattle.rational.specs.Rational.{Rational};
-ghost use Rattle.orbit_model.specs.SeenPlaces.{Place, point_of, IsSeenPlace, HasSeenPlace, range_of, IsDisplacement, IsMeanDirection, IsAboveMask, IsBelowMask};
+ghost use Rattle.orbit_model.specs.SeenPlaces.{Place, point_of, IsSeenPlace, HasSeenPlace, range_of, IsDisplacement, IsMeanDirection, IsAboveMask, IsBelowMask, HoldsPlace};
 ghost use Rattle.obs_rows.specs.ReceiverPoints.{IsReceiverPoint};
-ghost use Rattle.signal_travel.specs.Boxes.{HoldsPlace, HasNearPlace};
+ghost use Rattle.signal_travel.specs.Boxes.{HasNearPlace};
 ghost use Rattle.signal_travel.specs.Directions.{HoldsDirection};
 
 mod aims;
@@ -56,7 +56,8 @@ pub struct SeenBox {
     pub range: Iv<36>,
     pub travel: Iv<60>,
     pub ghost narrow: { All (λ b. width_of b ≤ℤ pos (2 ^ 19)) place },
-    pub ghost away: { (a b c : Iv 36) → place ≡ a ∷ b ∷ c ∷ [] → IsBetweenDistances 18900000 38100000 a b c },
+    pub ghost away: { (a b c : Iv 36) → place ≡ a ∷ b ∷ c ∷ [] →
+        IsBetweenDistances 18900000 38100000 a b c },
     pub ghost range_narrow: { width_of range ≤ℤ pos (2 ^ 19) },
     pub ghost range_far: { pos (10000000 * 2 ^ 36) ≤ℤ range.lo },
     pub ghost travel_narrow: { width_of travel ≤ℤ pos (2 ^ 15) },
@@ -66,15 +67,19 @@ pub struct SeenBox {
 /// range and the travel time. It takes no memory and is never refused.
 pub fn seen_from(sv: &SvBox, point: &[i64; 3]) -> SeenBox
     requires { IsReceiverPoint point.now }
-    ensures place { (a b c : ℤ) (sent seen : Place) (travel : Rational) → point.now ≡ a ∷ b ∷ c ∷ [] →
-        HoldsPlace sv.now.place sent → IsSeenPlace sent (point_of a b c) travel seen → HoldsPlace result.place seen }
-    ensures range { (a b c : ℤ) (sent seen : Place) (travel : Rational) → point.now ≡ a ∷ b ∷ c ∷ [] →
-        HoldsPlace sv.now.place sent → IsSeenPlace sent (point_of a b c) travel seen → Holds result.range (range_of travel) }
-    ensures time { (a b c : ℤ) (sent seen : Place) (travel : Rational) → point.now ≡ a ∷ b ∷ c ∷ [] →
-        HoldsPlace sv.now.place sent → IsSeenPlace sent (point_of a b c) travel seen → Holds result.travel travel }
+    ensures place { (a b c : ℤ) (sent seen : Place) (travel : Rational) →
+        point.now ≡ a ∷ b ∷ c ∷ [] → HoldsPlace sv.now.place sent →
+        IsSeenPlace sent (point_of a b c) travel seen → HoldsPlace result.place seen }
+    ensures range { (a b c : ℤ) (sent seen : Place) (travel : Rational) →
+        point.now ≡ a ∷ b ∷ c ∷ [] → HoldsPlace sv.now.place sent →
+        IsSeenPlace sent (point_of a b c) travel seen → Holds result.range (range_of travel) }
+    ensures time { (a b c : ℤ) (sent seen : Place) (travel : Rational) →
+        point.now ≡ a ∷ b ∷ c ∷ [] → HoldsPlace sv.now.place sent →
+        IsSeenPlace sent (point_of a b c) travel seen → Holds result.travel travel }
 
     // The equations of each place of `sv` have a solution.
-    ensures exists { (a b c : ℤ) (sent : Place) → point.now ≡ a ∷ b ∷ c ∷ [] → HoldsPlace sv.now.place sent → HasSeenPlace sent (point_of a b c) }
+    ensures exists { (a b c : ℤ) (sent : Place) → point.now ≡ a ∷ b ∷ c ∷ [] →
+        HoldsPlace sv.now.place sent → HasSeenPlace sent (point_of a b c) }
 {
     seen_by_guess(sv, point, travel_guess(&sent_box(sv), &point_at(point)))
 }
@@ -83,12 +88,15 @@ pub fn seen_from(sv: &SvBox, point: &[i64; 3]) -> SeenBox
 /// boxes that hold the same.
 pub fn seen_by_guess(sv: &SvBox, point: &[i64; 3], guess: i64) -> SeenBox
     requires { IsReceiverPoint point.now }
-    ensures place { (a b c : ℤ) (sent seen : Place) (travel : Rational) → point.now ≡ a ∷ b ∷ c ∷ [] →
-        HoldsPlace sv.now.place sent → IsSeenPlace sent (point_of a b c) travel seen → HoldsPlace result.place seen }
-    ensures range { (a b c : ℤ) (sent seen : Place) (travel : Rational) → point.now ≡ a ∷ b ∷ c ∷ [] →
-        HoldsPlace sv.now.place sent → IsSeenPlace sent (point_of a b c) travel seen → Holds result.range (range_of travel) }
-    ensures time { (a b c : ℤ) (sent seen : Place) (travel : Rational) → point.now ≡ a ∷ b ∷ c ∷ [] →
-        HoldsPlace sv.now.place sent → IsSeenPlace sent (point_of a b c) travel seen → Holds result.travel travel }
+    ensures place { (a b c : ℤ) (sent seen : Place) (travel : Rational) →
+        point.now ≡ a ∷ b ∷ c ∷ [] → HoldsPlace sv.now.place sent →
+        IsSeenPlace sent (point_of a b c) travel seen → HoldsPlace result.place seen }
+    ensures range { (a b c : ℤ) (sent seen : Place) (travel : Rational) →
+        point.now ≡ a ∷ b ∷ c ∷ [] → HoldsPlace sv.now.place sent →
+        IsSeenPlace sent (point_of a b c) travel seen → Holds result.range (range_of travel) }
+    ensures time { (a b c : ℤ) (sent seen : Place) (travel : Rational) →
+        point.now ≡ a ∷ b ∷ c ∷ [] → HoldsPlace sv.now.place sent →
+        IsSeenPlace sent (point_of a b c) travel seen → Holds result.travel travel }
 {
     let sight = sight_of(&sent_box(sv), &point_at(point), guess);
     SeenBox {
@@ -111,10 +119,13 @@ pub struct Aim {
 /// The range of `seen_from` and the direction of `mean_direction` at one point. It takes no memory and is never refused.
 pub fn aim_from(sv: &SvBox, point: &Point) -> Aim
     ensures range { (sent seen : Place) (travel : Rational) → HoldsPlace sv.now.place sent →
-        IsSeenPlace sent (point_of point.now.x point.now.y point.now.z) travel seen → Holds result.range (range_of travel) }
-    ensures direction { (sent seen move direction : Place) (travel : Rational) → HoldsPlace sv.now.place sent →
         IsSeenPlace sent (point_of point.now.x point.now.y point.now.z) travel seen →
-        IsDisplacement move → IsMeanDirection seen (point_of point.now.x point.now.y point.now.z) move direction →
+        Holds result.range (range_of travel) }
+    ensures direction { (sent seen move direction : Place) (travel : Rational) →
+        HoldsPlace sv.now.place sent →
+        IsSeenPlace sent (point_of point.now.x point.now.y point.now.z) travel seen →
+        IsDisplacement move →
+        IsMeanDirection seen (point_of point.now.x point.now.y point.now.z) move direction →
         HoldsDirection result.direction direction }
 {
     let sent = sent_box(sv);
@@ -155,8 +166,9 @@ pub fn above(seen: &SeenBox, point: &[i64; 3], mask: u32) -> bool
 /// the point may be another one than the box was made with.
 pub fn mean_direction(seen: &SeenBox, point: &[i64; 3]) -> [Spread; 3]
     requires { IsReceiverPoint point.now }
-    ensures { (a b c : ℤ) (place move direction : Place) → point.now ≡ a ∷ b ∷ c ∷ [] → HoldsPlace seen.now.place place →
-        IsDisplacement move → IsMeanDirection place (point_of a b c) move direction → HoldsDirection result direction }
+    ensures { (a b c : ℤ) (place move direction : Place) → point.now ≡ a ∷ b ∷ c ∷ [] →
+        HoldsPlace seen.now.place place → IsDisplacement move →
+        IsMeanDirection place (point_of a b c) move direction → HoldsDirection result direction }
 {
     let direction = direction_to(&seen_place(seen), &point_at(point));
     [direction.x, direction.y, direction.z]

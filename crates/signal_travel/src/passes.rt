@@ -54,7 +54,8 @@ fn time_over(range: &Iv<36>) -> Iv<60>
     requires high { range.now.hi ≤ℤ pos (45200000 * 2 ^ 36) }
     ensures holds { (t : Rational) → Holds range.now (range_of t) → Holds result t }
     ensures travel { IsTravel result }
-    ensures width { (pos SPEED *ℤ width_of result) ≤ℤ ((pos (2 ^ 24) *ℤ width_of range.now) +ℤ pos (2 * SPEED)) }
+    ensures width { (pos SPEED *ℤ width_of result)
+        ≤ℤ ((pos (2 ^ 24) *ℤ width_of range.now) +ℤ pos (2 * SPEED)) }
 {
     let low = time_below(range.lo as u64);
     let high = time_above(range.hi as u64);
@@ -76,33 +77,43 @@ pub struct Sight {
     pub range: Iv<36>,
     pub travel: Iv<60>,
     pub ghost size: { IsVectorWithin (45200000 * 2 ^ 36) vector },
-    pub ghost width: { (w : ℤ) → IsVectorAtMostWide w place → IsVectorAtMostWide (w +ℤ pos 1) vector },
-    pub ghost lengths: { (p : Place) (r : Rational) → HoldsVector vector p → IsNearRoot r (square p) → Holds range r },
+    pub ghost width: { (w : ℤ) → IsVectorAtMostWide w place →
+        IsVectorAtMostWide (w +ℤ pos 1) vector },
+    pub ghost lengths: { (p : Place) (r : Rational) → HoldsVector vector p →
+        IsNearRoot r (square p) → Holds range r },
     pub ghost near: { range.hi ≤ℤ pos (45200000 * 2 ^ 36) },
-    pub ghost reach: { (w : ℤ) → IsVectorAtMostWide w vector → AreEndsWithin ((range.lo +ℤ pos 80) +ℤ w) vector },
+    pub ghost reach: { (w : ℤ) → IsVectorAtMostWide w vector →
+        AreEndsWithin ((range.lo +ℤ pos 80) +ℤ w) vector },
 }
 
 /// The sights at the point after the travel times of the box.
 pub fn sight_after(sent: &SentBox, point: &Point, travel: &Iv<60>) -> Sight
     requires { IsTravel travel.now }
-    ensures place { (p seen : Place) (t : Rational) → HoldsVector sent.now.place p → Holds travel.now t →
-        IsSeenPlace p (point_of point.now.x point.now.y point.now.z) t seen → HoldsVector result.place seen }
-    ensures range { (p seen : Place) (t : Rational) → HoldsVector sent.now.place p → Holds travel.now t →
-        IsSeenPlace p (point_of point.now.x point.now.y point.now.z) t seen → Holds result.range (range_of t) }
-    ensures time { (p seen : Place) (t : Rational) → HoldsVector sent.now.place p → Holds travel.now t →
-        IsSeenPlace p (point_of point.now.x point.now.y point.now.z) t seen → Holds result.travel t }
-    ensures vector { (p : Place) → HoldsVector result.place p → HoldsVector result.vector (difference p (point_of point.now.x point.now.y point.now.z)) }
+    ensures place { (p seen : Place) (t : Rational) → HoldsVector sent.now.place p →
+        Holds travel.now t → IsSeenPlace p (point_of point.now.x point.now.y point.now.z) t seen →
+        HoldsVector result.place seen }
+    ensures range { (p seen : Place) (t : Rational) → HoldsVector sent.now.place p →
+        Holds travel.now t → IsSeenPlace p (point_of point.now.x point.now.y point.now.z) t seen →
+        Holds result.range (range_of t) }
+    ensures time { (p seen : Place) (t : Rational) → HoldsVector sent.now.place p →
+        Holds travel.now t → IsSeenPlace p (point_of point.now.x point.now.y point.now.z) t seen →
+        Holds result.travel t }
+    ensures vector { (p : Place) → HoldsVector result.place p →
+        HoldsVector result.vector (difference p (point_of point.now.x point.now.y point.now.z)) }
     // Light takes a time of `travel` after a turn in any time of the box, not only in its own.
-    ensures light { (p seen : Place) (u t : Rational) → HoldsVector sent.now.place p → Holds travel.now u →
-        IsSeenAfter p (point_of point.now.x point.now.y point.now.z) u t seen → Holds result.travel t }
+    ensures light { (p seen : Place) (u t : Rational) → HoldsVector sent.now.place p →
+        Holds travel.now u → IsSeenAfter p (point_of point.now.x point.now.y point.now.z) u t seen →
+        Holds result.travel t }
     ensures travel { IsTravel result.travel }
     ensures far { pos (10000000 * 2 ^ 36) ≤ℤ result.range.lo }
 
     // A coordinate is at most 264,813 units and a 452nd of half the time's width wide.
-    ensures width { (w : ℤ) → (width_of travel.now +ℤ pos (904 * 264813)) ≤ℤ (pos 904 *ℤ w) → IsVectorAtMostWide w result.place }
+    ensures width { (w : ℤ) → (width_of travel.now +ℤ pos (904 * 264813)) ≤ℤ (pos 904 *ℤ w) →
+        IsVectorAtMostWide w result.place }
     ensures range_width { (w : ℤ) → (width_of travel.now +ℤ pos (904 * 264813)) ≤ℤ (pos 904 *ℤ w) →
         (pos 4 *ℤ width_of result.range) ≤ℤ ((pos 7 *ℤ w) +ℤ pos 807) }
-    ensures time_width { (pos SPEED *ℤ width_of result.travel) ≤ℤ ((pos (2 ^ 24) *ℤ width_of result.range) +ℤ pos (2 * SPEED)) }
+    ensures time_width { (pos SPEED *ℤ width_of result.travel)
+        ≤ℤ ((pos (2 ^ 24) *ℤ width_of result.range) +ℤ pos (2 * SPEED)) }
     ensures away { IsVectorAtMostWide (pos (2 ^ 19)) result.place →
         IsBetweenDistances 18900000 38100000 result.place.x result.place.y result.place.z }
 {
@@ -178,17 +189,22 @@ fn is_settled(travel: &Iv<60>, time: i64) -> bool
 /// The sights at the point, by one pass from the guess, or by four where the guess is poor.
 pub fn sight_of(sent: &SentBox, point: &Point, guess: i64) -> Sight
     ensures place { (p seen : Place) (t : Rational) → HoldsVector sent.now.place p →
-        IsSeenPlace p (point_of point.now.x point.now.y point.now.z) t seen → HoldsVector result.place seen }
+        IsSeenPlace p (point_of point.now.x point.now.y point.now.z) t seen →
+        HoldsVector result.place seen }
     ensures range { (p seen : Place) (t : Rational) → HoldsVector sent.now.place p →
-        IsSeenPlace p (point_of point.now.x point.now.y point.now.z) t seen → Holds result.range (range_of t) }
+        IsSeenPlace p (point_of point.now.x point.now.y point.now.z) t seen →
+        Holds result.range (range_of t) }
     ensures time { (p seen : Place) (t : Rational) → HoldsVector sent.now.place p →
-        IsSeenPlace p (point_of point.now.x point.now.y point.now.z) t seen → Holds result.travel t }
-    ensures vector { (p : Place) → HoldsVector result.place p → HoldsVector result.vector (difference p (point_of point.now.x point.now.y point.now.z)) }
+        IsSeenPlace p (point_of point.now.x point.now.y point.now.z) t seen →
+        Holds result.travel t }
+    ensures vector { (p : Place) → HoldsVector result.place p →
+        HoldsVector result.vector (difference p (point_of point.now.x point.now.y point.now.z)) }
     ensures narrow { IsVectorAtMostWide (pos (2 ^ 19)) result.place }
     ensures range_narrow { width_of result.range ≤ℤ pos (2 ^ 19) }
     ensures time_narrow { width_of result.travel ≤ℤ pos (2 ^ 15) }
     ensures far { pos (10000000 * 2 ^ 36) ≤ℤ result.range.lo }
-    ensures away { IsBetweenDistances 18900000 38100000 result.place.x result.place.y result.place.z }
+    ensures away { IsBetweenDistances 18900000 38100000 result.place.x result.place.y
+        result.place.z }
 {
     let time = time_near(guess);
     let sight = sight_after(sent, point, &times_around(time));

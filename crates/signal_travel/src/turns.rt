@@ -23,7 +23,8 @@ fn middle_of(travel: &Iv<60>) -> i64
     ensures low { travel.now.lo ≤ℤ result }
     ensures high { result ≤ℤ travel.now.hi }
     ensures below { (result -ℤ travel.now.lo) ≤ℤ (travel.now.hi -ℤ result) }
-    ensures above { ((travel.now.hi -ℤ result) +ℤ (travel.now.hi -ℤ result)) ≤ℤ ((travel.now.hi -ℤ travel.now.lo) +ℤ pos 1) }
+    ensures above { ((travel.now.hi -ℤ result) +ℤ (travel.now.hi -ℤ result))
+        ≤ℤ ((travel.now.hi -ℤ travel.now.lo) +ℤ pos 1) }
 {
     (travel.lo + travel.hi) >> 1
 }
@@ -65,7 +66,8 @@ fn angle_in(time: i64) -> i64
 fn pairs_of(angle: i64) -> PairBox
     requires low { pos 0 ≤ℤ angle }
     requires high { angle ≤ℤ pos 875753788197 }
-    ensures holds { (c s : Rational) → IsAnglePair 5 (of_scale 56 angle) c s → HoldsPair result c s }
+    ensures holds { (c s : Rational) → IsAnglePair 5 (of_scale 56 angle) c s →
+        HoldsPair result c s }
     ensures narrow { AreAtMostWide (pos 512) result }
     ensures cos_size { IsWithin 1152939096792891904 result.cos }
     ensures sin_size { IsWithin 28024121222816 result.sin }
@@ -97,10 +99,12 @@ fn padded(x: &Iv<60>, pad: i64) -> Iv<60>
 /// Boxes of every pair of every angle by which the Earth turns in a time of the box.
 pub fn turn_in(travel: &Iv<60>) -> PairBox
     requires { IsTravel travel.now }
-    ensures holds { (t c s : Rational) → Holds travel.now t → IsAnglePair 5 (earth_rate *ʳ t) c s → HoldsPair result c s }
+    ensures holds { (t c s : Rational) → Holds travel.now t → IsAnglePair 5 (earth_rate *ʳ t) c s →
+        HoldsPair result c s }
     ensures cos_size { IsWithin (2 ^ 60 + 2 ^ 46) result.cos }
     ensures sin_size { IsWithin (2 ^ 46) result.sin }
-    ensures width { (w : ℤ) → (width_of travel.now +ℤ pos (580 * 2 ^ 12 + 1)) ≤ℤ (pos (2 ^ 12) *ℤ w) → AreAtMostWide w result }
+    ensures width { (w : ℤ) → (width_of travel.now +ℤ pos (580 * 2 ^ 12 + 1))
+        ≤ℤ (pos (2 ^ 12) *ℤ w) → AreAtMostWide w result }
 {
     let middle = middle_of(travel);
     let angle = angle_in(middle);
@@ -119,7 +123,8 @@ fn cos_part(cos: &Iv<60>, x: &Iv<36>) -> Iv<36>
     requires narrow { width_of x.now ≤ℤ pos (2 ^ 18) }
     ensures holds { (c q : Rational) → Holds cos.now c → Holds x.now q → Holds result (c *ʳ q) }
     ensures size { IsWithin (38002400 * 2 ^ 36) result }
-    ensures width { (pos (2 ^ 24) *ℤ width_of result) ≤ℤ ((pos 38000000 *ℤ width_of cos.now) +ℤ pos (262162 * 2 ^ 24)) }
+    ensures width { (pos (2 ^ 24) *ℤ width_of result)
+        ≤ℤ ((pos 38000000 *ℤ width_of cos.now) +ℤ pos (262162 * 2 ^ 24)) }
 {
     cos.product_of::<36, 36>(x)
 }
@@ -131,7 +136,8 @@ fn sin_part(sin: &Iv<60>, x: &Iv<36>) -> Iv<36>
     requires narrow { width_of x.now ≤ℤ pos (2 ^ 18) }
     ensures holds { (s q : Rational) → Holds sin.now s → Holds x.now q → Holds result (s *ʳ q) }
     ensures size { IsWithin (2400 * 2 ^ 36) result }
-    ensures width { (pos (2 ^ 24) *ℤ width_of result) ≤ℤ ((pos 38000000 *ℤ width_of sin.now) +ℤ pos (18 * 2 ^ 24)) }
+    ensures width { (pos (2 ^ 24) *ℤ width_of result)
+        ≤ℤ ((pos 38000000 *ℤ width_of sin.now) +ℤ pos (18 * 2 ^ 24)) }
 {
     sin.product_of::<36, 36>(x)
 }
@@ -140,9 +146,12 @@ fn sin_part(sin: &Iv<60>, x: &Iv<36>) -> Iv<36>
 pub fn turned_box(turn: &PairBox, sent: &SentBox) -> VectorBox
     requires cos_size { IsWithin (2 ^ 60 + 2 ^ 46) turn.now.cos }
     requires sin_size { IsWithin (2 ^ 46) turn.now.sin }
-    ensures holds { (p : Place) (pair : Pair) → HoldsVector sent.now.place p → HoldsPair turn.now pair.cos pair.sin → HoldsVector result (turned_back pair p) }
+    ensures holds { (p : Place) (pair : Pair) → HoldsVector sent.now.place p →
+        HoldsPair turn.now pair.cos pair.sin → HoldsVector result (turned_back pair p) }
     ensures size { IsVectorWithin (38100000 * 2 ^ 36) result }
-    ensures width { (w v : ℤ) → AreAtMostWide w turn.now → ((pos 76000000 *ℤ w) +ℤ pos (262180 * 2 ^ 24)) ≤ℤ (pos (2 ^ 24) *ℤ v) → IsVectorAtMostWide v result }
+    ensures width { (w v : ℤ) → AreAtMostWide w turn.now →
+        ((pos 76000000 *ℤ w) +ℤ pos (262180 * 2 ^ 24)) ≤ℤ (pos (2 ^ 24) *ℤ v) →
+        IsVectorAtMostWide v result }
 {
     let VectorBox { x, y, z } = sent.place;
     VectorBox {

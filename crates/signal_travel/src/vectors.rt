@@ -62,7 +62,8 @@ fn offset_from(x: &Iv<36>, coordinate: &Iv<36>) -> Iv<36>
     requires x_size { IsWithin (38100000 * 2 ^ 36) x.now }
     requires size { IsWithin (7000001 * 2 ^ 36) coordinate.now }
     requires narrow { width_of coordinate.now ≤ℤ pos 1 }
-    ensures holds { (q p : Rational) → Holds x.now q → Holds coordinate.now p → Holds result (q -ʳ p) }
+    ensures holds { (q p : Rational) → Holds x.now q → Holds coordinate.now p →
+        Holds result (q -ʳ p) }
     ensures size { IsWithin (45200000 * 2 ^ 36) result }
     ensures width { width_of result ≤ℤ (width_of x.now +ℤ pos 1) }
 {
@@ -78,7 +79,8 @@ pub fn vector_from(point: &Point, place: &VectorBox) -> VectorBox
       z = p.z -ʳ coordinate_of point.now.z;
     }) }
     ensures size { IsVectorWithin (45200000 * 2 ^ 36) result }
-    ensures width { (w : ℤ) → IsVectorAtMostWide w place.now → IsVectorAtMostWide (w +ℤ pos 1) result }
+    ensures width { (w : ℤ) → IsVectorAtMostWide w place.now →
+        IsVectorAtMostWide (w +ℤ pos 1) result }
 {
     VectorBox {
         x: offset_from(&place.x, &point.boxes.x),
@@ -90,8 +92,10 @@ pub fn vector_from(point: &Point, place: &VectorBox) -> VectorBox
 fn square_of(x: &Iv<36>) -> Iv<9>
     requires { IsWithin (45200000 * 2 ^ 36) x.now }
     ensures holds { (q : Rational) → Holds x.now q → Holds result (q *ʳ q) }
-    ensures lo { result.lo ≡ floor_div (near_end x.now.lo x.now.hi *ℤ near_end x.now.lo x.now.hi) (2 ^ 63) }
-    ensures hi { result.hi ≡ ceil_div (far_end x.now.lo x.now.hi *ℤ far_end x.now.lo x.now.hi) (2 ^ 63) }
+    ensures lo { result.lo
+        ≡ floor_div (near_end x.now.lo x.now.hi *ℤ near_end x.now.lo x.now.hi) (2 ^ 63) }
+    ensures hi { result.hi
+        ≡ ceil_div (far_end x.now.lo x.now.hi *ℤ far_end x.now.lo x.now.hi) (2 ^ 63) }
     ensures low { pos 0 ≤ℤ result.lo }
     ensures high { result.hi ≤ℤ pos (45200000 * 45200000 * 2 ^ 9) }
 {
@@ -128,15 +132,18 @@ pub fn length_by(v: &VectorBox, guess: u64) -> Iv<36>
     requires size { IsVectorWithin (45200000 * 2 ^ 36) v.now }
     requires narrow { IsVectorAtMostWide (pos (2 ^ 48)) v.now }
     requires between { HasVectorBetween 141000000000000 2040000000000000 v.now }
-    ensures holds { (p : Place) (r : Rational) → HoldsVector v.now p → IsNearRoot r (square p) → Holds result r }
+    ensures holds { (p : Place) (r : Rational) → HoldsVector v.now p → IsNearRoot r (square p) →
+        Holds result r }
     ensures far { pos (10000000 * 2 ^ 36) ≤ℤ result.lo }
     ensures near { result.hi ≤ℤ pos (45200000 * 2 ^ 36) }
 
     // At most 7/4 of a coordinate's width, and rounding.
-    ensures width { (w : ℤ) → IsVectorAtMostWide w v.now → (pos 4 *ℤ width_of result) ≤ℤ ((pos 7 *ℤ w) +ℤ pos 800) }
+    ensures width { (w : ℤ) → IsVectorAtMostWide w v.now →
+        (pos 4 *ℤ width_of result) ≤ℤ ((pos 7 *ℤ w) +ℤ pos 800) }
 
     // No end of a coordinate is longer than the vector's least length, but for its width and rounding.
-    ensures reach { (w : ℤ) → IsVectorAtMostWide w v.now → AreEndsWithin ((result.lo +ℤ pos 80) +ℤ w) v.now }
+    ensures reach { (w : ℤ) → IsVectorAtMostWide w v.now →
+        AreEndsWithin ((result.lo +ℤ pos 80) +ℤ w) v.now }
 {
     in_quarters(&squared_length(v).root_by::<34>(guess))
 }

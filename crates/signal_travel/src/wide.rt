@@ -25,7 +25,8 @@ fn sum_of_limbs(low: u128, left: u128, right: u128, high: u128) -> Wide
     requires left_size { left ≤ 340282366920938463426481119284349108225 }
     requires right_size { right ≤ 340282366920938463426481119284349108225 }
     requires high_size { high < 2 ^ 127 }
-    ensures value { result.high * 2 ^ 128 + result.low ≡ high * 2 ^ 128 + (left + right) * 2 ^ 64 + low }
+    ensures value { result.high * 2 ^ 128 + result.low
+        ≡ high * 2 ^ 128 + (left + right) * 2 ^ 64 + low }
 {
     let middle = low / LIMB + left % LIMB + right % LIMB;
     Wide {

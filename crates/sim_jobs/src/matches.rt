@@ -68,7 +68,8 @@ fn wanted(made: &Made, phase: usize) -> i128
 // Whether the signal is no phase, or these are the cycles that were made on its band.
 fn is_as_made(made: &Made, signal: usize, cycles: i128) -> bool
     requires { signal < SIGNALS }
-    ensures { IsTrue result ↔ (IsTrue (is_phase signal) → cycles ≡ wanted made.now.of_arc made.now.of_datum signal) }
+    ensures { IsTrue result
+        ↔ (IsTrue (is_phase signal) → cycles ≡ wanted made.now.of_arc made.now.of_datum signal) }
 {
     if WAVELENGTHS[signal] <= 0 {
         return true;
@@ -97,7 +98,8 @@ fn agrees_with(
     requires counted { AreCounted signals.now }
     requires inside { k < length arcs.now }
     requires entries { length z.now ≡ integer_count arcs.now signals.now }
-    ensures { IsTrue result ↔ All (λ s. IsTrue (is_phase s) → found arcs.now signals.now z.now k arc.now datum.now s ≡ wanted made.now.of_arc made.now.of_datum s) signals.now }
+    ensures { IsTrue result ↔ All (λ s. IsTrue (is_phase s) → found arcs.now signals.now z.now k
+        arc.now datum.now s ≡ wanted made.now.of_arc made.now.of_datum s) signals.now }
 {
     for signal in signals {
         let cycles = found(arcs, signals, z, k, arc, datum, *signal);
@@ -142,7 +144,8 @@ fn has_truth(truth: &[[i64; PHASES]], arcs: &[Arc], signals: &[usize], z: &[i64]
     requires entries { length z.now ≡ integer_count arcs.now signals.now }
     requires marked { AreMarked arcs.now }
     ensures datum { (a : Arc) → slice_get arcs.now k ≡ Some a → IsTrue a.datum → IsTrue result }
-    ensures free { (a : Arc) → slice_get arcs.now k ≡ Some a → IsTrue (is_free a) → IsTrue result ↔ HasTruth truth.now arcs.now signals.now z.now k a }
+    ensures free { (a : Arc) → slice_get arcs.now k ≡ Some a → IsTrue (is_free a) →
+        IsTrue result ↔ HasTruth truth.now arcs.now signals.now z.now k a }
 {
     let arc = arcs[k];
     if arc.datum {

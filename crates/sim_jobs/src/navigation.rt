@@ -11,6 +11,6 @@ ghost use Rattle.sim_jobs.specs.NavRecords.{raws_of};
 
 /// The text of made satellites of a system is a navigation file of it, and its records are theirs.
 pub fn navigation_law()
-    ensures { (system : System) (es : List Eph) → AreSatellites (letter_of system) 0 es → length es ≤ 32
-        → IsNavFile system (lines_of (navigation_text (letter_of system) es)) (raws_of es) }
+    ensures { (system : System) (es : List Eph) → AreSatellites (letter_of system) 0 es → length es
+        ≤ 32 → IsNavFile system (lines_of (navigation_text (letter_of system) es)) (raws_of es) }
 {}

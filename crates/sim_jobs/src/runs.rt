@@ -62,9 +62,12 @@ fn files_of(
     rover: Vec<u8>,
     nav: Vec<u8>,
 ) -> Result<SureFiles, AllocError>
-    ensures base { IfOk result (λ f. ⟦<SureFiles as Files>⟧.text_of f (codes "base") ≡ Some base.items) }
-    ensures rover { IfOk result (λ f. ⟦<SureFiles as Files>⟧.text_of f (codes "rover") ≡ Some rover.items) }
-    ensures nav { IfOk result (λ f. ⟦<SureFiles as Files>⟧.text_of f (codes "nav") ≡ Some nav.items) }
+    ensures base { IfOk result (λ f.
+        ⟦<SureFiles as Files>⟧.text_of f (codes "base") ≡ Some base.items) }
+    ensures rover { IfOk result (λ f.
+        ⟦<SureFiles as Files>⟧.text_of f (codes "rover") ≡ Some rover.items) }
+    ensures nav { IfOk result (λ f.
+        ⟦<SureFiles as Files>⟧.text_of f (codes "nav") ≡ Some nav.items) }
     ensures sure { IfOk result (λ f. (name : List ℕ) → ⟦<SureFiles as Files>⟧.is_sure_name f name) }
 {
     let list = vec![in alloc;
@@ -82,7 +85,8 @@ fn answer_match(
     answer: &Answer,
     matched: bool,
 ) -> Result<JobOutput, AllocError>
-    ensures { IfOk result (λ a. ending_of a ≡ ending (status_of answer.now) (run_text asked.now.seed asked.now.epochs asked.now.sats answer.now matched) []) }
+    ensures { IfOk result (λ a. ending_of a ≡ ending (status_of answer.now)
+        (run_text asked.now.seed asked.now.epochs asked.now.sats answer.now matched) []) }
 {
     let out = run_text(alloc, asked.seed, asked.epochs, asked.sats, answer, matched)?;
     Ok(JobOutput {
@@ -100,7 +104,8 @@ fn answer_files(
     options: &Options,
 ) -> Result<JobOutput, JobStop>
     requires { asked.now.truth.items ≡ truth_in asked.now.seed asked.now.sats asked.now.bands }
-    ensures { IfEnded result (λ end. SimRunEnd options.now asked.now.seed asked.now.epochs asked.now.sats asked.now.bands files.now.base files.now.rover files.now.nav end) }
+    ensures { IfEnded result (λ end. SimRunEnd options.now asked.now.seed asked.now.epochs
+        asked.now.sats asked.now.bands files.now.base files.now.rover files.now.nav end) }
 {
     match process(alloc, &files.base, &files.rover, &files.nav, options) {
         Ok(outcome) => {

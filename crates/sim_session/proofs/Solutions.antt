@@ -1,25 +1,12 @@
 -- What holds of every solution, said of the numbers that the code hands on.
-use Rattle.std.proofs.Common.{◌≡◌, ℕ, List, [], ◌∷◌, ℤ, pos, ◌*ℤ◌, ◌≤ℤ◌, ◌<ℤ◌, ◌^◌, arith, w64, to_z, of_z, sym, subst}
+use Rattle.std.proofs.Common.{◌≡◌, ℕ, List, ℤ, pos, ◌*ℤ◌, ◌≤ℤ◌, ◌<ℤ◌, ◌^◌, arith, w64, to_z, of_z, sym, subst}
 use Rattle.std.proofs.lemmas.Int.{ints}
 use Rattle.whole_math.proofs.Words.{as_w64}
 use Rattle.rational.specs.Rational.{Rational, of_whole, ◌+ʳ◌, AreWithin}
-use Rattle.iv_core.specs.declared.Iv.{Iv}
 use Rattle.eph_store.specs.declared.ephemeris.Eph.{Eph}
 use Rattle.orbit_model.specs.Elements.{Constants}
-use Rattle.orbit_model.specs.Solution.{Quantities}
-use Rattle.orbit_model.specs.SeenPlaces.{sent_place}
-use Rattle.orbit_place.specs.Held.{HoldsPlace as HoldsQuantities}
-use Rattle.signal_travel.specs.Boxes.{HoldsPlace}
 use Rattle.sim_session.specs.ObservationText.{IsInColumns}
 use Rattle.sim_session.specs.Observed.{ForSolutions, IsDistance, measured, thousandths, IsCodeAfter, IsPhase}
-
--- the place of a solution lies in the boxes
-pub placed : (bs : List (Iv 36)) (q : Quantities) → HoldsQuantities bs q → HoldsPlace bs (sent_place q)
-placed [] q h = absurd h
-placed (a ∷ []) q h = absurd h
-placed (a ∷ b ∷ []) q h = absurd h
-placed (a ∷ b ∷ c ∷ []) q h = (h.0, (h.1, (h.2, tt)))
-placed (a ∷ b ∷ c ∷ d ∷ bs) q h = absurd h
 
 pub code_is : (world : Constants) (eph : Eph) (tag : ℕ) (before given : ℤ) (point : List ℤ) (units clock own after returned : ℤ) → before ≡ given → clock ≡ own → returned ≡ after →
     ForSolutions world eph tag before point (λ v. IsDistance units v) → ((v : Rational) → IsDistance units v → AreWithin (of_whole (pos 2)) (of_whole after) (measured clock v)) →

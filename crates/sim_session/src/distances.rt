@@ -35,7 +35,8 @@ pub fn distance_of(range: &Iv<36>, clock: &Iv<60>) -> Distance
     requires range_far { pos (10000000 * 2 ^ 36) ≤ℤ range.now.lo }
     requires clock_narrow { width_of clock.now ≤ℤ pos (2 ^ 10) }
     requires clock_small { IsWithin (2 ^ 54) clock.now }
-    ensures { (r t : Rational) → Holds range.now r → Holds clock.now t → IsDistance result.units (r -ʳ of_whole LIGHT_SPEED *ʳ t) }
+    ensures { (r t : Rational) → Holds range.now r → Holds clock.now t →
+        IsDistance result.units (r -ʳ of_whole LIGHT_SPEED *ʳ t) }
 {
     Distance {
         units: range.lo - ahead_of(clock),
@@ -104,7 +105,8 @@ pub fn phase_of(distance: &Distance, clock: i64, frequency: u32, cycles: i64) ->
     requires most { frequency ≤ 2000000000 }
     requires cycles { unsigned_abs cycles ≤ MOST_CYCLES }
     ensures near { (v : Rational) → IsDistance distance.now.units v →
-        AreWithin (of_whole (pos 2)) (of_whole result) (thousandths frequency (measured clock v) +ʳ of_whole (pos 1000 *ℤ cycles)) }
+        AreWithin (of_whole (pos 2)) (of_whole result)
+        (thousandths frequency (measured clock v) +ʳ of_whole (pos 1000 *ℤ cycles)) }
     ensures low { pos 0 ≤ℤ result }
     ensures high { result <ℤ pos (10 ^ 13) }
 {

@@ -35,7 +35,8 @@ pub struct Drawn {
 
 impl Draws {
     fn offset(&mut self) -> [i64; 3]
-        ensures moves { (seed : ℕ) → self.old.state ≡ state_after seed 0 → self.new.state ≡ state_after seed 3 }
+        ensures moves { (seed : ℕ) → self.old.state ≡ state_after seed 0 →
+            self.new.state ≡ state_after seed 3 }
         ensures value { (seed : ℕ) → self.old.state ≡ state_after seed 0 → result ≡ offset_of seed }
         ensures size { All (λ z. unsigned_abs z ≤ MOST_OFFSET) result }
     {
@@ -47,7 +48,8 @@ impl Draws {
 
     // The draws after those of L1 and L2 for `sats` satellites
     fn behind(self, sats: u32) -> Draws
-        ensures { (seed n : ℕ) → self.state ≡ state_after seed n → result.state ≡ state_after seed (n + 4 * sats) }
+        ensures { (seed n : ℕ) → self.state ≡ state_after seed n →
+            result.state ≡ state_after seed (n + 4 * sats) }
     {
         let mut later = self;
         for _k in 0..sats {
@@ -61,8 +63,10 @@ impl Draws {
 
     // Where L5 isn't used its cycles are 0, whatever is drawn
     fn cycles_on_l5(&mut self, l5: bool) -> i64
-        ensures moves { (seed n : ℕ) → self.old.state ≡ state_after seed n → self.new.state ≡ state_after seed (n + 1) }
-        ensures value { (seed n : ℕ) → self.old.state ≡ state_after seed n → result ≡ l5_cycles l5 seed n }
+        ensures moves { (seed n : ℕ) → self.old.state ≡ state_after seed n →
+            self.new.state ≡ state_after seed (n + 1) }
+        ensures value { (seed n : ℕ) → self.old.state ≡ state_after seed n →
+            result ≡ l5_cycles l5 seed n }
         ensures size { unsigned_abs result ≤ MOST_CYCLES }
     {
         let drawn = self.draw_within(MOST_CYCLES);
@@ -71,9 +75,12 @@ impl Draws {
 
     // Of a satellite at a receiver; those on L5 are drawn later
     fn cycles(&mut self, later: &mut Draws, l5: bool) -> [i64; 3]
-        ensures moves { (seed n : ℕ) → self.old.state ≡ state_after seed n → self.new.state ≡ state_after seed (n + 1 + 1) }
-        ensures later_moves { (seed n : ℕ) → later.old.state ≡ state_after seed n → later.new.state ≡ state_after seed (n + 1) }
-        ensures value { (seed n m : ℕ) → self.old.state ≡ state_after seed n → later.old.state ≡ state_after seed m → result ≡ cycles_from l5 seed n m }
+        ensures moves { (seed n : ℕ) → self.old.state ≡ state_after seed n →
+            self.new.state ≡ state_after seed (n + 1 + 1) }
+        ensures later_moves { (seed n : ℕ) → later.old.state ≡ state_after seed n →
+            later.new.state ≡ state_after seed (n + 1) }
+        ensures value { (seed n m : ℕ) → self.old.state ≡ state_after seed n →
+            later.old.state ≡ state_after seed m → result ≡ cycles_from l5 seed n m }
         ensures size { AreSmall result }
     {
         let on_l1 = self.draw_within(MOST_CYCLES);
@@ -83,9 +90,12 @@ impl Draws {
     }
 
     fn all_cycles(&mut self, alloc: Global, sats: u32, l5: bool) -> Result<Cycles, AllocError>
-        ensures base { (seed : ℕ) → self.old.state ≡ state_after seed 5 → IfOk result (λ c. c.base.items ≡ first_of (base_cycles seed sats l5) sats) }
-        ensures rover { (seed : ℕ) → self.old.state ≡ state_after seed 5 → IfOk result (λ c. c.rover.items ≡ first_of (rover_cycles seed sats l5) sats) }
-        ensures truth { (seed : ℕ) → self.old.state ≡ state_after seed 5 → IfOk result (λ c. c.truth.items ≡ first_of (truth_of seed sats l5) sats) }
+        ensures base { (seed : ℕ) → self.old.state ≡ state_after seed 5 →
+            IfOk result (λ c. c.base.items ≡ first_of (base_cycles seed sats l5) sats) }
+        ensures rover { (seed : ℕ) → self.old.state ≡ state_after seed 5 →
+            IfOk result (λ c. c.rover.items ≡ first_of (rover_cycles seed sats l5) sats) }
+        ensures truth { (seed : ℕ) → self.old.state ≡ state_after seed 5 →
+            IfOk result (λ c. c.truth.items ≡ first_of (truth_of seed sats l5) sats) }
         ensures base_size { IfOk result (λ c. All AreSmall c.base.items) }
         ensures rover_size { IfOk result (λ c. All AreSmall c.rover.items) }
     {
@@ -122,9 +132,12 @@ pub fn draw_all(alloc: Global, seed: u32, sats: u32, l5: bool) -> Result<Drawn, 
     ensures offset { IfOk result (λ d. d.offset ≡ offset_of seed) }
     ensures base_clock { IfOk result (λ d. d.base_clock ≡ base_clock_of seed) }
     ensures rover_clock { IfOk result (λ d. d.rover_clock ≡ rover_clock_of seed) }
-    ensures base_cycles { IfOk result (λ d. d.cycles.base.items ≡ first_of (base_cycles seed sats l5) sats) }
-    ensures rover_cycles { IfOk result (λ d. d.cycles.rover.items ≡ first_of (rover_cycles seed sats l5) sats) }
-    ensures truth { IfOk result (λ d. d.cycles.truth.items ≡ first_of (truth_of seed sats l5) sats) }
+    ensures base_cycles { IfOk result (λ d.
+        d.cycles.base.items ≡ first_of (base_cycles seed sats l5) sats) }
+    ensures rover_cycles { IfOk result (λ d.
+        d.cycles.rover.items ≡ first_of (rover_cycles seed sats l5) sats) }
+    ensures truth { IfOk result (λ d.
+        d.cycles.truth.items ≡ first_of (truth_of seed sats l5) sats) }
     ensures offset_size { IfOk result (λ d. All (λ z. unsigned_abs z ≤ MOST_OFFSET) d.offset) }
     ensures base_clock_size { IfOk result (λ d. unsigned_abs d.base_clock ≤ MOST_CLOCK) }
     ensures rover_clock_size { IfOk result (λ d. unsigned_abs d.rover_clock ≤ MOST_CLOCK) }

@@ -33,8 +33,10 @@ impl Draws {
     /// The next draw as a whole number from `-most` to `most`, wherever in the sequence it stands.
     pub fn draw_within(&mut self, most: u32) -> i64
         requires { most < 2 ^ 31 }
-        ensures moves { (seed n : ℕ) → self.old.state ≡ state_after seed n → self.new.state ≡ state_after seed (n + 1) }
-        ensures value { (seed n : ℕ) → self.old.state ≡ state_after seed n → result ≡ drawn_within most seed n }
+        ensures moves { (seed n : ℕ) → self.old.state ≡ state_after seed n →
+            self.new.state ≡ state_after seed (n + 1) }
+        ensures value { (seed n : ℕ) → self.old.state ≡ state_after seed n →
+            result ≡ drawn_within most seed n }
         ensures size { unsigned_abs result ≤ most }
     {
         let drawn = self.draw() % (2 * most + 1);

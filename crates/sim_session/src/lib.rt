@@ -122,7 +122,8 @@ pub fn make(
     ensures base { IfOk result (λ m. IsBaseText seed epochs sats bands system m.base.items) }
     ensures rover { IfOk result (λ m. IsRoverText seed epochs sats bands system m.rover.items) }
     ensures nav { IfOk result (λ m. IsNavigationText sats system m.nav.items) }
-    ensures truth { IfOk result (λ m. m.truth.items ≡ first_of (truth_of seed sats (has_l5 bands)) sats) }
+    ensures truth { IfOk result (λ m.
+        m.truth.items ≡ first_of (truth_of seed sats (has_l5 bands)) sats) }
     ensures offset { IfOk result (λ m. m.offset ≡ offset_of seed) }
     ensures base_size { IfOk result (λ m. vec_len m.base < 2 ^ 23) }
     ensures rover_size { IfOk result (λ m. vec_len m.rover < 2 ^ 23) }

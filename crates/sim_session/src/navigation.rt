@@ -80,8 +80,10 @@ fn write_header(out: &mut Vec<u8>, letter: u8) -> Result<(), AllocError>
 /// Appends the navigation file of the records, which are of the system with that letter. After an `Err` a part of it may have been
 /// appended.
 pub fn write_navigation(out: &mut Vec<u8>, letter: u8, records: &[Eph]) -> Result<(), AllocError>
-    ensures written { OnOk result (out.new.items ≡ out.old.items ++ navigation_text letter records.now) }
-    ensures size { OnOk result (length out.new.items ≡ length out.old.items + (155 + 648 * length records.now)) }
+    ensures written { OnOk result
+        (out.new.items ≡ out.old.items ++ navigation_text letter records.now) }
+    ensures size { OnOk result
+        (length out.new.items ≡ length out.old.items + (155 + 648 * length records.now)) }
 {
     write_header(out, letter)?;
     for eph in records {

@@ -38,7 +38,8 @@ fn observe_all(
     requires records { All IsOnTime records.now }
     requires as_many { length cycles.now ≡ length records.now }
     requires small { All AreSmall cycles.now }
-    ensures { IfOk result (λ s. AreObserved (constants_of world.now) tag.0 receiver.now.point receiver.now.clock records.now cycles.now s.items) }
+    ensures { IfOk result (λ s. AreObserved (constants_of world.now) tag.0 receiver.now.point
+        receiver.now.clock records.now cycles.now s.items) }
 {
     let mut sats = Vec::new(alloc);
     for (k, eph) in records.iter().enumerate() {
@@ -62,7 +63,8 @@ pub fn observation_file(
     requires records { All IsOnTime records.now }
     requires as_many { length cycles.now ≡ length records.now }
     requires small { All AreSmall cycles.now }
-    ensures text { IfOk result (λ t. IsObservationText epochs tracking (constants_of world.now) receiver.now.point receiver.now.clock records.now cycles.now t.items) }
+    ensures text { IfOk result (λ t. IsObservationText epochs tracking (constants_of world.now)
+        receiver.now.point receiver.now.clock records.now cycles.now t.items) }
     ensures size { IfOk result (λ t. length t.items < 2 ^ 23) }
 {
     let step = step_of(epochs);

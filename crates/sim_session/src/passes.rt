@@ -34,7 +34,8 @@ fn distance_at(world: &World, eph: &Eph, tag: Tick, code: i64, receiver: &Receiv
     requires near { abs_diff tag.0 eph.now.toe.0 ≤ 72010000000 }
     requires code_low { pos 0 ≤ℤ code }
     requires code_high { code ≤ℤ pos (10 ^ 11) }
-    ensures { ForSolutions (constants_of world.now) eph.now tag.0 code receiver.now.point (λ v. IsDistance result.units v) }
+    ensures { ForSolutions (constants_of world.now) eph.now tag.0 code receiver.now.point (λ v.
+        IsDistance result.units v) }
 {
     let satellite = sv_with(eph, tag, code, world);
     let seen = seen_from(&satellite, &receiver.point);
@@ -45,7 +46,8 @@ fn code_after(world: &World, eph: &Eph, tag: Tick, code: i64, receiver: &Receive
     requires near { abs_diff tag.0 eph.now.toe.0 ≤ 72010000000 }
     requires code_low { pos 0 ≤ℤ code }
     requires code_high { code ≤ℤ pos (10 ^ 11) }
-    ensures near { IsCodeAfter (constants_of world.now) eph.now tag.0 receiver.now.point receiver.now.clock code result }
+    ensures near { IsCodeAfter (constants_of world.now) eph.now tag.0 receiver.now.point
+        receiver.now.clock code result }
     ensures low { pos 0 ≤ℤ result }
     ensures high { result ≤ℤ pos (10 ^ 11) }
 {
@@ -56,7 +58,8 @@ fn code_after(world: &World, eph: &Eph, tag: Tick, code: i64, receiver: &Receive
 // The code that six steps reach
 fn code_at(world: &World, eph: &Eph, tag: Tick, receiver: &Receiver) -> i64
     requires near { abs_diff tag.0 eph.now.toe.0 ≤ 72010000000 }
-    ensures reached { IsReachedIn 6 (constants_of world.now) eph.now tag.0 receiver.now.point receiver.now.clock result }
+    ensures reached { IsReachedIn 6
+        (constants_of world.now) eph.now tag.0 receiver.now.point receiver.now.clock result }
     ensures low { pos 0 ≤ℤ result }
     ensures high { result ≤ℤ pos (10 ^ 11) }
 {
@@ -78,7 +81,8 @@ pub fn observe(
 ) -> Signals
     requires near { abs_diff tag.0 eph.now.toe.0 ≤ 72010000000 }
     requires cycles { All (λ z. unsigned_abs z ≤ MOST_CYCLES) cycles.now }
-    ensures observed { IsObserved (constants_of world.now) tag.0 receiver.now.point receiver.now.clock eph.now cycles.now result }
+    ensures observed { IsObserved (constants_of world.now) tag.0 receiver.now.point
+        receiver.now.clock eph.now cycles.now result }
     ensures columns { AreInColumns result }
 {
     let code = code_at(world, eph, tag, receiver);

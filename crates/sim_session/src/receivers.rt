@@ -25,7 +25,8 @@ pub fn rover_receiver(x: i64, y: i64, z: i64, clock: i64) -> Receiver
     requires y { unsigned_abs y ≤ MOST_OFFSET }
     requires z { unsigned_abs z ≤ MOST_OFFSET }
     requires clock { unsigned_abs clock ≤ MOST_CLOCK }
-    ensures point { result.point ≡ (pos 63781370000 +ℤ (pos 10 *ℤ x)) ∷ (pos 10 *ℤ y) ∷ (pos 10 *ℤ z) ∷ [] }
+    ensures point { result.point
+        ≡ (pos 63781370000 +ℤ (pos 10 *ℤ x)) ∷ (pos 10 *ℤ y) ∷ (pos 10 *ℤ z) ∷ [] }
     ensures clock { result.clock ≡ clock }
 {
     Receiver {

@@ -101,7 +101,8 @@ fn write_amounts(
     signals: &Signals,
 ) -> Result<(), AllocError>
     requires { AreInColumns signals.now }
-    ensures { OnOk result (out.new.items ≡ out.old.items ++ fields_text (amounts_of tracking signals.now)) }
+    ensures { OnOk result
+        (out.new.items ≡ out.old.items ++ fields_text (amounts_of tracking signals.now)) }
 {
     let Signals { code, l1, l2, l5 } = *signals;
     push_fixed(alloc, out, 14, code, 3)?;
@@ -120,7 +121,8 @@ fn write_satellite(
     signals: &Signals,
 ) -> Result<(), AllocError>
     requires { AreInColumns signals.now }
-    ensures { OnOk result (out.new.items ≡ out.old.items ++ satellite_line tracking number signals.now) }
+    ensures { OnOk result
+        (out.new.items ≡ out.old.items ++ satellite_line tracking number signals.now) }
 {
     out.push(tracking.letter())?;
     push_digits(out, number, 2)?;
@@ -157,9 +159,11 @@ pub fn write_epoch(
     requires seconds { seconds ≤ 86399 }
     requires few { length sats.now ≤ 99 }
     requires columns { All AreInColumns sats.now }
-    ensures written { OnOk result (out.new.items ≡ out.old.items ++ epoch_text tracking seconds sats.now) }
+    ensures written { OnOk result
+        (out.new.items ≡ out.old.items ++ epoch_text tracking seconds sats.now) }
     // 98 bytes for each satellite with all three bands
-    ensures size { OnOk result (length out.new.items ≤ length out.old.items + (36 + 98 * length sats.now)) }
+    ensures size { OnOk result
+        (length out.new.items ≤ length out.old.items + (36 + 98 * length sats.now)) }
 {
     write_epoch_line(alloc, out, seconds, sats.len() as u32)?;
     write_satellites(alloc, out, tracking, sats)?;

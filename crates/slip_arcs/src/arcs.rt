@@ -32,7 +32,8 @@ pub fn cut(
     requires bands { IsBandsNumber bands }
     requires few { length used.now ≤ MOST_PAIRS }
     requires ranges { All IsInRange used.now }
-    ensures kept { IfOk result (λ arcs. AreKept (bands_of bands) jump least used.now arcs.kept arcs.short) }
+    ensures kept { IfOk result (λ arcs.
+        AreKept (bands_of bands) jump least used.now arcs.kept arcs.short) }
     ensures datums { IfOk result (λ arcs. HaveDatums arcs.kept) }
     ensures shifts { IfOk result (λ arcs. All (λ a. a.shift ≡ no_shift) arcs.kept) }
 {

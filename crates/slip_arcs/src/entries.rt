@@ -69,7 +69,8 @@ pub fn last_of(used: &[UsedPair], first: usize, sat: u8, bands: u16, jump: u32) 
     requires bands { IsBandsNumber bands }
     ensures order { first ≤ result }
     ensures inside { result < length used.now }
-    ensures held { (i : ℕ) → first ≤ i → i < result → goes_on (bands_of bands) jump used.now sat i ≡ true }
+    ensures held { (i : ℕ) → first ≤ i → i < result →
+        goes_on (bands_of bands) jump used.now sat i ≡ true }
     ensures ends { goes_on (bands_of bands) jump used.now sat result ≡ false }
 {
     let mut last = first;

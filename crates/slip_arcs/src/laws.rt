@@ -9,6 +9,8 @@ ghost use Rattle.slip_arcs.specs.Used.{kappa, jump_of, does_jump};
 pub fn jump_law()
     // ι is c / UNIT_FREQUENCY, and a phase is in thousandths of a cycle
     ensures kappa { (pos kappa *ℤ pos 9240) *ℤ pos 10_230_000 ≡ pos 1000 *ℤ UNIT_FREQUENCY }
-    ensures stays { (before now : UsedSat) (band : ℕ) → jump_of 0 band before now ≡ 276_000 → does_jump 12 (band ∷ []) before now ≡ false }
-    ensures cuts { (before now : UsedSat) (band : ℕ) → jump_of 0 band before now ≡ 276_001 → does_jump 12 (band ∷ []) before now ≡ true }
+    ensures stays { (before now : UsedSat) (band : ℕ) → jump_of 0 band before now ≡ 276_000 →
+        does_jump 12 (band ∷ []) before now ≡ false }
+    ensures cuts { (before now : UsedSat) (band : ℕ) → jump_of 0 band before now ≡ 276_001 →
+        does_jump 12 (band ∷ []) before now ≡ true }
 {}

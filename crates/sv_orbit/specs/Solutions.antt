@@ -5,12 +5,12 @@ use Rattle.iv_core.specs.Intervals.{Holds}
 use Rattle.eph_store.specs.Decimals.{decimal}
 use Rattle.orbit_model.specs.Elements.{Constants}
 use Rattle.orbit_model.specs.Solution.{Quantities}
-use Rattle.orbit_place.specs.Held.{HoldsPlace}
+use Rattle.orbit_model.specs.SeenPlaces.{HoldsPlace, sent_place}
 use Rattle.sv_orbit.specs.declared.place.SvBox.{SvBox}
 
 -- the coordinates and the clock of a solution lie in the boxes
 pub record HoldsSolution (b : SvBox) (q : Quantities) : Type 0 where
-  pub place : HoldsPlace b.place q
+  pub place : HoldsPlace b.place (sent_place q)
   pub clock : Holds b.clock q.clock
 
 -- μ = 398600500000000 m³/s² and F = -4.442807633 · 10^-10 s/√m

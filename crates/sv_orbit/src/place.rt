@@ -15,7 +15,8 @@ pub struct SvBox {
     pub place: [Iv<36>; 3],
     pub clock: Iv<60>,
     pub ghost narrow: { All (λ b. width_of b ≤ℤ pos (2 ^ 18)) place },
-    pub ghost away: { (a b c : Iv 36) → place ≡ a ∷ b ∷ c ∷ [] → IsBetweenDistances 19000000 38000000 a b c },
+    pub ghost away: { (a b c : Iv 36) → place ≡ a ∷ b ∷ c ∷ [] →
+        IsBetweenDistances 19000000 38000000 a b c },
     pub ghost clock_narrow: { width_of clock ≤ℤ pos (2 ^ 10) },
     pub ghost clock_small: { IsWithin (2 ^ 54) clock },
 }

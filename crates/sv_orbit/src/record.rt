@@ -51,14 +51,19 @@ pub struct SvRecord {
     pub crc: SizedBox<40, RADIUS_CHANGE, 1>,
     pub crs: SizedBox<40, RADIUS_CHANGE, 1>,
     pub ghost eccentricity_in: { Holds shape.eccentricity.held (elements_of clock.eph).ecc },
-    pub ghost axis_in: { (x : Rational) → x ≈ (elements_of clock.eph).root_a *ʳ (elements_of clock.eph).root_a → Holds axis.held x },
+    pub ghost axis_in: { (x : Rational) →
+        x ≈ (elements_of clock.eph).root_a *ʳ (elements_of clock.eph).root_a → Holds axis.held x },
     pub ghost axis_least: { pos (20249999 * 2 ^ 36) ≤ℤ axis.held.lo },
-    pub ghost perigee_in: { (p : Pair) → IsPairOf5 (elements_of clock.eph).peri p → HoldsBoth perigee.cos perigee.sin p },
+    pub ghost perigee_in: { (p : Pair) → IsPairOf5 (elements_of clock.eph).peri p →
+        HoldsBoth perigee.cos perigee.sin p },
     pub ghost inclination_in: { Holds inclination.held (elements_of clock.eph).incl },
     pub ghost node_in: { Holds node.held (elements_of clock.eph).node },
-    pub ghost inclination_rate_in: { Holds inclination_rate.held (times (10 ^ 4) (elements_of clock.eph).incl_rate) },
-    pub ghost node_rate_in: { Holds node_rate.held (times (10 ^ 4) (elements_of clock.eph).node_rate -ʳ times (10 ^ 4) earth_rate) },
-    pub ghost earth_turn_in: { Holds earth_turn.held (earth_rate *ʳ (elements_of clock.eph).toe_second) },
+    pub ghost inclination_rate_in: { Holds inclination_rate.held
+        (times (10 ^ 4) (elements_of clock.eph).incl_rate) },
+    pub ghost node_rate_in: { Holds node_rate.held
+        (times (10 ^ 4) (elements_of clock.eph).node_rate -ʳ times (10 ^ 4) earth_rate) },
+    pub ghost earth_turn_in: { Holds earth_turn.held
+        (earth_rate *ʳ (elements_of clock.eph).toe_second) },
     pub ghost cuc_in: { Holds cuc.held (elements_of clock.eph).cuc },
     pub ghost cus_in: { Holds cus.held (elements_of clock.eph).cus },
     pub ghost cic_in: { Holds cic.held (elements_of clock.eph).cic },
@@ -69,7 +74,8 @@ pub struct SvRecord {
 
 // The pair of ω
 fn perigee(eph: &Eph) -> Rotation<1, PERIGEE_WIDTH>
-    ensures { (p : Pair) → IsPairOf5 (elements_of eph.now).peri p → HoldsBoth result.cos result.sin p }
+    ensures { (p : Pair) → IsPairOf5 (elements_of eph.now).peri p →
+        HoldsBoth result.cos result.sin p }
 {
     rotation_of(&decimal_box::<56, 65, 1, 0, ANGLE>(eph.peri))
 }
@@ -103,8 +109,10 @@ impl SvRecord {
 
 // What the place is made from
 fn orbit_of(made: &SvRecord, timing: &Timing) -> Orbit
-    ensures { (sent : Rational) (world : Constants) (q : Quantities) (near : IsNearSolution world (elements_of made.now.clock.eph) sent q) →
-        HoldsTiming timing.now q → HoldsOrbit result (with_share (elements_of made.now.clock.eph) near.share) q }
+    ensures { (sent : Rational) (world : Constants) (q : Quantities)
+        (near : IsNearSolution world (elements_of made.now.clock.eph) sent q) →
+        HoldsTiming timing.now q →
+        HoldsOrbit result (with_share (elements_of made.now.clock.eph) near.share) q }
 {
     let eccentricity = made.clock.eccentricity.held;
     Orbit {
@@ -135,8 +143,8 @@ pub fn sv_from(made: &SvRecord, tag: Tick, code: i64) -> SvBox
     requires near { abs_diff tag.0 made.now.clock.eph.toe.0 ≤ 72010000000 }
     requires code_low { pos 0 ≤ℤ code }
     requires code_high { code ≤ℤ pos (10 ^ 11) }
-    ensures { (q : Quantities) → IsNearSolution (constants_of made.now.clock.world) (elements_of made.now.clock.eph) (sent_at tag.0 code) q →
-        HoldsSolution result q }
+    ensures { (q : Quantities) → IsNearSolution (constants_of made.now.clock.world)
+        (elements_of made.now.clock.eph) (sent_at tag.0 code) q → HoldsSolution result q }
 {
     let timing = timing_at(&made.clock, tag, code);
     let orbit = orbit_of(made, &timing);
@@ -151,7 +159,8 @@ pub fn sv_with(eph: &Eph, tag: Tick, code: i64, world: &World) -> SvBox
     requires near { abs_diff tag.0 eph.now.toe.0 ≤ 72010000000 }
     requires code_low { pos 0 ≤ℤ code }
     requires code_high { code ≤ℤ pos (10 ^ 11) }
-    ensures { (q : Quantities) → IsNearSolution (constants_of world.now) (elements_of eph.now) (sent_at tag.0 code) q →
+    ensures { (q : Quantities) →
+        IsNearSolution (constants_of world.now) (elements_of eph.now) (sent_at tag.0 code) q →
         HoldsSolution result q }
 {
     sv_from(&SvRecord::of(eph, world), tag, code)
@@ -162,7 +171,8 @@ pub fn sv_at(eph: &Eph, tag: Tick, code: i64) -> SvBox
     requires near { abs_diff tag.0 eph.now.toe.0 ≤ 72010000000 }
     requires code_low { pos 0 ≤ℤ code }
     requires code_high { code ≤ℤ pos (10 ^ 11) }
-    ensures { (q : Quantities) → IsNearSolution gps (elements_of eph.now) (sent_at tag.0 code) q → HoldsSolution result q }
+    ensures { (q : Quantities) → IsNearSolution gps (elements_of eph.now) (sent_at tag.0 code) q →
+        HoldsSolution result q }
 {
     sv_with(eph, tag, code, &World::gps())
 }

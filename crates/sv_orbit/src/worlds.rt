@@ -32,12 +32,15 @@ pub fn worlds_law()
     // 20.3.3.3.3.1: F = -2 √μ / c² in s/√m, so that F² c⁴ is 4 μ, but for what F's ten digits leave: less than one part in 10^9
     ensures relativity { gps.relativity ≈ decimal (neg_ℤ (pos 4_442_807_633)) 19 }
     ensures effect_high { squared_effect gps ≤ʳ four_mu gps }
-    ensures effect_low { four_mu gps -ʳ divided (four_mu gps) (10 ^ 9) (lit< tt) ≤ʳ squared_effect gps }
+    ensures effect_low { four_mu gps -ʳ divided (four_mu gps) (10 ^ 9) (lit< tt)
+        ≤ʳ squared_effect gps }
     // 20.3.4.3: c in m/s. A tag in ticks of 100 ns less a code in mm, in seconds
-    ensures sent { (tag : ℕ) (code : ℤ) → sent_at tag code ≈ divided (of_whole (pos tag)) (10 ^ 7) (lit< tt) -ʳ divided (of_whole code) (1000 * 299_792_458) (lit< tt) }
+    ensures sent { (tag : ℕ) (code : ℤ) → sent_at tag code ≈ divided (of_whole (pos tag)) (10 ^ 7)
+        (lit< tt) -ʳ divided (of_whole code) (1000 * 299_792_458) (lit< tt) }
     // Galileo OS SIS ICD, 5.1.1 and 5.1.4: μ, and F of the same form
     ensures gravity_of_galileo { galileo.mu ≈ of_whole (pos (3_986_004_418 * 10 ^ 5)) }
     ensures relativity_of_galileo { galileo.relativity ≈ decimal (neg_ℤ (pos 4_442_807_309)) 19 }
     ensures galileo_high { squared_effect galileo ≤ʳ four_mu galileo }
-    ensures galileo_low { four_mu galileo -ʳ divided (four_mu galileo) (10 ^ 9) (lit< tt) ≤ʳ squared_effect galileo }
+    ensures galileo_low { four_mu galileo -ʳ divided (four_mu galileo) (10 ^ 9) (lit< tt)
+        ≤ʳ squared_effect galileo }
 {}

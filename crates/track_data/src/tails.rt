@@ -54,7 +54,9 @@ impl TrackTail {
         top: i128,
     ) -> TrackTail
         ensures value { result ≡ track_tail_of_vectors fixed h moves best top }
-        ensures fits { (ss : List ℕ) (arcs : List Arc) (pairs : List PairRows) (budget : ℕ) → AreTrackVectors ss arcs pairs h moves best top → IsTrackTailOf ss arcs pairs budget result }
+        ensures fits { (ss : List ℕ) (arcs : List Arc) (pairs : List PairRows) (budget : ℕ) →
+            AreTrackVectors ss arcs pairs h moves best top →
+            IsTrackTailOf ss arcs pairs budget result }
     {
         if fixed {
             TrackTail::Fixed {

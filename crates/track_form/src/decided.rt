@@ -40,14 +40,21 @@ fn decide_moved(
     moves: Vec<[i64; 3]>,
     ratio: u32,
 ) -> TrackTail
-    requires form { (fs : List FrontForm) × (IsTrackForm track.now.arcs (fine_signals track.now.signals) track.now.pairs fs form.now × (moves.items ≡ map (move_at (first_of best.now)) fs)) }
+    requires form { (fs : List FrontForm)
+        × (IsTrackForm track.now.arcs (fine_signals track.now.signals) track.now.pairs fs form.now
+        × (moves.items ≡ map (move_at (first_of best.now)) fs)) }
     requires best { IsTwoBest form.now best.now }
     requires narrow { All (λ m. HasWide m → ⊥) moves.items }
     requires ratio_from { 1000 ≤ ratio }
     requires ratio_to { ratio ≤ MOST_RATIO }
-    ensures decision { (budget : ℕ) → IsSearchedIn form.now budget best.now → IsTrackDecision track.now.arcs (fine_signals track.now.signals) track.now.pairs ratio budget result }
-    ensures strictly_best { (budget : ℕ) → IsSearchedIn form.now budget best.now → IsTrackBestWhereFixed track.now.arcs (fine_signals track.now.signals) track.now.pairs result }
-    ensures fits { (budget : ℕ) → IsTrackTailOf (fine_signals track.now.signals) track.now.arcs track.now.pairs budget result }
+    ensures decision { (budget : ℕ) → IsSearchedIn form.now budget best.now →
+        IsTrackDecision track.now.arcs
+        (fine_signals track.now.signals) track.now.pairs ratio budget result }
+    ensures strictly_best { (budget : ℕ) → IsSearchedIn form.now budget best.now →
+        IsTrackBestWhereFixed track.now.arcs
+        (fine_signals track.now.signals) track.now.pairs result }
+    ensures fits { (budget : ℕ) → IsTrackTailOf (fine_signals track.now.signals) track.now.arcs
+        track.now.pairs budget result }
 {
     values_from(form);
     let first = &best.first[..best.size];
@@ -69,14 +76,20 @@ fn decide_best(
     best: &TwoBest,
     ratio: u32,
 ) -> Result<TrackTail, AllocError>
-    requires form { (fs : List FrontForm) × IsTrackForm track.now.arcs (fine_signals track.now.signals) track.now.pairs fs form.now }
-    requires factors { AreFactors track.now.arcs (fine_signals track.now.signals) track.now.pairs factors.now }
+    requires form { (fs : List FrontForm)
+        × IsTrackForm track.now.arcs (fine_signals track.now.signals) track.now.pairs fs form.now }
+    requires factors { AreFactors track.now.arcs
+        (fine_signals track.now.signals) track.now.pairs factors.now }
     requires best { IsTwoBest form.now best.now }
     requires ratio_from { 1000 ≤ ratio }
     requires ratio_to { ratio ≤ MOST_RATIO }
-    ensures decision { IfOk result (λ t. (budget : ℕ) → IsSearchedIn form.now budget best.now → IsTrackDecision track.now.arcs (fine_signals track.now.signals) track.now.pairs ratio budget t) }
-    ensures strictly_best { IfOk result (λ t. (budget : ℕ) → IsSearchedIn form.now budget best.now → IsTrackBestWhereFixed track.now.arcs (fine_signals track.now.signals) track.now.pairs t) }
-    ensures fits { IfOk result (λ t. (budget : ℕ) → IsTrackTailOf (fine_signals track.now.signals) track.now.arcs track.now.pairs budget t) }
+    ensures decision { IfOk result (λ t. (budget : ℕ) → IsSearchedIn form.now budget best.now →
+        IsTrackDecision track.now.arcs
+        (fine_signals track.now.signals) track.now.pairs ratio budget t) }
+    ensures strictly_best { IfOk result (λ t. (budget : ℕ) → IsSearchedIn form.now budget best.now →
+        IsTrackBestWhereFixed track.now.arcs (fine_signals track.now.signals) track.now.pairs t) }
+    ensures fits { IfOk result (λ t. (budget : ℕ) →
+        IsTrackTailOf (fine_signals track.now.signals) track.now.arcs track.now.pairs budget t) }
 {
     let first = &best.first[..best.size];
     match moves_at(alloc, factors, first)? {
@@ -103,10 +116,14 @@ pub fn decide_track(
     requires ratio_to { ratio ≤ MOST_RATIO }
     requires budget_from { 1 ≤ budget }
     requires budget_to { budget ≤ MOST_BUDGET }
-    ensures decision { IfOk result (IsTrackDecision track.now.arcs (fine_signals track.now.signals) track.now.pairs ratio budget) }
-    ensures only { IfOk result (λ t. (u : TrackTail) → IsTrackDecision track.now.arcs (fine_signals track.now.signals) track.now.pairs ratio budget u → IsSameTail u t) }
-    ensures strictly_best { IfOk result (IsTrackBestWhereFixed track.now.arcs (fine_signals track.now.signals) track.now.pairs) }
-    ensures fits { IfOk result (IsTrackTailOf (fine_signals track.now.signals) track.now.arcs track.now.pairs budget) }
+    ensures decision { IfOk result (IsTrackDecision track.now.arcs
+        (fine_signals track.now.signals) track.now.pairs ratio budget) }
+    ensures only { IfOk result (λ t. (u : TrackTail) → IsTrackDecision track.now.arcs
+        (fine_signals track.now.signals) track.now.pairs ratio budget u → IsSameTail u t) }
+    ensures strictly_best { IfOk result
+        (IsTrackBestWhereFixed track.now.arcs (fine_signals track.now.signals) track.now.pairs) }
+    ensures fits { IfOk result
+        (IsTrackTailOf (fine_signals track.now.signals) track.now.arcs track.now.pairs budget) }
 {
     let arcs = track.arcs.as_slice();
     let pairs = track.pairs.as_slice();

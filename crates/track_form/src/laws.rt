@@ -12,12 +12,18 @@ ghost use Rattle.track_form.specs.Verdicts.{IsTrackVerdict};
 
 /// Where each pair has a front, the form is refused at the finish of their sum alone.
 pub fn finish_refused_law()
-    ensures { (arcs : List Arc) (ss : List ℕ) (pairs : List PairRows) (why : LowerFault) → All (HasFront arcs ss) pairs → IsFormRefused arcs ss pairs why → IsFinishRefused arcs ss pairs why }
+    ensures { (arcs : List Arc) (ss : List ℕ) (pairs : List PairRows) (why : LowerFault) →
+        All (HasFront arcs ss) pairs → IsFormRefused arcs ss pairs why →
+        IsFinishRefused arcs ss pairs why }
 {}
 
 /// A greater budget loses no answer: what the rows of a track are decided to say, they say with each greater one, unless the
 /// search ended without an answer; and what is certified stays so.
 pub fn more_track_budget_law()
-    ensures decision { (arcs : List Arc) (ss : List ℕ) (pairs : List PairRows) (ratio n m : ℕ) (tail : TrackTail) → n ≤ m → IsFinal tail → IsTrackDecision arcs ss pairs ratio n tail → IsTrackDecision arcs ss pairs ratio m tail }
-    ensures certified { (arcs : List Arc) (ss : List ℕ) (pairs : List PairRows) (ratio n m : ℕ) (tail : TrackTail) → n ≤ m → IsTrackVerdict arcs ss pairs ratio n tail Certified → IsTrackVerdict arcs ss pairs ratio m tail Certified }
+    ensures decision { (arcs : List Arc) (ss : List ℕ) (pairs : List PairRows) (ratio n m : ℕ)
+        (tail : TrackTail) → n ≤ m → IsFinal tail → IsTrackDecision arcs ss pairs ratio n tail →
+        IsTrackDecision arcs ss pairs ratio m tail }
+    ensures certified { (arcs : List Arc) (ss : List ℕ) (pairs : List PairRows) (ratio n m : ℕ)
+        (tail : TrackTail) → n ≤ m → IsTrackVerdict arcs ss pairs ratio n tail Certified →
+        IsTrackVerdict arcs ss pairs ratio m tail Certified }
 {}

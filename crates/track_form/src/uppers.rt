@@ -35,11 +35,14 @@ fn sum_of_uppers(
     requires entries { length z.now ≡ integer_count arcs.now (fine_signals signals) }
     requires z_size { All (IsBelow (2 ^ 30)) z.now }
     requires moves_size { All (All (IsBelow (2 ^ 46))) moves.now }
-    ensures value { IfOk result (λ u. u ≡ sum (pair_uppers arcs.now (fine_signals signals) z.now pairs.now moves.now)) }
+    ensures value { IfOk result (λ u.
+        u ≡ sum (pair_uppers arcs.now (fine_signals signals) z.now pairs.now moves.now)) }
     ensures from { IfOk result (λ u. pos 0 ≤ℤ u) }
     ensures to { IfOk result (λ u. u ≤ℤ pos (2 ^ 119)) }
-    ensures bounded { IfOk result (λ u. AllZip (λ p m. IsWide arcs.now (fine_signals signals) z.now m p → ⊥) pairs.now moves.now) }
-    ensures wide { OnErr result (IsSomeWide arcs.now (fine_signals signals) z.now pairs.now moves.now) }
+    ensures bounded { IfOk result (λ u.
+        AllZip (λ p m. IsWide arcs.now (fine_signals signals) z.now m p → ⊥) pairs.now moves.now) }
+    ensures wide { OnErr result
+        (IsSomeWide arcs.now (fine_signals signals) z.now pairs.now moves.now) }
     ensures place { IfErr result (λ e. e.place ≡ Place.Sum) }
 {
     let mut sum = 0;
@@ -62,14 +65,18 @@ pub(crate) fn track_upper(
 ) -> Result<i128, Overwidth>
     requires h_to { h ≤ 127 }
     requires move_each { length moves.now ≡ length track.now.pairs }
-    requires entries { length z.now ≡ integer_count track.now.arcs (fine_signals track.now.signals) }
+    requires entries { length z.now
+        ≡ integer_count track.now.arcs (fine_signals track.now.signals) }
     requires z_size { All (IsBelow (2 ^ 30)) z.now }
     requires moves_size { All (All (IsBelow (2 ^ 46))) moves.now }
-    ensures value { IfOk result (λ t. t ≡ track_top h (pair_uppers track.now.arcs (fine_signals track.now.signals) z.now track.now.pairs moves.now)) }
+    ensures value { IfOk result (λ t. t ≡ track_top h (pair_uppers track.now.arcs
+        (fine_signals track.now.signals) z.now track.now.pairs moves.now)) }
     ensures from { IfOk result (λ t. pos 0 ≤ℤ t) }
     ensures to { IfOk result (λ t. t ≤ℤ pos (2 ^ 119)) }
-    ensures bounded { IfOk result (λ t. AllZip (λ p m. IsWide track.now.arcs (fine_signals track.now.signals) z.now m p → ⊥) track.now.pairs moves.now) }
-    ensures wide { OnErr result (IsSomeWide track.now.arcs (fine_signals track.now.signals) z.now track.now.pairs moves.now) }
+    ensures bounded { IfOk result (λ t. AllZip (λ p m. IsWide track.now.arcs
+        (fine_signals track.now.signals) z.now m p → ⊥) track.now.pairs moves.now) }
+    ensures wide { OnErr result (IsSomeWide track.now.arcs
+        (fine_signals track.now.signals) z.now track.now.pairs moves.now) }
     ensures place { IfErr result (λ e. e.place ≡ Place.Sum) }
 {
     let sum = sum_of_uppers(

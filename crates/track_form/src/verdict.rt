@@ -43,10 +43,16 @@ fn said_of(decided: &TrackTail, tail: &TrackTail) -> Verdict
 /// are, each other integer vector, with any list of baselines, one for each pair, has a sum of the pairs' weighted sums of
 /// squares that is greater, and greater by the certificate's ratio. Nothing of the tail is read before the rows are decided.
 pub fn check_track(alloc: Global, cert: &TrackCert) -> Result<Verdict, AllocError>
-    ensures verdict { IfOk result (IsTrackVerdict cert.now.track.arcs (fine_signals cert.now.track.signals) cert.now.track.pairs cert.now.ratio cert.now.budget cert.now.tail) }
-    ensures strictly_best { result ≡ Ok Certified → IsTrackBestIn cert.now.track.arcs (fine_signals cert.now.track.signals) cert.now.track.pairs cert.now.tail }
-    ensures by_ratio { result ≡ Ok Certified → IsTrackBestByRatioIn cert.now.ratio cert.now.track.arcs (fine_signals cert.now.track.signals) cert.now.track.pairs cert.now.tail }
-    ensures only { IfOk result (λ v. (w : Verdict) → IsTrackVerdict cert.now.track.arcs (fine_signals cert.now.track.signals) cert.now.track.pairs cert.now.ratio cert.now.budget cert.now.tail w → w ≡ v) }
+    ensures verdict { IfOk result (IsTrackVerdict cert.now.track.arcs (fine_signals
+        cert.now.track.signals) cert.now.track.pairs cert.now.ratio cert.now.budget cert.now.tail) }
+    ensures strictly_best { result ≡ Ok Certified → IsTrackBestIn cert.now.track.arcs
+        (fine_signals cert.now.track.signals) cert.now.track.pairs cert.now.tail }
+    ensures by_ratio { result ≡ Ok Certified →
+        IsTrackBestByRatioIn cert.now.ratio cert.now.track.arcs
+        (fine_signals cert.now.track.signals) cert.now.track.pairs cert.now.tail }
+    ensures only { IfOk result (λ v. (w : Verdict) →
+        IsTrackVerdict cert.now.track.arcs (fine_signals cert.now.track.signals)
+        cert.now.track.pairs cert.now.ratio cert.now.budget cert.now.tail w → w ≡ v) }
 {
     let decided = decide_track(alloc, &cert.track, cert.ratio, cert.budget)?;
     Ok(said_of(&decided, &cert.tail))

@@ -41,8 +41,10 @@ fn decided(
     taken: u32,
     options: &Options,
 ) -> Result<TrackAnswered, AllocError>
-    ensures { (screened : Screened) (kept : List Arc) (position : List ℤ) (signals : Signals) → IsTrackable kept taken → IsTrackOf screened kept position signals options.now.system tracked
-        → IfOk result (λ a. IsTrackAnswer screened kept position signals options.now taken a.lost a.answer) }
+    ensures { (screened : Screened) (kept : List Arc) (position : List ℤ) (signals : Signals) →
+        IsTrackable kept taken →
+        IsTrackOf screened kept position signals options.now.system tracked → IfOk result (λ a.
+        IsTrackAnswer screened kept position signals options.now taken a.lost a.answer) }
 {
     let Tracked { track, lost } = tracked;
     if track.pairs.is_empty() {
@@ -74,7 +76,8 @@ fn answer(
     requires cut { IsCutOf files.now.screened.used files.now.arcs.kept }
     requires shifts { All (λ a. a.shift ≡ pos 0 ∷ pos 0 ∷ pos 0 ∷ []) files.now.arcs.kept }
     requires point { IsReceiverPoint begun.now.position }
-    ensures { IfOk result (λ a. IsTrackAnswer files.now.screened files.now.arcs.kept begun.now.position begun.now.signals options.now taken a.lost a.answer) }
+    ensures { IfOk result (λ a. IsTrackAnswer files.now.screened files.now.arcs.kept
+        begun.now.position begun.now.signals options.now taken a.lost a.answer) }
 {
     let kept = files.arcs.kept.as_slice();
     if are_few(taken, kept) {

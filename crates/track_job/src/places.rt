@@ -20,7 +20,8 @@ fn push_pair_place(
     requires point { IsPoint point.now }
     requires base { IsPoint base.now }
     requires moved { All (IsBelow (2 ^ 46)) moved.now }
-    ensures { OnOk result (text.new.items ≡ text.old.items ++ pair_place_line number (baseline_of point.now base.now moved.now)) }
+    ensures { OnOk result (text.new.items
+        ≡ text.old.items ++ pair_place_line number (baseline_of point.now base.now moved.now)) }
 {
     let words = format!(in alloc; "place {number}")?;
     push_place(alloc, text, words.as_str(), point, base, moved)
@@ -40,7 +41,8 @@ pub(crate) fn push_places(
     requires points { All IsPoint points.now }
     requires move_each { length moves.now ≡ length pairs.now }
     requires moves { All IsMove moves.now }
-    ensures { OnOk result (text.new.items ≡ text.old.items ++ place_lines base.now pairs.now points.now moves.now) }
+    ensures { OnOk result
+        (text.new.items ≡ text.old.items ++ place_lines base.now pairs.now points.now moves.now) }
 {
     for k in 0..pairs.len() {
         push_pair_place(alloc, text, pairs[k].number, &points[k], base, &moves[k])?;

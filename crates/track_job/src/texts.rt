@@ -49,7 +49,8 @@ fn push_tracked(
 
 // Appends what was decided on the rows of the tracked pairs.
 fn push_decided(alloc: Global, text: &mut Vec<u8>, cert: &TrackCert) -> Result<(), AllocError>
-    ensures { OnOk result (text.new.items ≡ text.old.items ++ decided_text cert.now.track cert.now.tail) }
+    ensures { OnOk result
+        (text.new.items ≡ text.old.items ++ decided_text cert.now.track cert.now.tail) }
 {
     match &cert.tail {
         TrackTail::Fixed { moves, .. } => {

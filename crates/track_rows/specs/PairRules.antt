@@ -1,5 +1,5 @@
 -- What pairs are tried by, and the rules of the coarse rounds of one pair.
-use Rattle.std.specs.Prelude.{◌≡◌, ℕ, List, [], ◌∷◌, All, ℤ, pos}
+use Rattle.std.specs.Prelude.{◌≡◌, ◌<◌, ℕ, List, [], ◌∷◌, length, All, ℤ, pos}
 use Rattle.obs_rows.specs.declared.arcs.Arc.{Arc}
 use Rattle.obs_rows.specs.declared.bands.Signals.{Signals}
 use Rattle.obs_rows.specs.declared.pair_rows.PairRows.{PairRows}
@@ -65,3 +65,11 @@ pub record AreReady (f : TrackFiles) : Type 0 where
   pub position_in : IsReceiverPoint f.position
   pub halves : AreBaseHalves f.screened.now.boxes f.position f.halves.now
   pub system_is : IsSystem f.system
+
+-- the pair of this number may be tried with these arcs: it is one of those that were screened, and they are the kept ones, with shifts
+-- in their range
+pub record MayBeTried (f : TrackFiles) (arcs : List Arc) (pair : ℕ) : Type 0 where
+  pub ready : AreReady f
+  pub arcs_are : AreArcs arcs
+  pub same : AreSameArcs f.kept.now arcs
+  pub pair_in : pair < length f.screened.now.used

@@ -37,7 +37,8 @@ pub(crate) struct PairRounds<'a> {
 impl<'a> Rounds for PairRounds<'a> {
     ghost rules = { λ p. rules_of_pair (setting_of p.files.now) p.pair };
 
-    ghost ready = { λ p. AreReady p.files.now × ((p.pair < length p.files.now.screened.now.used) × (4 ≤ held p.files.now.kept.now p.pair)) };
+    ghost ready = { λ p. AreReady p.files.now × ((p.pair < length p.files.now.screened.now.used)
+        × (4 ≤ held p.files.now.kept.now p.pair)) };
 
     ghost made = { λ p. p.made };
 

@@ -16,8 +16,12 @@ ghost use Rattle.track_rows.specs.Stands.{TrackStands};
 /// The track that `track_at` makes of what `screen_in` screened and of the arcs that `cut` kept stands for the files. There is nothing
 /// to run: the contract is the law.
 pub fn track_stands_law()
-    ensures { (rules : Setting) (base rover : List Epoch) (taken : List PairOf) (bands : List ℕ) (jump least short : ℕ) (screened : Screened)
-        (kept : List Arc) (position : List ℤ) (signals : Signals) (system : ℕ) (t : Tracked) →
-        AreUsedPairs rules base rover taken screened.used → All (IsSvPair rules base rover taken) screened.boxes → AreKept bands jump least screened.used kept short → HaveDatums kept →
-        IsTrackOf screened kept position signals system t → TrackStands rules base rover taken bands jump least system position signals t.track }
+    ensures { (rules : Setting) (base rover : List Epoch) (taken : List PairOf) (bands : List ℕ)
+        (jump least short : ℕ) (screened : Screened) (kept : List Arc) (position : List ℤ)
+        (signals : Signals) (system : ℕ) (t : Tracked) →
+        AreUsedPairs rules base rover taken screened.used →
+        All (IsSvPair rules base rover taken) screened.boxes →
+        AreKept bands jump least screened.used kept short → HaveDatums kept →
+        IsTrackOf screened kept position signals system t →
+        TrackStands rules base rover taken bands jump least system position signals t.track }
 {}

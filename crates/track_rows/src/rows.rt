@@ -1,6 +1,5 @@
 //! The rows of one pair, and the session of this pair alone.
-ghost use Rattle.std.specs.Prelude.{◌≡◌, ◌<◌, ◌≤◌, Err, All, length, IfOk};
-ghost use Rattle.obs_rows.specs.Arcs.{AreArcs};
+ghost use Rattle.std.specs.Prelude.{◌≡◌, ◌<◌, ◌≤◌, Err, All, IfOk};
 ghost use Rattle.obs_rows.specs.Ranges.{IsScale};
 ghost use Rattle.obs_rows.specs.ReceiverPoints.{IsReceiverPoint};
 ghost use Rattle.obs_rows.specs.Signals.{fine_signals};
@@ -8,9 +7,8 @@ ghost use Rattle.obs_rows.specs.Unused.{HasUsedShifts};
 ghost use Rattle.row_build.specs.PairRows.{ArePairRows};
 ghost use Rattle.row_build.specs.Far.{HasFarRow};
 ghost use Rattle.round_steps.specs.Counts.{held};
-ghost use Rattle.round_steps.specs.Shifts.{AreSameArcs};
 ghost use Rattle.round_steps.specs.Runs.{IsSessionOf, round_at};
-ghost use Rattle.track_rows.specs.PairRules.{rows_setting, rules_of_pair, setting_of, AreReady};
+ghost use Rattle.track_rows.specs.PairRules.{rows_setting, rules_of_pair, setting_of, MayBeTried};
 
 use crate::files::TrackFiles;
 use obs_rows::{Arc, ArcList, PairRows, Session, SessionBuilder};
@@ -26,15 +24,14 @@ pub fn rows_of(
     point: &[i64; 3],
     scale: u32,
 ) -> Result<PairRows, RowFault>
-    requires ready { AreReady files.now }
-    requires arcs { AreArcs arcs.now }
-    requires same { AreSameArcs files.now.kept.now arcs.now }
-    requires pair { pair < length files.now.screened.now.used }
+    requires may { MayBeTried files.now arcs.now pair }
     requires enough { 4 ≤ held files.now.kept.now pair }
     requires point { IsReceiverPoint point.now }
     requires scale { IsScale scale }
-    ensures rows { IfOk result (ArePairRows (rows_setting (setting_of files.now) arcs.now point.now scale) pair) }
-    ensures far { result ≡ Err RowFault.Overwidth → HasFarRow (rows_setting (setting_of files.now) arcs.now point.now scale) pair }
+    ensures rows { IfOk result
+        (ArePairRows (rows_setting (setting_of files.now) arcs.now point.now scale) pair) }
+    ensures far { result ≡ Err RowFault.Overwidth →
+        HasFarRow (rows_setting (setting_of files.now) arcs.now point.now scale) pair }
 {
     let from = RowSource {
         screened: files.screened,
@@ -59,16 +56,15 @@ pub fn session_of(
     point: &[i64; 3],
     scale: u32,
 ) -> Result<Session, RowFault>
-    requires ready { AreReady files.now }
-    requires arcs { AreArcs arcs.now }
-    requires same { AreSameArcs files.now.kept.now arcs.now }
+    requires may { MayBeTried files.now arcs.now pair }
     requires used { All (HasUsedShifts (fine_signals files.now.signals)) arcs.now }
-    requires pair { pair < length files.now.screened.now.used }
     requires enough { 4 ≤ held files.now.kept.now pair }
     requires point { IsReceiverPoint point.now }
     requires scale { IsScale scale }
-    ensures session { IfOk result (IsSessionOf (rules_of_pair (setting_of files.now) pair) (round_at scale point.now arcs.now)) }
-    ensures far { result ≡ Err RowFault.Overwidth → HasFarRow (rows_setting (setting_of files.now) arcs.now point.now scale) pair }
+    ensures session { IfOk result (IsSessionOf (rules_of_pair (setting_of files.now) pair)
+        (round_at scale point.now arcs.now)) }
+    ensures far { result ≡ Err RowFault.Overwidth →
+        HasFarRow (rows_setting (setting_of files.now) arcs.now point.now scale) pair }
 {
     let rows = rows_of(alloc, files, arcs, pair, point, scale)?;
     let held = ArcList::new(Vec::from_slice(alloc, arcs)?);

@@ -7,7 +7,7 @@ ghost use Rattle.obs_rows.specs.ReceiverPoints.{IsReceiverPoint};
 ghost use Rattle.obs_rows.specs.Signals.{fine_signals};
 ghost use Rattle.obs_rows.specs.Unused.{HasUsedShifts};
 ghost use Rattle.round_steps.specs.Shifts.{AreSameArcs, AreShiftsBelow};
-ghost use Rattle.track_rows.specs.PairRules.{setting_of, AreReady};
+ghost use Rattle.track_rows.specs.PairRules.{setting_of, AreReady, MayBeTried};
 ghost use Rattle.track_rows.specs.Trials.{IsTriedArc, AreTried, KeepsOthers, flagged};
 
 use crate::files::TrackFiles;
@@ -33,7 +33,8 @@ fn tried_arc(
     requires used { All (HasUsedShifts (fine_signals files.now.signals)) arcs.now }
     requires pair { pair < length files.now.screened.now.used }
     requires point { IsReceiverPoint point.now }
-    ensures tried { (a : Arc) → slice_get arcs.now k ≡ Some a → IsTriedArc (setting_of files.now) (flagged begun.now k) pair point.now a result }
+    ensures tried { (a : Arc) → slice_get arcs.now k ≡ Some a →
+        IsTriedArc (setting_of files.now) (flagged begun.now k) pair point.now a result }
     ensures small { All (IsBelow (2 ^ 40)) result.shift }
     ensures used { HasUsedShifts (fine_signals files.now.signals) result }
 {
@@ -71,14 +72,12 @@ pub fn tried_arcs(
     pair: u32,
     point: &[i64; 3],
 ) -> Result<Vec<Arc>, AllocError>
-    requires ready { AreReady files.now }
-    requires arcs { AreArcs arcs.now }
-    requires same { AreSameArcs files.now.kept.now arcs.now }
+    requires may { MayBeTried files.now arcs.now pair }
     requires used { All (HasUsedShifts (fine_signals files.now.signals)) arcs.now }
     requires flags { length begun.now ≡ length arcs.now }
-    requires pair { pair < length files.now.screened.now.used }
     requires point { IsReceiverPoint point.now }
-    ensures tried { IfOk result (λ v. AreTried (setting_of files.now) arcs.now (flagged begun.now) pair point.now v.items) }
+    ensures tried { IfOk result (λ v.
+        AreTried (setting_of files.now) arcs.now (flagged begun.now) pair point.now v.items) }
     ensures others { IfOk result (λ v. KeepsOthers arcs.now pair v.items) }
     ensures arcs { IfOk result (λ v. AreArcs v.items) }
     ensures used { IfOk result (λ v. All (HasUsedShifts (fine_signals files.now.signals)) v.items) }

@@ -1,12 +1,10 @@
 //! What becomes of a pair that is tried.
 ghost use Rattle.std.specs.Prelude.{◌≡◌, ◌+◌, ◌<◌, ◌≤◌, All, length, IfOk};
-ghost use Rattle.obs_rows.specs.Arcs.{AreArcs};
 ghost use Rattle.obs_rows.specs.Signals.{fine_signals};
 ghost use Rattle.obs_rows.specs.Integers.{integer_count};
 ghost use Rattle.obs_rows.specs.Unused.{HasUsedShifts};
 ghost use Rattle.round_steps.specs.Counts.{held};
-ghost use Rattle.round_steps.specs.Shifts.{AreSameArcs};
-ghost use Rattle.track_rows.specs.PairRules.{setting_of, AreReady};
+ghost use Rattle.track_rows.specs.PairRules.{setting_of, MayBeTried};
 ghost use Rattle.track_rows.specs.Trials.{IsSettledAt, IsTrialOf, Fits, cause_of, flagged};
 
 use crate::files::{PairRounds, TrackFiles};
@@ -60,16 +58,15 @@ fn try_at(
     pair: u32,
     point: &[i64; 3],
 ) -> Result<Trial, AllocError>
-    requires ready { AreReady files.now }
-    requires room { room.old.front.columns ≡ 4 + integer_count files.now.kept.now (fine_signals files.now.signals) }
-    requires arcs { AreArcs arcs.now }
-    requires same { AreSameArcs files.now.kept.now arcs.now }
+    requires may { MayBeTried files.now arcs.now pair }
+    requires room { room.old.front.columns
+        ≡ 4 + integer_count files.now.kept.now (fine_signals files.now.signals) }
     requires used { All (HasUsedShifts (fine_signals files.now.signals)) arcs.now }
     requires flags { length begun.now ≡ length arcs.now }
-    requires pair { pair < length files.now.screened.now.used }
     requires enough { 4 ≤ held files.now.kept.now pair }
     requires settled { IsSettledAt (setting_of files.now) pair point.now }
-    ensures trial { IfOk result (IsTrialOf (setting_of files.now) arcs.now (flagged begun.now) pair) }
+    ensures trial { IfOk result
+        (IsTrialOf (setting_of files.now) arcs.now (flagged begun.now) pair) }
     ensures fits { IfOk result (Fits files.now.signals) }
     ensures room { room.new.front.columns ≡ room.old.front.columns }
 {
@@ -101,14 +98,13 @@ pub fn try_pair(
     begun: &[bool],
     pair: u32,
 ) -> Result<Trial, AllocError>
-    requires ready { AreReady files.now }
-    requires room { room.old.front.columns ≡ 4 + integer_count files.now.kept.now (fine_signals files.now.signals) }
-    requires arcs { AreArcs arcs.now }
-    requires same { AreSameArcs files.now.kept.now arcs.now }
+    requires may { MayBeTried files.now arcs.now pair }
+    requires room { room.old.front.columns
+        ≡ 4 + integer_count files.now.kept.now (fine_signals files.now.signals) }
     requires used { All (HasUsedShifts (fine_signals files.now.signals)) arcs.now }
     requires flags { length begun.now ≡ length arcs.now }
-    requires pair { pair < length files.now.screened.now.used }
-    ensures trial { IfOk result (IsTrialOf (setting_of files.now) arcs.now (flagged begun.now) pair) }
+    ensures trial { IfOk result
+        (IsTrialOf (setting_of files.now) arcs.now (flagged begun.now) pair) }
     ensures fits { IfOk result (Fits files.now.signals) }
     ensures room { room.new.front.columns ≡ room.old.front.columns }
 {

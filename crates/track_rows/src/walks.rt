@@ -68,7 +68,8 @@ impl TrackSoFar {
     fn lose(&mut self, pair: u32, cause: LostCause) -> Result<(), AllocError>
         requires { pair < MOST_PAIRS }
         ensures { OnOk result ((t : TrackSetting) → IsWalk t pair self.old →
-            IsTrialOf t self.old.arcs.items (flagged self.old.begun.items) pair (Trial.Lost cause) → IsWalk t (pair + 1) self.new) }
+            IsTrialOf t self.old.arcs.items (flagged self.old.begun.items) pair (Trial.Lost cause) →
+            IsWalk t (pair + 1) self.new) }
     {
         self.lost.push(Lost { pair, cause })?;
         Ok(())
@@ -85,7 +86,9 @@ impl TrackSoFar {
     ) -> Result<(), AllocError>
         requires { length self.old.begun.items ≡ length arcs.items }
         ensures { OnOk result ((t : TrackSetting) → IsWalk t pair self.old →
-            IsTrialOf t self.old.arcs.items (flagged self.old.begun.items) pair (Trial.Tracked point rows arcs) → Fits t.signals (Trial.Tracked point rows arcs) → IsWalk t (pair + 1) self.new) }
+            IsTrialOf t self.old.arcs.items (flagged self.old.begun.items) pair
+            (Trial.Tracked point rows arcs) → Fits t.signals (Trial.Tracked point rows arcs) →
+            IsWalk t (pair + 1) self.new) }
     {
         let begun = marked(alloc, self.begun.as_slice(), arcs.as_slice(), pair)?;
         self.arcs = arcs;
@@ -104,7 +107,8 @@ impl TrackSoFar {
         pair: u32,
     ) -> Result<(), AllocError>
         requires ready { AreReady files.now }
-        requires room { room.old.front.columns ≡ 4 + integer_count files.now.kept.now (fine_signals files.now.signals) }
+        requires room { room.old.front.columns
+            ≡ 4 + integer_count files.now.kept.now (fine_signals files.now.signals) }
         requires pair { pair < length files.now.screened.now.used }
         requires walked { IsWalk (setting_of files.now) pair self.old }
         ensures walk { OnOk result (IsWalk (setting_of files.now) (pair + 1) self.new) }

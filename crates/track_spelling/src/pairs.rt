@@ -17,7 +17,8 @@ fn push_placed_pair(
     pair: &PairRows,
     point: &[i64; 3],
 ) -> Result<(), AllocError>
-    ensures text { OnOk result (out.new.items ≡ out.old.items ++ text_of_lines (placed_pair_lines (fine_signals signals) pair.now point.now)) }
+    ensures text { OnOk result (out.new.items ≡ out.old.items
+        ++ text_of_lines (placed_pair_lines (fine_signals signals) pair.now point.now)) }
     ensures whole { OnOk result (IsWholePair pair.now) }
     ensures point { length point.now ≡ 3 }
 {
@@ -33,7 +34,8 @@ fn push_all_pairs(
     points: &[[i64; 3]],
 ) -> Result<(), AllocError>
     requires { length points.now ≡ length pairs.now }
-    ensures text { OnOk result (out.new.items ≡ out.old.items ++ text_of_lines (all_placed_pairs (fine_signals signals) pairs.now points.now)) }
+    ensures text { OnOk result (out.new.items ≡ out.old.items
+        ++ text_of_lines (all_placed_pairs (fine_signals signals) pairs.now points.now)) }
     ensures whole { OnOk result (All IsWholePair pairs.now) }
     ensures points { OnOk result (AreTriples points.now) }
 {
@@ -51,7 +53,8 @@ pub(crate) fn push_pairs(
     points: &[[i64; 3]],
 ) -> Result<(), AllocError>
     requires { length points.now ≡ length pairs.now }
-    ensures text { OnOk result (out.new.items ≡ out.old.items ++ text_of_lines (counted_placed_pairs (fine_signals signals) pairs.now points.now)) }
+    ensures text { OnOk result (out.new.items ≡ out.old.items
+        ++ text_of_lines (counted_placed_pairs (fine_signals signals) pairs.now points.now)) }
     ensures whole { OnOk result (All IsWholePair pairs.now) }
     ensures points { OnOk result (AreTriples points.now) }
 {

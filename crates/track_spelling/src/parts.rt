@@ -28,7 +28,8 @@ fn push_head(
     base: &[i64; 3],
     signals: Signals,
 ) -> Result<(), AllocError>
-    ensures text { OnOk result (out.new.items ≡ out.old.items ++ text_of_lines (track_head_lines ratio budget system base.now signals)) }
+    ensures text { OnOk result (out.new.items
+        ≡ out.old.items ++ text_of_lines (track_head_lines ratio budget system base.now signals)) }
     ensures base { length base.now ≡ 3 }
 {
     push_form(out)?;
@@ -46,7 +47,8 @@ pub(crate) fn push_track(
     budget: u64,
     track: &Track,
 ) -> Result<(), AllocError>
-    ensures text { OnOk result (out.new.items ≡ out.old.items ++ text_of_lines (track_lines ratio budget track.now)) }
+    ensures text { OnOk result
+        (out.new.items ≡ out.old.items ++ text_of_lines (track_lines ratio budget track.now)) }
     ensures whole { OnOk result (IsWholeTrack track.now) }
 {
     let signals = track.signals;

@@ -17,7 +17,8 @@ use track_data::{TrackCert, TrackTail};
 
 // Appends the line of a pair's move.
 fn push_move_line(out: &mut Vec<u8>, number: u32, moved: &[i64; 3]) -> Result<(), AllocError>
-    ensures text { OnOk result (out.new.items ≡ out.old.items ++ text_of_lines (move_line number moved.now ∷ [])) }
+    ensures text { OnOk result
+        (out.new.items ≡ out.old.items ++ text_of_lines (move_line number moved.now ∷ [])) }
     ensures whole { length moved.now ≡ 3 }
 {
     out.extend_from_slice(b"move")?;
@@ -33,7 +34,8 @@ fn push_move_lines(
     moves: &[[i64; 3]],
 ) -> Result<(), AllocError>
     requires { length moves.now ≡ length pairs.now }
-    ensures text { OnOk result (out.new.items ≡ out.old.items ++ text_of_lines (move_lines pairs.now moves.now)) }
+    ensures text { OnOk result
+        (out.new.items ≡ out.old.items ++ text_of_lines (move_lines pairs.now moves.now)) }
     ensures whole { OnOk result (AreTriples moves.now) }
 {
     for k in 0..pairs.len() {
@@ -53,7 +55,8 @@ fn push_vectors(
     fixed: bool,
 ) -> Result<(), AllocError>
     requires { length moves.now ≡ length pairs.now }
-    ensures text { OnOk result (out.new.items ≡ out.old.items ++ text_of_lines (track_vectors_lines pairs.now h moves.now best.now top ++ last_line fixed ∷ [])) }
+    ensures text { OnOk result (out.new.items ≡ out.old.items ++ text_of_lines
+        (track_vectors_lines pairs.now h moves.now best.now top ++ last_line fixed ∷ [])) }
     ensures whole { OnOk result (AreWholeTrackVectors moves.now best.now) }
 {
     push_vector_line(out, b"z1", &best.first[..best.size])?;
@@ -71,7 +74,8 @@ fn push_vectors(
 
 /// Appends the tail of the certificate of a track.
 pub(crate) fn push_tail(out: &mut Vec<u8>, cert: &TrackCert) -> Result<(), AllocError>
-    ensures text { OnOk result (out.new.items ≡ out.old.items ++ text_of_lines (track_tail_lines cert.now.track.pairs cert.now.tail)) }
+    ensures text { OnOk result (out.new.items
+        ≡ out.old.items ++ text_of_lines (track_tail_lines cert.now.track.pairs cert.now.tail)) }
     ensures whole { OnOk result (IsWholeTrackTail cert.now.tail) }
 {
     let pairs = cert.track.pairs.as_slice();

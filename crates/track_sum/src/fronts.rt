@@ -24,7 +24,8 @@ pub fn pair_front(arcs: &[Arc], signals: Signals, pair: &PairRows) -> Result<Fro
     requires free { free_count arcs.now ≤ MOST_FREE_ARCS }
     ensures front { IfOk result (IsFrontOfPair arcs.now (fine_signals signals) pair.now) }
     ensures few { IfOk result (λ f. f.h ≤ 77) }
-    ensures bound { IfOk result (λ f. BoundsAllData arcs.now (fine_signals signals) (pair.now ∷ []) f.h (form_of_table f.p (f.columns - 3))) }
+    ensures bound { IfOk result (λ f. BoundsAllData arcs.now (fine_signals signals)
+        (pair.now ∷ []) f.h (form_of_table f.p (f.columns - 3))) }
     ensures refused { IfErr result (IsRefusedPair arcs.now (fine_signals signals) pair.now) }
 {
     front(&sum_pair(arcs, signals, 0, pair))
@@ -66,8 +67,10 @@ impl PairRoom {
     ) -> Result<(), LowerFault>
         requires arcs { HasItsArcs arcs.now pair.now }
         requires free { free_count arcs.now ≤ MOST_FREE_ARCS }
-        requires columns { self.old.front.columns ≡ 4 + integer_count arcs.now (fine_signals signals) }
-        ensures front { OnOk result (IsFrontOfPair arcs.now (fine_signals signals) pair.now self.new.front) }
+        requires columns { self.old.front.columns
+            ≡ 4 + integer_count arcs.now (fine_signals signals) }
+        ensures front { OnOk result
+            (IsFrontOfPair arcs.now (fine_signals signals) pair.now self.new.front) }
         ensures few { OnOk result (self.new.front.h ≤ 77) }
         ensures refused { IfErr result (IsRefusedPair arcs.now (fine_signals signals) pair.now) }
         ensures columns { self.new.front.columns ≡ self.old.front.columns }
@@ -80,7 +83,8 @@ impl PairRoom {
     fn exponent(&mut self, arcs: &[Arc], signals: Signals, pair: &PairRows) -> u32
         requires arcs { HasItsArcs arcs.now pair.now }
         requires free { free_count arcs.now ≤ MOST_FREE_ARCS }
-        ensures exponent { (f : FrontForm) → IsFrontOfPair arcs.now (fine_signals signals) pair.now f → f.h ≡ result }
+        ensures exponent { (f : FrontForm) →
+            IsFrontOfPair arcs.now (fine_signals signals) pair.now f → f.h ≡ result }
         ensures few { result ≤ 77 }
         ensures columns { self.new.front.columns ≡ self.old.front.columns }
     {
@@ -93,9 +97,11 @@ impl PairRoom {
         requires arcs { HasItsArcs arcs.now pair.now }
         requires free { free_count arcs.now ≤ MOST_FREE_ARCS }
         requires few { least ≤ 77 }
-        ensures above { (f : FrontForm) → IsFrontOfPair arcs.now (fine_signals signals) pair.now f → f.h ≤ result }
+        ensures above { (f : FrontForm) → IsFrontOfPair arcs.now (fine_signals signals) pair.now f →
+            f.h ≤ result }
         ensures from { least ≤ result }
-        ensures one { ((f : FrontForm) → IsFrontOfPair arcs.now (fine_signals signals) pair.now f → f.h ≡ result) ⊎ (result ≡ least) }
+        ensures one { ((f : FrontForm) → IsFrontOfPair arcs.now (fine_signals signals) pair.now f →
+            f.h ≡ result) ⊎ (result ≡ least) }
         ensures few { result ≤ 77 }
         ensures columns { self.new.front.columns ≡ self.old.front.columns }
     {
@@ -118,7 +124,8 @@ pub(crate) fn greatest_exponent(
     requires some { 1 ≤ every }
     ensures above { every ≡ 1 → AreAtMost arcs.now (fine_signals signals) pairs.now result }
     ensures attained { 1 ≤ length pairs.now →
-        (k : ℕ) × ((k < length pairs.now) × ((d : PairRows) (f : FrontForm) → IsFrontOfPair arcs.now (fine_signals signals) (get_or pairs.now k d) f → f.h ≡ result)) }
+        (k : ℕ) × ((k < length pairs.now) × ((d : PairRows) (f : FrontForm) →
+        IsFrontOfPair arcs.now (fine_signals signals) (get_or pairs.now k d) f → f.h ≡ result)) }
     ensures few { result ≤ 77 }
     ensures columns { room.new.front.columns ≡ room.old.front.columns }
 {

@@ -55,9 +55,11 @@ pub fn moves_at(
 ) -> Result<Result<Vec<[i64; BASELINE_COLUMNS]>, Overwidth>, AllocError>
     requires count { All (λ p. length z.now ≡ p.columns - 4) pairs.now }
     requires size { (i : ℕ) → i < length z.now → unsigned_abs (item z.now i) < 2 ^ 30 }
-    ensures moves { IfOk result (λ r. IfOk r (λ moves. moves.items ≡ map (move_by z.now) pairs.now)) }
+    ensures moves { IfOk result (λ r.
+        IfOk r (λ moves. moves.items ≡ map (move_by z.now) pairs.now)) }
     ensures narrow { IfOk result (λ r. IfOk r (λ moves. All (λ m. HasWide m → ⊥) moves.items)) }
-    ensures wide { IfOk result (λ r. IfErr r (λ e. Any (λ p. HasWide (move_by z.now p)) pairs.now)) }
+    ensures wide { IfOk result (λ r.
+        IfErr r (λ e. Any (λ p. HasWide (move_by z.now p)) pairs.now)) }
     ensures place { IfOk result (λ r. IfErr r (λ e. e.place ≡ Float)) }
 {
     let mut moves = Vec::with_capacity(alloc, pairs.len())?;

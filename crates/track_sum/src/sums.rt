@@ -44,8 +44,10 @@ fn add_part(table: &mut NormalTable, part: i128, r: usize, c: usize)
     requires column_in { 3 + c < MOST_COLUMNS }
     requires size { unsigned_abs (entry table.old (3 + r) (3 + c)) ≤ MOST_PAIRS * 2 ^ 64 }
     ensures there { entry table.new (3 + r) (3 + c) ≡ entry table.old (3 + r) (3 + c) +ℤ part }
-    ensures size { unsigned_abs (entry table.new (3 + r) (3 + c)) ≤ unsigned_abs (entry table.old (3 + r) (3 + c)) + 2 ^ 64 }
-    ensures others { (i j : ℕ) → (i ≢ 3 + r) ⊎ (j ≢ 3 + c) → entry table.new i j ≡ entry table.old i j }
+    ensures size { unsigned_abs (entry table.new (3 + r) (3 + c))
+        ≤ unsigned_abs (entry table.old (3 + r) (3 + c)) + 2 ^ 64 }
+    ensures others { (i j : ℕ) → (i ≢ 3 + r) ⊎ (j ≢ 3 + c) →
+        entry table.new i j ≡ entry table.old i j }
 {
     let old = table.at(BASELINE_COLUMNS + r, BASELINE_COLUMNS + c);
     let sum = plus(old, part);
@@ -56,9 +58,14 @@ fn add_part(table: &mut NormalTable, part: i128, r: usize, c: usize)
 fn add_others(table: &mut NormalTable, front: &FrontForm, shift: u32, r: usize)
     requires few { shift ≤ 90 }
     requires row_in { r < front.now.columns - 3 }
-    requires sizes { (c : ℕ) → r < c → c < front.now.columns - 3 → unsigned_abs (entry table.old (3 + r) (3 + c)) ≤ MOST_PAIRS * 2 ^ 64 }
-    ensures row { (c : ℕ) → r < c → c < front.now.columns - 3 → entry table.new (3 + r) (3 + c) ≡ entry table.old (3 + r) (3 + c) +ℤ part_at (front.now.columns - 3) (2 ^ shift) (entry front.now.p) r c }
-    ensures sizes { (c : ℕ) → r < c → c < front.now.columns - 3 → unsigned_abs (entry table.new (3 + r) (3 + c)) ≤ unsigned_abs (entry table.old (3 + r) (3 + c)) + 2 ^ 64 }
+    requires sizes { (c : ℕ) → r < c → c < front.now.columns - 3 →
+        unsigned_abs (entry table.old (3 + r) (3 + c)) ≤ MOST_PAIRS * 2 ^ 64 }
+    ensures row { (c : ℕ) → r < c → c < front.now.columns - 3 →
+        entry table.new (3 + r) (3 + c) ≡ entry table.old (3 + r) (3 + c)
+        +ℤ part_at (front.now.columns - 3) (2 ^ shift) (entry front.now.p) r c }
+    ensures sizes { (c : ℕ) → r < c → c < front.now.columns - 3 →
+        unsigned_abs (entry table.new (3 + r) (3 + c))
+        ≤ unsigned_abs (entry table.old (3 + r) (3 + c)) + 2 ^ 64 }
     ensures own { entry table.new (3 + r) (3 + r) ≡ entry table.old (3 + r) (3 + r) }
     ensures others { (i c : ℕ) → i ≢ 3 + r → entry table.new i c ≡ entry table.old i c }
 {
@@ -72,9 +79,14 @@ fn add_others(table: &mut NormalTable, front: &FrontForm, shift: u32, r: usize)
 fn add_row(table: &mut NormalTable, front: &FrontForm, shift: u32, r: usize)
     requires few { shift ≤ 90 }
     requires row_in { r < front.now.columns - 3 }
-    requires sizes { (c : ℕ) → r ≤ c → c < front.now.columns - 3 → unsigned_abs (entry table.old (3 + r) (3 + c)) ≤ MOST_PAIRS * 2 ^ 64 }
-    ensures row { (c : ℕ) → r ≤ c → c < front.now.columns - 3 → entry table.new (3 + r) (3 + c) ≡ entry table.old (3 + r) (3 + c) +ℤ part_at (front.now.columns - 3) (2 ^ shift) (entry front.now.p) r c }
-    ensures sizes { (c : ℕ) → r ≤ c → c < front.now.columns - 3 → unsigned_abs (entry table.new (3 + r) (3 + c)) ≤ unsigned_abs (entry table.old (3 + r) (3 + c)) + 2 ^ 64 }
+    requires sizes { (c : ℕ) → r ≤ c → c < front.now.columns - 3 →
+        unsigned_abs (entry table.old (3 + r) (3 + c)) ≤ MOST_PAIRS * 2 ^ 64 }
+    ensures row { (c : ℕ) → r ≤ c → c < front.now.columns - 3 →
+        entry table.new (3 + r) (3 + c) ≡ entry table.old (3 + r) (3 + c)
+        +ℤ part_at (front.now.columns - 3) (2 ^ shift) (entry front.now.p) r c }
+    ensures sizes { (c : ℕ) → r ≤ c → c < front.now.columns - 3 →
+        unsigned_abs (entry table.new (3 + r) (3 + c))
+        ≤ unsigned_abs (entry table.old (3 + r) (3 + c)) + 2 ^ 64 }
     ensures others { (i c : ℕ) → i ≢ 3 + r → entry table.new i c ≡ entry table.old i c }
 {
     add_part(table, part(front, shift, r, r), r, r);
@@ -84,9 +96,14 @@ fn add_row(table: &mut NormalTable, front: &FrontForm, shift: u32, r: usize)
 /// Adds what a front adds, on the diagonal and after it.
 fn add_front(table: &mut NormalTable, front: &FrontForm, shift: u32)
     requires few { shift ≤ 90 }
-    requires sizes { (r c : ℕ) → r ≤ c → c < front.now.columns - 3 → unsigned_abs (entry table.old (3 + r) (3 + c)) ≤ MOST_PAIRS * 2 ^ 64 }
-    ensures sums { (r c : ℕ) → r ≤ c → c < front.now.columns - 3 → entry table.new (3 + r) (3 + c) ≡ entry table.old (3 + r) (3 + c) +ℤ part_at (front.now.columns - 3) (2 ^ shift) (entry front.now.p) r c }
-    ensures sizes { (r c : ℕ) → r ≤ c → c < front.now.columns - 3 → unsigned_abs (entry table.new (3 + r) (3 + c)) ≤ unsigned_abs (entry table.old (3 + r) (3 + c)) + 2 ^ 64 }
+    requires sizes { (r c : ℕ) → r ≤ c → c < front.now.columns - 3 →
+        unsigned_abs (entry table.old (3 + r) (3 + c)) ≤ MOST_PAIRS * 2 ^ 64 }
+    ensures sums { (r c : ℕ) → r ≤ c → c < front.now.columns - 3 →
+        entry table.new (3 + r) (3 + c) ≡ entry table.old (3 + r) (3 + c)
+        +ℤ part_at (front.now.columns - 3) (2 ^ shift) (entry front.now.p) r c }
+    ensures sizes { (r c : ℕ) → r ≤ c → c < front.now.columns - 3 →
+        unsigned_abs (entry table.new (3 + r) (3 + c))
+        ≤ unsigned_abs (entry table.old (3 + r) (3 + c)) + 2 ^ 64 }
 {
     let order = front.columns - BASELINE_COLUMNS;
     for r in 0..order {
@@ -123,10 +140,14 @@ fn add_fronts(
     requires most { most ≤ h }
     requires columns { room.old.front.columns ≡ 4 + integer_count arcs.now (fine_signals signals) }
     requires zeros { table.old ≡ zero_rows MOST_COLUMNS MOST_COLUMNS }
-    ensures factors { IfOk result (λ r. IfOk r (λ kept. AreFactors arcs.now (fine_signals signals) pairs.now kept.items)) }
-    ensures sums { IfOk result (λ r. IfOk r (λ kept. HoldsSums arcs.now (fine_signals signals) pairs.now h table.new)) }
-    ensures above { IfOk result (λ r. IfOk r (λ kept. AreAtMost arcs.now (fine_signals signals) pairs.now most)) }
-    ensures stopped { IfOk result (λ r. IfErr r (IsStopped arcs.now (fine_signals signals) pairs.now (AreAtMost arcs.now (fine_signals signals) pairs.now most → ⊥))) }
+    ensures factors { IfOk result (λ r.
+        IfOk r (λ kept. AreFactors arcs.now (fine_signals signals) pairs.now kept.items)) }
+    ensures sums { IfOk result (λ r.
+        IfOk r (λ kept. HoldsSums arcs.now (fine_signals signals) pairs.now h table.new)) }
+    ensures above { IfOk result (λ r.
+        IfOk r (λ kept. AreAtMost arcs.now (fine_signals signals) pairs.now most)) }
+    ensures stopped { IfOk result (λ r. IfErr r (IsStopped arcs.now (fine_signals signals) pairs.now
+        (AreAtMost arcs.now (fine_signals signals) pairs.now most → ⊥))) }
 {
     let mut kept = Vec::with_capacity(alloc, pairs.len())?;
     for pair in pairs {
@@ -168,10 +189,13 @@ fn sum_by(
     requires some { 1 ≤ length pairs.now }
     requires few { length pairs.now ≤ MOST_PAIRS }
     requires every { 1 ≤ every }
-    ensures sum { IfOk result (λ r. IfOk r (λ f. (fs : List FrontForm) × IsSumOfFronts arcs.now (fine_signals signals) pairs.now fs f.sum)) }
-    ensures factors { IfOk result (λ r. IfOk r (λ f. AreFactors arcs.now (fine_signals signals) pairs.now f.factors.items)) }
+    ensures sum { IfOk result (λ r. IfOk r (λ f. (fs : List FrontForm)
+        × IsSumOfFronts arcs.now (fine_signals signals) pairs.now fs f.sum)) }
+    ensures factors { IfOk result (λ r.
+        IfOk r (λ f. AreFactors arcs.now (fine_signals signals) pairs.now f.factors.items)) }
     ensures few { IfOk result (λ r. IfOk r (λ f. f.sum.h ≤ 90)) }
-    ensures stopped { IfOk result (λ r. IfErr r (IsStopped arcs.now (fine_signals signals) pairs.now (every ≢ 1))) }
+    ensures stopped { IfOk result (λ r.
+        IfErr r (IsStopped arcs.now (fine_signals signals) pairs.now (every ≢ 1))) }
 {
     let mut room = PairRoom::new(arcs, signals);
     let most = greatest_exponent(&mut room, arcs, signals, pairs, every);
@@ -209,10 +233,13 @@ pub fn sum_of_fronts(
     requires free { free_count arcs.now ≤ MOST_FREE_ARCS }
     requires some { 1 ≤ length pairs.now }
     requires few { length pairs.now ≤ MOST_PAIRS }
-    ensures sum { IfOk result (λ r. IfOk r (λ f. (fs : List FrontForm) × IsSumOfFronts arcs.now (fine_signals signals) pairs.now fs f.sum)) }
-    ensures factors { IfOk result (λ r. IfOk r (λ f. AreFactors arcs.now (fine_signals signals) pairs.now f.factors.items)) }
+    ensures sum { IfOk result (λ r. IfOk r (λ f. (fs : List FrontForm)
+        × IsSumOfFronts arcs.now (fine_signals signals) pairs.now fs f.sum)) }
+    ensures factors { IfOk result (λ r.
+        IfOk r (λ f. AreFactors arcs.now (fine_signals signals) pairs.now f.factors.items)) }
     ensures few { IfOk result (λ r. IfOk r (λ f. f.sum.h ≤ 90)) }
-    ensures refused { IfOk result (λ r. IfErr r (IsFirstRefused arcs.now (fine_signals signals) pairs.now)) }
+    ensures refused { IfOk result (λ r.
+        IfErr r (IsFirstRefused arcs.now (fine_signals signals) pairs.now)) }
 {
     match sum_by(alloc, arcs, signals, pairs, ASKED_OF)? {
         Ok(summed) => Ok(Ok(summed)),
@@ -255,10 +282,13 @@ pub fn form_of_track(
     requires free { free_count arcs.now ≤ MOST_FREE_ARCS }
     requires some { 1 ≤ length pairs.now }
     requires few { length pairs.now ≤ MOST_PAIRS }
-    ensures form { IfOk result (λ r. IfOk r (λ f. (fs : List FrontForm) × IsTrackForm arcs.now (fine_signals signals) pairs.now fs f.form)) }
-    ensures factors { IfOk result (λ r. IfOk r (λ f. AreFactors arcs.now (fine_signals signals) pairs.now f.factors.items)) }
+    ensures form { IfOk result (λ r. IfOk r (λ f. (fs : List FrontForm)
+        × IsTrackForm arcs.now (fine_signals signals) pairs.now fs f.form)) }
+    ensures factors { IfOk result (λ r.
+        IfOk r (λ f. AreFactors arcs.now (fine_signals signals) pairs.now f.factors.items)) }
     ensures few { IfOk result (λ r. IfOk r (λ f. f.form.h ≤ 90)) }
-    ensures refused { IfOk result (λ r. IfErr r (λ e. IsFirstRefused arcs.now (fine_signals signals) pairs.now e ⊎ IsFinishRefused arcs.now (fine_signals signals) pairs.now e)) }
+    ensures refused { IfOk result (λ r. IfErr r (λ e. IsFirstRefused arcs.now (fine_signals signals)
+        pairs.now e ⊎ IsFinishRefused arcs.now (fine_signals signals) pairs.now e)) }
 {
     match sum_of_fronts(alloc, arcs, signals, pairs)? {
         Ok(summed) => Ok(finished(summed)),

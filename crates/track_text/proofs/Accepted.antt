@@ -10,7 +10,7 @@ use Rattle.obs_rows.specs.declared.pair_rows.PairRows.{PairRows}
 use Rattle.obs_rows.specs.Pairs.{HasItsArcs}
 use Rattle.obs_rows.specs.Ranges.{IsPoint}
 use Rattle.obs_rows.specs.Signals.{fine_signals}
-use Rattle.obs_rows.specs.declared.limits.TheConstants.{MOST_PAIRS, MOST_RATIO, MOST_BUDGET}
+use Rattle.obs_rows.specs.declared.limits.TheConstants.{MOST_PAIRS, MOST_RATIO, MOST_BUDGET, MOST_ARCS}
 use Rattle.int_search.specs.declared.answer.TwoBest.{TwoBest}
 use Rattle.rinex_head.specs.declared.place.Flaw.{Flaw}
 use Rattle.rinex_head.specs.declared.place.TextFault.{TextFault}
@@ -55,7 +55,7 @@ use Rattle.track_text.proofs.TailSpells.{move_spells, weak_read, spent_read, pla
 
 -- ---- pairs with their points
 
-pairs_accepted : (f : Frame) (arcs : List Arc) (least : ℕ) (pairs : List PairRows) (points : List (List ℤ)) (numbers : List ℕ) (rest : List (List ℕ)) → length f.ss ≤ SIGNALS → length arcs ≤ 200
+pairs_accepted : (f : Frame) (arcs : List Arc) (least : ℕ) (pairs : List PairRows) (points : List (List ℤ)) (numbers : List ℕ) (rest : List (List ℕ)) → length f.ss ≤ SIGNALS → length arcs ≤ MOST_ARCS
     → length points ≡ length pairs → All (HasItsArcs arcs) pairs → All IsWholePair pairs → All IsPoint points → AreTriples points → RisesFrom (λ (p : PairRows). p.number) least pairs
     → AreAccepted track_rules (Tail f arcs (numbers ++ numbers_of pairs)) rest
     → AreAccepted track_rules (before_pairs f arcs (length pairs) least numbers) (all_placed_pairs f.ss pairs points ++ rest)

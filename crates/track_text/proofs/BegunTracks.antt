@@ -5,7 +5,7 @@ use Rattle.integer_form.specs.declared.faults.Place.TheVariants.{Y}
 use Rattle.obs_rows.specs.declared.arcs.Arc.{Arc}
 use Rattle.obs_rows.specs.Ranges.{IsPoint}
 use Rattle.obs_rows.specs.Arcs.{free_count}
-use Rattle.obs_rows.specs.declared.limits.TheConstants.{MOST_PAIRS, MOST_RATIO, MOST_BUDGET}
+use Rattle.obs_rows.specs.declared.limits.TheConstants.{MOST_PAIRS, MOST_RATIO, MOST_BUDGET, MOST_ARCS}
 use Rattle.rinex_head.specs.declared.place.Flaw.{Flaw}
 use Rattle.rinex_head.specs.declared.place.At.{At}
 use Rattle.rinex_head.specs.declared.place.TextFault.{TextFault}
@@ -285,8 +285,8 @@ next_held (Letters budget) next front line held other e =
       pushed front (track_form ∷ ratio_of head ∷ budget_of head ∷ system_of head ∷ base_of head ∷ []) line (signals_line Two signals.l1 signals.l2 signals.l5) held.are read.line_is,
     ))
 next_held (ArcCount f) next front line held other e =
-    by_line (front ++ line ∷ []) (count_in (codes "arcs") 2 200 line) (λ n. before_arcs f n []) next e (λ n is.
-    let read = count_was (codes "arcs") 2 200 line n (omega arith) is in
+    by_line (front ++ line ∷ []) (count_in (codes "arcs") 2 MOST_ARCS line) (λ n. before_arcs f n []) next e (λ n is.
+    let read = count_was (codes "arcs") 2 MOST_ARCS line n (omega arith) is in
     let held_head = held.0 in
     let none : n ≡ 0 + n = omega arith in
     arcs_next f n [] (front ++ line ∷ []) (record {

@@ -6,7 +6,7 @@ use Rattle.obs_rows.specs.declared.pair_rows.PairRows.{PairRows}
 use Rattle.obs_rows.specs.Pairs.{HasItsArcs}
 use Rattle.obs_rows.specs.Ranges.{IsPoint}
 use Rattle.obs_rows.specs.Signals.{fine_signals}
-use Rattle.obs_rows.specs.declared.limits.TheConstants.{MOST_RATIO, MOST_BUDGET}
+use Rattle.obs_rows.specs.declared.limits.TheConstants.{MOST_RATIO, MOST_BUDGET, MOST_ARCS}
 use Rattle.int_search.specs.declared.answer.TwoBest.{TwoBest}
 use Rattle.cert_words.proofs.NumberLaws.{AreSmall}
 use Rattle.cert_words.proofs.TextLaws.{AreLines, lines-append}
@@ -28,7 +28,7 @@ use Rattle.track_spelling.specs.Spelling.{track_head_lines, placed_pair_lines, a
 pub move_small : (p : PairRows) (m : List ℤ) → IsMove m → AreSmall (pos p.number ∷ m)
 move_small p m is = (omega (arith, p.number_in), moves_small m is)
 
-pairs_feed : (ss : List ℕ) (arcs : List Arc) (pairs : List PairRows) (points : List (List ℤ)) → length arcs ≤ 200 → All (HasItsArcs arcs) pairs → All IsPoint points
+pairs_feed : (ss : List ℕ) (arcs : List Arc) (pairs : List PairRows) (points : List (List ℤ)) → length arcs ≤ MOST_ARCS → All (HasItsArcs arcs) pairs → All IsPoint points
     → AreLines (all_placed_pairs ss pairs points)
 pairs_feed ss arcs [] points few has are = tt
 pairs_feed ss arcs (p ∷ pairs) [] few has are = tt

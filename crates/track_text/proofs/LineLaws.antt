@@ -3,7 +3,7 @@ use Rattle.std.proofs.Common.{◌≡◌, ◌+◌, ◌-◌, ◌≤◌, ℕ, zero,
 use Rattle.obs_rows.specs.declared.arcs.Arc.{Arc}
 use Rattle.obs_rows.specs.Arcs.{free_count}
 use Rattle.obs_rows.specs.Integers.{integer_count}
-use Rattle.obs_rows.specs.declared.limits.TheConstants.{MOST_PAIRS, MOST_RATIO, MOST_BUDGET}
+use Rattle.obs_rows.specs.declared.limits.TheConstants.{MOST_PAIRS, MOST_RATIO, MOST_BUDGET, MOST_ARCS}
 use Rattle.rinex_head.specs.Places.{and_then}
 use Rattle.cert_lines.specs.Forms.{count_in, vector_in, system_in, Letters as LettersOf, signals_in, signals_of, arc_in, pair_in, row_in}
 use Rattle.cert_lines.specs.TailForms.{begins, values_in, last_in}
@@ -42,7 +42,7 @@ letters_taken budget = record { admits = λ line. refl; ends = refl }
 
 -- ---- where arcs, pairs, points and rows are expected
 
-pub arc_count_taken : (f : Frame) → TakesLine track_rules (ArcCount f) (count_in (codes "arcs") 2 200) (λ n. before_arcs f n [])
+pub arc_count_taken : (f : Frame) → TakesLine track_rules (ArcCount f) (count_in (codes "arcs") 2 MOST_ARCS) (λ n. before_arcs f n [])
 arc_count_taken f = record { admits = λ line. refl; ends = refl }
 
 arc_taken : (f : Frame) (left : ℕ) (arcs : List Arc) → 1 ≤ left

@@ -7,7 +7,7 @@ use Rattle.obs_rows.specs.Pairs.{HasItsArcs}
 use Rattle.obs_rows.specs.Ranges.{IsPoint}
 use Rattle.obs_rows.specs.Signals.{used_signals, fine_signals}
 use Rattle.obs_rows.specs.Unused.{HasUsedRows, HasUsedShifts}
-use Rattle.obs_rows.specs.declared.limits.TheConstants.{MOST_BUDGET}
+use Rattle.obs_rows.specs.declared.limits.TheConstants.{MOST_BUDGET, MOST_ARCS}
 use Rattle.int_search.specs.declared.answer.TwoBest.{TwoBest}
 use Rattle.line_source.specs.EndedLines.{ended_lines}
 use Rattle.cert_words.proofs.TextLaws.{lines_of_text}
@@ -64,7 +64,7 @@ points_same ss arcs arcs' p q pairs pairs' x y points points' h h' e =
     numbers_same (codes "at") 3 x y (All-head (λ (m : List ℤ). length m ≡ 3) x points h.triples) (All-head (λ (m : List ℤ). length m ≡ 3) y points' h'.triples)
     (point_small x (All-head IsPoint x points h.are)) (point_small y (All-head IsPoint y points' h'.are)) e
 
-pairs_same : (l2 l5 : ℕ) (arcs arcs' : List Arc) (pairs pairs' : List PairRows) (points points' : List (List ℤ)) (rest rest' : List (List ℕ)) → length arcs ≤ 200 → length arcs' ≤ 200
+pairs_same : (l2 l5 : ℕ) (arcs arcs' : List Arc) (pairs pairs' : List PairRows) (points points' : List (List ℤ)) (rest rest' : List (List ℕ)) → length arcs ≤ MOST_ARCS → length arcs' ≤ MOST_ARCS
     → ArePlaced (used_signals l2 l5) arcs pairs points → ArePlaced (used_signals l2 l5) arcs' pairs' points' → length pairs ≡ length pairs'
     → all_placed_pairs (used_signals l2 l5) pairs points ++ rest ≡ all_placed_pairs (used_signals l2 l5) pairs' points' ++ rest' → (pairs ≡ pairs') × (points ≡ points') × (rest ≡ rest')
 pairs_same l2 l5 arcs arcs' [] [] [] [] rest rest' few few' h h' l e = (refl, refl, e)

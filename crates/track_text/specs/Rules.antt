@@ -4,7 +4,7 @@ use Rattle.obs_rows.specs.declared.arcs.Arc.{Arc}
 use Rattle.obs_rows.specs.declared.pair_rows.PairRows.{PairRows}
 use Rattle.obs_rows.specs.Arcs.{free_count}
 use Rattle.obs_rows.specs.Integers.{integer_count}
-use Rattle.obs_rows.specs.declared.limits.TheConstants.{MOST_PAIRS, MOST_RATIO, MOST_BUDGET}
+use Rattle.obs_rows.specs.declared.limits.TheConstants.{MOST_PAIRS, MOST_RATIO, MOST_BUDGET, MOST_ARCS}
 use Rattle.rinex_head.specs.declared.place.At.{At}
 use Rattle.rinex_head.specs.declared.place.Flaw.{Flaw}
 use Rattle.rinex_head.specs.declared.place.What.TheVariants.{BadLine}
@@ -87,7 +87,7 @@ admit Budget line = and_then (count_in (codes "budget") 1 MOST_BUDGET line) (λ 
 admit (SystemLine budget) line = and_then (system_in line) (λ s. Ok (Base budget))
 admit (Base budget) line = and_then (vector_in (codes "base") 3 COORDINATES line) (λ p. Ok (Letters budget))
 admit (Letters budget) line = and_then (signals_in Two line) (λ s. Ok (ArcCount (frame budget (signals_of s))))
-admit (ArcCount f) line = and_then (count_in (codes "arcs") 2 200 line) (λ n. Ok (before_arcs f n []))
+admit (ArcCount f) line = and_then (count_in (codes "arcs") 2 MOST_ARCS line) (λ n. Ok (before_arcs f n []))
 admit (NextArc f left arcs) line = and_then (arc_in Two f.ss (free_count arcs) left line) (λ a. Ok (before_arcs f (left - 1) (arcs ++ a ∷ [])))
 admit (PairCount f arcs) line = and_then (count_in (codes "pairs") 1 MOST_PAIRS line) (λ n. Ok (before_pairs f arcs n 0 []))
 admit (NextPair f arcs left least numbers) line = and_then (pair_in Two least line) (λ p. Ok (PairPoint f arcs (left - 1) p.number p.count numbers))

@@ -21,8 +21,11 @@ pub(crate) fn read_arcs(
     lines: &mut Lines<'_>,
     signals: Signals,
 ) -> Result<ArcList, TextFault>
-    ensures reads { (budget : ℕ) → Reads track_rules lines.old lines.new (ArcCount (frame budget (fine_signals signals))) (λ arcs. PairCount (frame budget (fine_signals signals)) arcs) result }
-    ensures took { IfOk result (λ arcs. lines.old.left ≡ counted_arcs (fine_signals signals) arcs ++ lines.new.left) }
+    ensures reads { (budget : ℕ) →
+        Reads track_rules lines.old lines.new (ArcCount (frame budget (fine_signals signals)))
+        (λ arcs. PairCount (frame budget (fine_signals signals)) arcs) result }
+    ensures took { IfOk result (λ arcs.
+        lines.old.left ≡ counted_arcs (fine_signals signals) arcs ++ lines.new.left) }
     ensures are { IfOk result AreArcs }
     ensures used { IfOk result (All (HasUsedShifts (fine_signals signals))) }
     ensures whole { IfOk result (All IsWholeArc) }

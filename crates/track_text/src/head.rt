@@ -25,8 +25,10 @@ pub(crate) struct Head {
 
 /// Reads the head.
 pub(crate) fn read_head(lines: &mut Lines<'_>) -> Result<Head, At>
-    ensures reads { ReadsFree track_rules lines.old lines.new Form (λ h. ArcCount (frame h.budget (fine_signals h.signals))) result }
-    ensures took { IfOk result (λ h. lines.old.left ≡ track_head_lines h.ratio h.budget h.system h.base h.signals ++ lines.new.left) }
+    ensures reads { ReadsFree track_rules lines.old lines.new Form (λ h.
+        ArcCount (frame h.budget (fine_signals h.signals))) result }
+    ensures took { IfOk result (λ h. lines.old.left
+        ≡ track_head_lines h.ratio h.budget h.system h.base h.signals ++ lines.new.left) }
     ensures ratio { IfOk result (λ h. (1000 ≤ h.ratio) × (h.ratio ≤ MOST_RATIO)) }
     ensures budget { IfOk result (λ h. (1 ≤ h.budget) × (h.budget ≤ MOST_BUDGET)) }
     ensures system { IfOk result (λ h. IsSystem h.system) }

@@ -10,10 +10,12 @@ ghost use Rattle.track_text.specs.Rules.{track_rules, track_reading};
 
 /// No two certificates of tracks have the same spelling: what is written of one determines it.
 pub fn one_track_spelling_law()
-    ensures { (cert other : TrackCert) → IsWholeTrackCert cert → IsWholeTrackCert other → track_spelling cert ≡ track_spelling other → cert ≡ other }
+    ensures { (cert other : TrackCert) → IsWholeTrackCert cert → IsWholeTrackCert other →
+        track_spelling cert ≡ track_spelling other → cert ≡ other }
 {}
 
 /// The column and the reason of a refusal are those of the check of its own line.
 pub fn track_flaw_law()
-    ensures { (text : List ℕ) (at : At) → track_reading text ≡ Err at → IsOwnFlaw track_rules (ended_lines text) at }
+    ensures { (text : List ℕ) (at : At) → track_reading text ≡ Err at →
+        IsOwnFlaw track_rules (ended_lines text) at }
 {}

@@ -31,7 +31,8 @@ fn move_in(number: u32, line: &[u8]) -> Result<[i64; 3], Flaw>
 
 // The next line, which is the move of the pair of this number.
 fn next_move(lines: &mut Lines<'_>, number: u32) -> Result<[i64; 3], At>
-    ensures reads { (numbers : List ℕ) → ReadsFree track_rules lines.old lines.new (before_moves (number ∷ numbers)) (λ moved. before_moves numbers) result }
+    ensures reads { (numbers : List ℕ) → ReadsFree track_rules lines.old lines.new
+        (before_moves (number ∷ numbers)) (λ moved. before_moves numbers) result }
     ensures took { IfOk result (λ moved. lines.old.left ≡ move_line number moved ∷ lines.new.left) }
     ensures in_range { IfOk result IsMove }
     ensures whole { IfOk result (λ moved. length moved ≡ 3) }
@@ -49,8 +50,10 @@ pub(crate) fn read_moves(
     lines: &mut Lines<'_>,
     pairs: &[PairRows],
 ) -> Result<Items<[i64; 3]>, TextFault>
-    ensures reads { Reads track_rules lines.old lines.new (before_moves (numbers_of pairs.now)) (λ moves. Values) result }
-    ensures took { IfOk result (λ moves. lines.old.left ≡ move_lines pairs.now moves ++ lines.new.left) }
+    ensures reads { Reads track_rules lines.old lines.new (before_moves (numbers_of pairs.now))
+        (λ moves. Values) result }
+    ensures took { IfOk result (λ moves.
+        lines.old.left ≡ move_lines pairs.now moves ++ lines.new.left) }
     ensures each { IfOk result (λ moves. length moves ≡ length pairs.now) }
     ensures in_range { IfOk result (All IsMove) }
     ensures whole { IfOk result AreTriples }

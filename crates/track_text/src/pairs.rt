@@ -5,7 +5,7 @@ ghost use Rattle.obs_rows.specs.Pairs.{HasItsArcs, ArePairs};
 ghost use Rattle.obs_rows.specs.Ranges.{IsPoint};
 ghost use Rattle.obs_rows.specs.Signals.{fine_signals};
 ghost use Rattle.obs_rows.specs.Unused.{HasUsedRows};
-ghost use Rattle.obs_rows.specs.declared.limits.TheConstants.{MOST_SATELLITES};
+ghost use Rattle.obs_rows.specs.declared.limits.TheConstants.{MOST_SATELLITES, MOST_ARCS};
 ghost use Rattle.rinex_head.specs.LineRules.{Reads, ReadsFree};
 ghost use Rattle.cert_lines.specs.Lengths.{IsWholePair};
 ghost use Rattle.cert_lines.specs.Lines.{pair_line, vector_line};
@@ -46,8 +46,12 @@ pub(crate) struct PlacedPairs {
 // The lines before the rows of the next pair, whose number is at least `least`, where `left` pairs are to come with it.
 fn next_placed_head(lines: &mut Lines<'_>, least: u32, left: u32) -> Result<PlacedHead, At>
     requires { 1 ≤ left }
-    ensures reads { (budget : ℕ) (ss : List ℕ) (arcs : List Arc) (numbers : List ℕ) → ReadsFree track_rules lines.old lines.new (before_pairs (frame budget ss) arcs left least numbers) (λ p. before_rows (frame budget ss) arcs (left - 1) p.head.number p.head.count 0 numbers) result }
-    ensures took { IfOk result (λ p. lines.old.left ≡ pair_line p.head.number p.head.tag.0 p.head.group p.head.count ∷ vector_line (codes "at") p.point ∷ lines.new.left) }
+    ensures reads { (budget : ℕ) (ss : List ℕ) (arcs : List Arc) (numbers : List ℕ) →
+        ReadsFree track_rules lines.old lines.new
+        (before_pairs (frame budget ss) arcs left least numbers) (λ p.
+        before_rows (frame budget ss) arcs (left - 1) p.head.number p.head.count 0 numbers) result }
+    ensures took { IfOk result (λ p. lines.old.left ≡ pair_line p.head.number p.head.tag.0
+        p.head.group p.head.count ∷ vector_line (codes "at") p.point ∷ lines.new.left) }
     ensures number { IfOk result (λ p. (least ≤ p.head.number) × (p.head.number < MOST_PAIRS)) }
     ensures tag { IfOk result (λ p. p.head.tag.0 < 2 ^ 63) }
     ensures group { IfOk result (λ p. unsigned_abs p.head.group < 2 ^ 55) }
@@ -71,9 +75,13 @@ fn next_pair(
 ) -> Result<PlacedPair, TextFault>
     requires left { 1 ≤ left }
     requires some { 1 ≤ length arcs.now }
-    requires few { length arcs.now ≤ 200 }
-    ensures reads { (budget : ℕ) (numbers : List ℕ) → Reads track_rules lines.old lines.new (before_pairs (frame budget (fine_signals signals)) arcs.now left least numbers) (λ p. before_pairs (frame budget (fine_signals signals)) arcs.now (left - 1) (p.pair.number + 1) (numbers ++ p.pair.number ∷ [])) result }
-    ensures took { IfOk result (λ p. lines.old.left ≡ placed_pair_lines (fine_signals signals) p.pair p.point ++ lines.new.left) }
+    requires few { length arcs.now ≤ MOST_ARCS }
+    ensures reads { (budget : ℕ) (numbers : List ℕ) → Reads track_rules lines.old lines.new
+        (before_pairs (frame budget (fine_signals signals)) arcs.now left least numbers) (λ p.
+        before_pairs (frame budget (fine_signals signals)) arcs.now (left - 1)
+        (p.pair.number + 1) (numbers ++ p.pair.number ∷ [])) result }
+    ensures took { IfOk result (λ p. lines.old.left
+        ≡ placed_pair_lines (fine_signals signals) p.pair p.point ++ lines.new.left) }
     ensures least { IfOk result (λ p. least ≤ p.pair.number) }
     ensures arcs { IfOk result (λ p. HasItsArcs arcs.now p.pair) }
     ensures used { IfOk result (λ p. HasUsedRows (fine_signals signals) p.pair) }
@@ -95,9 +103,12 @@ pub(crate) fn read_pairs(
     arcs: &[Arc],
 ) -> Result<PlacedPairs, TextFault>
     requires some { 1 ≤ length arcs.now }
-    requires few { length arcs.now ≤ 200 }
-    ensures reads { (budget : ℕ) → Reads track_rules lines.old lines.new (PairCount (frame budget (fine_signals signals)) arcs.now) (λ p. Tail (frame budget (fine_signals signals)) arcs.now (numbers_of p.pairs)) result }
-    ensures took { IfOk result (λ p. lines.old.left ≡ counted_placed_pairs (fine_signals signals) p.pairs p.points ++ lines.new.left) }
+    requires few { length arcs.now ≤ MOST_ARCS }
+    ensures reads { (budget : ℕ) → Reads track_rules lines.old lines.new
+        (PairCount (frame budget (fine_signals signals)) arcs.now) (λ p.
+        Tail (frame budget (fine_signals signals)) arcs.now (numbers_of p.pairs)) result }
+    ensures took { IfOk result (λ p. lines.old.left
+        ≡ counted_placed_pairs (fine_signals signals) p.pairs p.points ++ lines.new.left) }
     ensures some { IfOk result (λ p. 1 ≤ length p.pairs) }
     ensures each { IfOk result (λ p. length p.points ≡ length p.pairs) }
     ensures are { IfOk result (λ p. ArePairs arcs.now p.pairs) }

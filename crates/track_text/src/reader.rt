@@ -1,5 +1,6 @@
 //! The certificate of a track, read.
 ghost use Rattle.std.specs.Prelude.{◌≡◌, ◌≤◌, [], length, Ok, Err, IfOk, MatchResult};
+ghost use Rattle.line_source.specs.declared.transfer.TheConstants.{MAX_FILE};
 ghost use Rattle.rinex_head.specs.LineRules.{rest_gives, Gives, OnRefusal, IfRefused};
 ghost use Rattle.track_data.specs.declared.certs.TrackCert.{TrackCert};
 ghost use Rattle.track_spelling.specs.Spelling.{lines_of_track, track_spelling};
@@ -63,10 +64,11 @@ fn read_lines(alloc: Global, mut lines: Lines<'_>) -> Result<TrackCert, TextFaul
 
 /// The certificate of a track that a text spells, or the first place at which it is none.
 pub fn read_track(alloc: Global, text: &[u8]) -> Result<TrackCert, TextFault>
-    requires { length text.now ≤ 67108864 }
+    requires { length text.now ≤ MAX_FILE }
     ensures ok { IfOk result (λ c. text.now ≡ track_spelling c) }
     ensures whole { IfOk result IsWholeTrackCert }
-    ensures only { IfOk result (λ c. (d : TrackCert) → IsWholeTrackCert d → text.now ≡ track_spelling d → d ≡ c) }
+    ensures only { IfOk result (λ c. (d : TrackCert) → IsWholeTrackCert d →
+        text.now ≡ track_spelling d → d ≡ c) }
     ensures refused { OnRefusal result (IsTrackCertificate text.now → ⊥) }
     ensures stuck { IfRefused result (λ at. NoneBegins IsTrackCertificate text.now at.line) }
     ensures first { IfRefused result (λ at. BeginsBefore IsTrackCertificate text.now at.line) }

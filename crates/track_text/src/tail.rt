@@ -35,9 +35,12 @@ fn read_vectors(
     requires count { count ≤ MOST_INTEGERS }
     requires small { IsSmall first }
     requires rest { IsZeroFrom count first }
-    ensures reads { Reads track_rules lines.old lines.new (Second count (numbers_of pairs.now)) (λ t. End) result }
-    ensures took { IfOk result (λ t. vector_line (codes "z1") (take count first) ∷ lines.old.left ≡ track_tail_lines pairs.now t ++ lines.new.left) }
-    ensures fits { IfOk result (λ t. (ss : List ℕ) (arcs : List Arc) (budget : ℕ) → count ≡ integer_count arcs ss → IsTrackTailOf ss arcs pairs.now budget t) }
+    ensures reads { Reads track_rules lines.old lines.new (Second count (numbers_of pairs.now))
+        (λ t. End) result }
+    ensures took { IfOk result (λ t. vector_line (codes "z1") (take count first) ∷ lines.old.left
+        ≡ track_tail_lines pairs.now t ++ lines.new.left) }
+    ensures fits { IfOk result (λ t. (ss : List ℕ) (arcs : List Arc) (budget : ℕ) →
+        count ≡ integer_count arcs ss → IsTrackTailOf ss arcs pairs.now budget t) }
     ensures whole { IfOk result IsWholeTrackTail }
 {
     let second = next_integers::<TrackText>(lines, b"z2", count)?;
@@ -63,9 +66,13 @@ pub(crate) fn read_tail(
     pairs: &[PairRows],
 ) -> Result<TrackTail, TextFault>
     requires { count ≤ MOST_INTEGERS }
-    ensures reads { (ss : List ℕ) (arcs : List Arc) → count ≡ integer_count arcs ss → Reads track_rules lines.old lines.new (TailStart (frame budget ss) arcs (numbers_of pairs.now)) (λ t. End) result }
-    ensures took { IfOk result (λ t. lines.old.left ≡ track_tail_lines pairs.now t ++ lines.new.left) }
-    ensures fits { IfOk result (λ t. (ss : List ℕ) (arcs : List Arc) → count ≡ integer_count arcs ss → IsTrackTailOf ss arcs pairs.now budget t) }
+    ensures reads { (ss : List ℕ) (arcs : List Arc) → count ≡ integer_count arcs ss →
+        Reads track_rules lines.old lines.new
+        (TailStart (frame budget ss) arcs (numbers_of pairs.now)) (λ t. End) result }
+    ensures took { IfOk result (λ t.
+        lines.old.left ≡ track_tail_lines pairs.now t ++ lines.new.left) }
+    ensures fits { IfOk result (λ t. (ss : List ℕ) (arcs : List Arc) →
+        count ≡ integer_count arcs ss → IsTrackTailOf ss arcs pairs.now budget t) }
     ensures whole { IfOk result IsWholeTrackTail }
 {
     let line = next_line(lines, What::BadLine)?;

@@ -15,8 +15,10 @@ use track_data::TrackTail;
 fn weak_tail_in(line: &[u8]) -> Result<TrackTail, Flaw>
     requires { length line.now ≤ 4096 }
     ensures value { result ≡ weak_tail_in line.now }
-    ensures spelled { IfOk result (λ t. (pairs : List PairRows) → line.now ∷ [] ≡ track_tail_lines pairs t) }
-    ensures fits { IfOk result (λ t. (ss : List ℕ) (arcs : List Arc) (pairs : List PairRows) (budget : ℕ) → IsTrackTailOf ss arcs pairs budget t) }
+    ensures spelled { IfOk result (λ t. (pairs : List PairRows) →
+        line.now ∷ [] ≡ track_tail_lines pairs t) }
+    ensures fits { IfOk result (λ t. (ss : List ℕ) (arcs : List Arc) (pairs : List PairRows)
+        (budget : ℕ) → IsTrackTailOf ss arcs pairs budget t) }
     ensures whole { IfOk result IsWholeTrackTail }
 {
     let WeakPivot { column, pivot } = weak_in(b"declined weak", Version::Two.last_column(), line)?;
@@ -26,8 +28,10 @@ fn weak_tail_in(line: &[u8]) -> Result<TrackTail, Flaw>
 fn spent_in(budget: u64, line: &[u8]) -> Result<TrackTail, Flaw>
     requires { length line.now ≤ 4096 }
     ensures value { result ≡ spent_in budget line.now }
-    ensures spelled { IfOk result (λ t. (pairs : List PairRows) → line.now ∷ [] ≡ track_tail_lines pairs t) }
-    ensures fits { IfOk result (λ t. (ss : List ℕ) (arcs : List Arc) (pairs : List PairRows) → IsTrackTailOf ss arcs pairs budget t) }
+    ensures spelled { IfOk result (λ t. (pairs : List PairRows) →
+        line.now ∷ [] ≡ track_tail_lines pairs t) }
+    ensures fits { IfOk result (λ t. (ss : List ℕ) (arcs : List Arc) (pairs : List PairRows) →
+        IsTrackTailOf ss arcs pairs budget t) }
     ensures whole { IfOk result IsWholeTrackTail }
 {
     let spent = count_in(b"declined spent", budget, budget, line)?;
@@ -36,8 +40,10 @@ fn spent_in(budget: u64, line: &[u8]) -> Result<TrackTail, Flaw>
 
 fn overwidth_in(line: &[u8]) -> Result<TrackTail, Flaw>
     ensures value { result ≡ overwidth_in line.now }
-    ensures spelled { IfOk result (λ t. (pairs : List PairRows) → line.now ∷ [] ≡ track_tail_lines pairs t) }
-    ensures fits { IfOk result (λ t. (ss : List ℕ) (arcs : List Arc) (pairs : List PairRows) (budget : ℕ) → IsTrackTailOf ss arcs pairs budget t) }
+    ensures spelled { IfOk result (λ t. (pairs : List PairRows) →
+        line.now ∷ [] ≡ track_tail_lines pairs t) }
+    ensures fits { IfOk result (λ t. (ss : List ℕ) (arcs : List Arc) (pairs : List PairRows)
+        (budget : ℕ) → IsTrackTailOf ss arcs pairs budget t) }
     ensures whole { IfOk result IsWholeTrackTail }
 {
     let place = place_in(b"declined overwidth ", line)?;
@@ -48,8 +54,10 @@ fn overwidth_in(line: &[u8]) -> Result<TrackTail, Flaw>
 pub(crate) fn declined_in(budget: u64, line: &[u8]) -> Result<TrackTail, Flaw>
     requires { length line.now ≤ 4096 }
     ensures value { result ≡ declined_in budget line.now }
-    ensures spelled { IfOk result (λ t. (pairs : List PairRows) → line.now ∷ [] ≡ track_tail_lines pairs t) }
-    ensures fits { IfOk result (λ t. (ss : List ℕ) (arcs : List Arc) (pairs : List PairRows) → IsTrackTailOf ss arcs pairs budget t) }
+    ensures spelled { IfOk result (λ t. (pairs : List PairRows) →
+        line.now ∷ [] ≡ track_tail_lines pairs t) }
+    ensures fits { IfOk result (λ t. (ss : List ℕ) (arcs : List Arc) (pairs : List PairRows) →
+        IsTrackTailOf ss arcs pairs budget t) }
     ensures whole { IfOk result IsWholeTrackTail }
 {
     if begins(b"declined weak", line) {

@@ -1,6 +1,7 @@
 -- Inequalities of what rounding does to nests and doublings, each by a certificate.
 -- The terms are made: tools/inequality_certificate.py writes a lemma from its claim and the products of its hypotheses,
--- h0, h1, .. in the order in which they stand. Who changes a claim writes its term anew there; the check proves what is written.
+-- h0, h1, .. in the order in which they stand: they are over each lemma, after `by`. Who changes a claim writes its term anew there;
+-- the check proves what is written.
 use Rattle.std.proofs.Common.{[], ◌∷◌, ℤ, pos, ◌+ℤ◌, ◌-ℤ◌, ◌*ℤ◌, ◌≤ℤ◌, ◌<ℤ◌, arith, refl}
 use Rattle.std.proofs.Common.{lit<}
 use Rattle.std.proofs.lemmas.Int.{ints}
@@ -58,6 +59,7 @@ sum_round_low z g q k p d a b n w h0 h1 h2 h3 n0 nw b0 w0 p0 d0 z0 z1 =
     (prod_nn (less_nn h1) (prod_nn (pos_nn 18446744073709551616) n0)))
     (prod_nn (less_nn nw) (prod_nn (pos_nn 18446744073709551616) b0))))
 
+-- by h3*h0 + h2*h1 + 4*h5*h4
 pub sine_round_high : (p q g s n w : ℤ) → ((pos 4611686018427387904 *ℤ n) -ℤ (g *ℤ w)) ≤ℤ (pos 2 *ℤ w)
     → ((g *ℤ w) -ℤ (pos 4611686018427387904 *ℤ n)) ≤ℤ (pos 2 *ℤ w) → (pos 2 *ℤ p) ≤ℤ q → (pos 0) ≤ℤ (q +ℤ (pos 2 *ℤ p)) → (p *ℤ g) ≤ℤ ((s *ℤ q) +ℤ q)
     → (pos 0) ≤ℤ w → ((pos 4611686018427387904 *ℤ (p *ℤ n)) -ℤ (s *ℤ (q *ℤ w))) ≤ℤ (pos 2 *ℤ (q *ℤ w))
@@ -69,6 +71,7 @@ sine_round_high p q g s n w h0 h1 h2 h3 h4 h5 =
     (ko (pos 4) ⊗ ((ko (pos 4611686018427387904) ⊗ (va 0 ⊗ va 4)) ⊖ (va 3 ⊗ (va 1 ⊗ va 5)))) (ko (pos 4) ⊗ (ko (pos 2) ⊗ (va 1 ⊗ va 5)))
     (((hy 3 ⊠ hy 0) ⊞ (hy 2 ⊠ hy 1)) ⊞ ((nm 4 ⊠ hy 5) ⊠ hy 4)) refl (h0, (h1, (h2, (h3, (h4, (h5, tt)))))))
 
+-- by h2*h0 + h3*h1 + 4*h5*h4 + 4*h6*h5
 pub sine_round_low : (p q g s n w : ℤ) → ((pos 4611686018427387904 *ℤ n) -ℤ (g *ℤ w)) ≤ℤ (pos 2 *ℤ w)
     → ((g *ℤ w) -ℤ (pos 4611686018427387904 *ℤ n)) ≤ℤ (pos 2 *ℤ w) → (pos 2 *ℤ p) ≤ℤ q → (pos 0) ≤ℤ (q +ℤ (pos 2 *ℤ p)) → (s *ℤ q) ≤ℤ (p *ℤ g)
     → (pos 0) ≤ℤ w → (pos 0) ≤ℤ q → ((s *ℤ (q *ℤ w)) -ℤ (pos 4611686018427387904 *ℤ (p *ℤ n))) ≤ℤ (pos 2 *ℤ (q *ℤ w))
@@ -80,27 +83,33 @@ sine_round_low p q g s n w h0 h1 h2 h3 h4 h5 h6 =
     (ko (pos 4) ⊗ ((va 3 ⊗ (va 1 ⊗ va 5)) ⊖ (ko (pos 4611686018427387904) ⊗ (va 0 ⊗ va 4)))) (ko (pos 4) ⊗ (ko (pos 2) ⊗ (va 1 ⊗ va 5)))
     ((((hy 2 ⊠ hy 0) ⊞ (hy 3 ⊠ hy 1)) ⊞ ((nm 4 ⊠ hy 5) ⊠ hy 4)) ⊞ ((nm 4 ⊠ hy 6) ⊠ hy 5)) refl (h0, (h1, (h2, (h3, (h4, (h5, (h6, tt))))))))
 
+-- by h0*h1
 pub put_cos_high : (n c w y : ℤ) → ((pos 4611686018427387904 *ℤ n) -ℤ (c *ℤ w)) ≤ℤ (pos 2 *ℤ w) → (pos 0) ≤ℤ y → ((pos 4611686018427387904 *ℤ (n *ℤ y)) -ℤ (c *ℤ (w *ℤ y))) ≤ℤ (pos 2 *ℤ (w *ℤ y))
 put_cos_high n c w y h0 h1 =
     cert (n ∷ c ∷ w ∷ y ∷ []) ((((ko (pos 4611686018427387904) ⊗ va 0) ⊖ (va 1 ⊗ va 2)) ≼ (ko (pos 2) ⊗ va 2)) ∷ (ko (pos 0) ≼ va 3) ∷ [])
     ((ko (pos 4611686018427387904) ⊗ (va 0 ⊗ va 3)) ⊖ (va 1 ⊗ (va 2 ⊗ va 3))) (ko (pos 2) ⊗ (va 2 ⊗ va 3)) (hy 0 ⊠ hy 1) refl (h0, (h1, tt))
 
+-- by h0*h1
 pub put_cos_low : (n c w y : ℤ) → ((c *ℤ w) -ℤ (pos 4611686018427387904 *ℤ n)) ≤ℤ (pos 2 *ℤ w) → (pos 0) ≤ℤ y → ((c *ℤ (w *ℤ y)) -ℤ (pos 4611686018427387904 *ℤ (n *ℤ y))) ≤ℤ (pos 2 *ℤ (w *ℤ y))
 put_cos_low n c w y h0 h1 =
     cert (n ∷ c ∷ w ∷ y ∷ []) ((((va 1 ⊗ va 2) ⊖ (ko (pos 4611686018427387904) ⊗ va 0)) ≼ (ko (pos 2) ⊗ va 2)) ∷ (ko (pos 0) ≼ va 3) ∷ [])
     ((va 1 ⊗ (va 2 ⊗ va 3)) ⊖ (ko (pos 4611686018427387904) ⊗ (va 0 ⊗ va 3))) (ko (pos 2) ⊗ (va 2 ⊗ va 3)) (hy 0 ⊠ hy 1) refl (h0, (h1, tt))
 
+-- by h0*h1
 pub put_sin_high : (n c w y : ℤ) → ((pos 4611686018427387904 *ℤ n) -ℤ (c *ℤ w)) ≤ℤ (pos 2 *ℤ w) → (pos 0) ≤ℤ y → ((pos 4611686018427387904 *ℤ (n *ℤ y)) -ℤ (c *ℤ (y *ℤ w))) ≤ℤ (pos 2 *ℤ (y *ℤ w))
 put_sin_high n c w y h0 h1 =
     cert (n ∷ c ∷ w ∷ y ∷ []) ((((ko (pos 4611686018427387904) ⊗ va 0) ⊖ (va 1 ⊗ va 2)) ≼ (ko (pos 2) ⊗ va 2)) ∷ (ko (pos 0) ≼ va 3) ∷ [])
     ((ko (pos 4611686018427387904) ⊗ (va 0 ⊗ va 3)) ⊖ (va 1 ⊗ (va 3 ⊗ va 2))) (ko (pos 2) ⊗ (va 3 ⊗ va 2)) (hy 0 ⊠ hy 1) refl (h0, (h1, tt))
 
+-- by h0*h1
 pub put_sin_low : (n c w y : ℤ) → ((c *ℤ w) -ℤ (pos 4611686018427387904 *ℤ n)) ≤ℤ (pos 2 *ℤ w) → (pos 0) ≤ℤ y → ((c *ℤ (y *ℤ w)) -ℤ (pos 4611686018427387904 *ℤ (n *ℤ y))) ≤ℤ (pos 2 *ℤ (y *ℤ w))
 put_sin_low n c w y h0 h1 =
     cert (n ∷ c ∷ w ∷ y ∷ []) ((((va 1 ⊗ va 2) ⊖ (ko (pos 4611686018427387904) ⊗ va 0)) ≼ (ko (pos 2) ⊗ va 2)) ∷ (ko (pos 0) ≼ va 3) ∷ [])
     ((va 1 ⊗ (va 3 ⊗ va 2)) ⊖ (ko (pos 4611686018427387904) ⊗ (va 0 ⊗ va 3))) (ko (pos 2) ⊗ (va 3 ⊗ va 2)) (hy 0 ⊠ hy 1) refl (h0, (h1, tt))
 
 -- a doubling makes the error e at most 3e + 2
+-- by 4*(h11*h10)*(h10*h10*h9 + h10*h10*(h12 + h11*h11) + h0*h1 + sq(4611686018427387904*y - s*d)) + 2*h10*(h4*h1*h2 + h5*h1*h3 + h6*h0*h2
+--    + h7*h0*h3)
 pub double_cos_high : (x y d c s e g : ℤ) → ((pos 4611686018427387904 *ℤ x) -ℤ (c *ℤ d)) ≤ℤ (e *ℤ d) → ((c *ℤ d) -ℤ (pos 4611686018427387904 *ℤ x)) ≤ℤ (e *ℤ d)
     → ((pos 4611686018427387904 *ℤ y) -ℤ (s *ℤ d)) ≤ℤ (e *ℤ d) → ((s *ℤ d) -ℤ (pos 4611686018427387904 *ℤ y)) ≤ℤ (e *ℤ d) → (c +ℤ s) ≤ℤ pos 6917529027641081856
     → (c -ℤ s) ≤ℤ pos 6917529027641081856 → (s -ℤ c) ≤ℤ pos 6917529027641081856 → (pos 0) ≤ℤ (pos 6917529027641081856 +ℤ (c +ℤ s))
@@ -125,6 +134,8 @@ double_cos_high x y d c s e g h0 h1 h2 h3 h4 h5 h6 h7 h8 h9 h10 h11 h12 h13 =
     ⊞ ((nm 2 ⊠ hy 10) ⊠ (((((hy 4 ⊠ hy 1) ⊠ hy 2) ⊞ ((hy 5 ⊠ hy 1) ⊠ hy 3)) ⊞ ((hy 6 ⊠ hy 0) ⊠ hy 2)) ⊞ ((hy 7 ⊠ hy 0) ⊠ hy 3)))) refl
     (h0, (h1, (h2, (h3, (h4, (h5, (h6, (h7, (h8, (h9, (h10, (h11, (h12, (weak (pos 0) (e *ℤ d) h13, tt)))))))))))))))
 
+-- by 4*(h11*h10)*(h10*h10*h8 + h10*h10*(4611686018427387904 + h12 + h11*h11) + h2*h3 + sq(4611686018427387904*x - c*d)) + 2*h10*(h4*h0*h3
+--    + h5*h0*h2 + h6*h1*h3 + h7*h1*h2)
 pub double_cos_low : (x y d c s e g : ℤ) → ((pos 4611686018427387904 *ℤ x) -ℤ (c *ℤ d)) ≤ℤ (e *ℤ d) → ((c *ℤ d) -ℤ (pos 4611686018427387904 *ℤ x)) ≤ℤ (e *ℤ d)
     → ((pos 4611686018427387904 *ℤ y) -ℤ (s *ℤ d)) ≤ℤ (e *ℤ d) → ((s *ℤ d) -ℤ (pos 4611686018427387904 *ℤ y)) ≤ℤ (e *ℤ d) → (c +ℤ s) ≤ℤ pos 6917529027641081856
     → (c -ℤ s) ≤ℤ pos 6917529027641081856 → (s -ℤ c) ≤ℤ pos 6917529027641081856 → (pos 0) ≤ℤ (pos 6917529027641081856 +ℤ (c +ℤ s))
@@ -150,6 +161,7 @@ double_cos_low x y d c s e g h0 h1 h2 h3 h4 h5 h6 h7 h8 h9 h10 h11 h12 h13 =
     ⊞ ((nm 2 ⊠ hy 10) ⊠ (((((hy 4 ⊠ hy 0) ⊠ hy 3) ⊞ ((hy 5 ⊠ hy 0) ⊠ hy 2)) ⊞ ((hy 6 ⊠ hy 1) ⊠ hy 3)) ⊞ ((hy 7 ⊠ hy 1) ⊠ hy 2)))) refl
     (h0, (h1, (h2, (h3, (h4, (h5, (h6, (h7, (h8, (h9, (h10, (h11, (h12, (weak (pos 0) (e *ℤ d) h13, tt)))))))))))))))
 
+-- by 4*(h11*h10)*(h10*h10*h9 + h10*h10*h12 + h0*h3 + h1*h2) + 2*h10*(h4*h1*h3 + h6*h1*h2 + h5*h0*h3 + h7*h0*h2)
 pub double_sin_high : (x y d c s e g : ℤ) → ((pos 4611686018427387904 *ℤ x) -ℤ (c *ℤ d)) ≤ℤ (e *ℤ d) → ((c *ℤ d) -ℤ (pos 4611686018427387904 *ℤ x)) ≤ℤ (e *ℤ d)
     → ((pos 4611686018427387904 *ℤ y) -ℤ (s *ℤ d)) ≤ℤ (e *ℤ d) → ((s *ℤ d) -ℤ (pos 4611686018427387904 *ℤ y)) ≤ℤ (e *ℤ d) → (c +ℤ s) ≤ℤ pos 6917529027641081856
     → (c -ℤ s) ≤ℤ pos 6917529027641081856 → (s -ℤ c) ≤ℤ pos 6917529027641081856 → (pos 0) ≤ℤ (pos 6917529027641081856 +ℤ (c +ℤ s))
@@ -173,6 +185,7 @@ double_sin_high x y d c s e g h0 h1 h2 h3 h4 h5 h6 h7 h8 h9 h10 h11 h12 h13 =
     ⊞ ((nm 2 ⊠ hy 10) ⊠ (((((hy 4 ⊠ hy 1) ⊠ hy 3) ⊞ ((hy 6 ⊠ hy 1) ⊠ hy 2)) ⊞ ((hy 5 ⊠ hy 0) ⊠ hy 3)) ⊞ ((hy 7 ⊠ hy 0) ⊠ hy 2)))) refl
     (h0, (h1, (h2, (h3, (h4, (h5, (h6, (h7, (h8, (h9, (h10, (h11, (h12, (weak (pos 0) (e *ℤ d) h13, tt)))))))))))))))
 
+-- by 4*(h11*h10)*(h10*h10*h8 + h10*h10*(4611686018427387904 + h12) + h0*h2 + h1*h3) + 2*h10*(h4*h0*h2 + h6*h0*h3 + h5*h1*h2 + h7*h1*h3)
 pub double_sin_low : (x y d c s e g : ℤ) → ((pos 4611686018427387904 *ℤ x) -ℤ (c *ℤ d)) ≤ℤ (e *ℤ d) → ((c *ℤ d) -ℤ (pos 4611686018427387904 *ℤ x)) ≤ℤ (e *ℤ d)
     → ((pos 4611686018427387904 *ℤ y) -ℤ (s *ℤ d)) ≤ℤ (e *ℤ d) → ((s *ℤ d) -ℤ (pos 4611686018427387904 *ℤ y)) ≤ℤ (e *ℤ d) → (c +ℤ s) ≤ℤ pos 6917529027641081856
     → (c -ℤ s) ≤ℤ pos 6917529027641081856 → (s -ℤ c) ≤ℤ pos 6917529027641081856 → (pos 0) ≤ℤ (pos 6917529027641081856 +ℤ (c +ℤ s))
@@ -197,15 +210,18 @@ double_sin_low x y d c s e g h0 h1 h2 h3 h4 h5 h6 h7 h8 h9 h10 h11 h12 h13 =
     ⊞ ((nm 2 ⊠ hy 10) ⊠ (((((hy 4 ⊠ hy 0) ⊠ hy 2) ⊞ ((hy 6 ⊠ hy 0) ⊠ hy 3)) ⊞ ((hy 5 ⊠ hy 1) ⊠ hy 2)) ⊞ ((hy 7 ⊠ hy 1) ⊠ hy 3)))) refl
     (h0, (h1, (h2, (h3, (h4, (h5, (h6, (h7, (h8, (h9, (h10, (h11, (h12, (weak (pos 0) (e *ℤ d) h13, tt)))))))))))))))
 
+-- by 2*h0
 pub twice_low : (g z : ℤ) → (g *ℤ pos 2305843009213693952) ≤ℤ z → (g *ℤ pos 4611686018427387904) ≤ℤ (pos 2 *ℤ z)
 twice_low g z h0 =
     cert (g ∷ z ∷ []) (((va 0 ⊗ ko (pos 2305843009213693952)) ≼ va 1) ∷ []) (va 0 ⊗ ko (pos 4611686018427387904)) (ko (pos 2) ⊗ va 1) (nm 2 ⊠ hy 0) refl (h0, tt)
 
+-- by 2*h0
 pub twice_high : (g z : ℤ) → z ≤ℤ ((g *ℤ pos 2305843009213693952) +ℤ pos 2305843009213693952) → (pos 2 *ℤ z) ≤ℤ ((g *ℤ pos 4611686018427387904) +ℤ pos 4611686018427387904)
 twice_high g z h0 =
     cert (g ∷ z ∷ []) ((va 1 ≼ ((va 0 ⊗ ko (pos 2305843009213693952)) ⊕ ko (pos 2305843009213693952))) ∷ []) (ko (pos 2) ⊗ va 1)
     ((va 0 ⊗ ko (pos 4611686018427387904)) ⊕ ko (pos 4611686018427387904)) (nm 2 ⊠ hy 0) refl (h0, tt)
 
+-- by 288*h0 + sq(d)*(3604480 + 288*h1)
 pub norm_289 : (x y d m : ℤ) → (pos 4194304 *ℤ (((x *ℤ x) +ℤ (y *ℤ y)) -ℤ (d *ℤ d))) ≤ℤ (m *ℤ (d *ℤ d)) → m ≤ℤ pos 2048 → (pos 288 *ℤ ((x *ℤ x) +ℤ (y *ℤ y))) ≤ℤ (pos 289 *ℤ (d *ℤ d))
 norm_289 x y d m h0 h1 =
     cancel (pos 4194304) (pos 288 *ℤ ((x *ℤ x) +ℤ (y *ℤ y))) (pos 289 *ℤ (d *ℤ d)) (omega (arith, ints))
@@ -213,21 +229,25 @@ norm_289 x y d m h0 h1 =
     ∷ (va 3 ≼ ko (pos 2048)) ∷ []) (ko (pos 4194304) ⊗ (ko (pos 288) ⊗ ((va 0 ⊗ va 0) ⊕ (va 1 ⊗ va 1))))
     (ko (pos 4194304) ⊗ (ko (pos 289) ⊗ (va 2 ⊗ va 2))) ((nm 288 ⊠ hy 0) ⊞ ((sq (va 2)) ⊠ (nm 3604480 ⊞ (nm 288 ⊠ hy 1)))) refl (h0, (h1, tt)))
 
+-- by h0 + 144*sq(x - y)
 pub square_both : (x y d : ℤ) → (pos 288 *ℤ ((x *ℤ x) +ℤ (y *ℤ y))) ≤ℤ (pos 289 *ℤ (d *ℤ d)) → ((pos 12 *ℤ (x +ℤ y)) *ℤ (pos 12 *ℤ (x +ℤ y))) ≤ℤ ((pos 17 *ℤ d) *ℤ (pos 17 *ℤ d))
 square_both x y d h0 =
     cert (x ∷ y ∷ d ∷ []) (((ko (pos 288) ⊗ ((va 0 ⊗ va 0) ⊕ (va 1 ⊗ va 1))) ≼ (ko (pos 289) ⊗ (va 2 ⊗ va 2))) ∷ []) ((ko (pos 12) ⊗ (va 0 ⊕ va 1))
     ⊗ (ko (pos 12) ⊗ (va 0 ⊕ va 1))) ((ko (pos 17) ⊗ va 2) ⊗ (ko (pos 17) ⊗ va 2)) (hy 0 ⊞ (nm 144 ⊠ (sq (va 0 ⊖ va 1)))) refl (h0, tt)
 
+-- by h0 + 144*sq(x + y)
 pub square_first : (x y d : ℤ) → (pos 288 *ℤ ((x *ℤ x) +ℤ (y *ℤ y))) ≤ℤ (pos 289 *ℤ (d *ℤ d)) → ((pos 12 *ℤ (x -ℤ y)) *ℤ (pos 12 *ℤ (x -ℤ y))) ≤ℤ ((pos 17 *ℤ d) *ℤ (pos 17 *ℤ d))
 square_first x y d h0 =
     cert (x ∷ y ∷ d ∷ []) (((ko (pos 288) ⊗ ((va 0 ⊗ va 0) ⊕ (va 1 ⊗ va 1))) ≼ (ko (pos 289) ⊗ (va 2 ⊗ va 2))) ∷ []) ((ko (pos 12) ⊗ (va 0 ⊖ va 1))
     ⊗ (ko (pos 12) ⊗ (va 0 ⊖ va 1))) ((ko (pos 17) ⊗ va 2) ⊗ (ko (pos 17) ⊗ va 2)) (hy 0 ⊞ (nm 144 ⊠ (sq (va 0 ⊕ va 1)))) refl (h0, tt)
 
+-- by h0 + 144*sq(x + y)
 pub square_second : (x y d : ℤ) → (pos 288 *ℤ ((x *ℤ x) +ℤ (y *ℤ y))) ≤ℤ (pos 289 *ℤ (d *ℤ d)) → ((pos 12 *ℤ (y -ℤ x)) *ℤ (pos 12 *ℤ (y -ℤ x))) ≤ℤ ((pos 17 *ℤ d) *ℤ (pos 17 *ℤ d))
 square_second x y d h0 =
     cert (x ∷ y ∷ d ∷ []) (((ko (pos 288) ⊗ ((va 0 ⊗ va 0) ⊕ (va 1 ⊗ va 1))) ≼ (ko (pos 289) ⊗ (va 2 ⊗ va 2))) ∷ []) ((ko (pos 12) ⊗ (va 1 ⊖ va 0))
     ⊗ (ko (pos 12) ⊗ (va 1 ⊖ va 0))) ((ko (pos 17) ⊗ va 2) ⊗ (ko (pos 17) ⊗ va 2)) (hy 0 ⊞ (nm 144 ⊠ (sq (va 0 ⊕ va 1)))) refl (h0, tt)
 
+-- by h0 + 144*sq(x - y)
 pub square_neither : (x y d : ℤ) → (pos 288 *ℤ ((x *ℤ x) +ℤ (y *ℤ y))) ≤ℤ (pos 289 *ℤ (d *ℤ d))
     → ((pos 12 *ℤ ((pos 0 -ℤ x) -ℤ y)) *ℤ (pos 12 *ℤ ((pos 0 -ℤ x) -ℤ y))) ≤ℤ ((pos 17 *ℤ d) *ℤ (pos 17 *ℤ d))
 square_neither x y d h0 =
@@ -235,6 +255,7 @@ square_neither x y d h0 =
     ((ko (pos 12) ⊗ ((ko (pos 0) ⊖ va 0) ⊖ va 1)) ⊗ (ko (pos 12) ⊗ ((ko (pos 0) ⊖ va 0) ⊖ va 1))) ((ko (pos 17) ⊗ va 2) ⊗ (ko (pos 17) ⊗ va 2))
     (hy 0 ⊞ (nm 144 ⊠ (sq (va 0 ⊖ va 1)))) refl (h0, tt)
 
+-- by 12*h1 + 12*h3 + 4611686018427387904*h4 + h6*h5
 pub size_both : (x y d c s e : ℤ) → ((pos 4611686018427387904 *ℤ x) -ℤ (c *ℤ d)) ≤ℤ (e *ℤ d) → ((c *ℤ d) -ℤ (pos 4611686018427387904 *ℤ x)) ≤ℤ (e *ℤ d)
     → ((pos 4611686018427387904 *ℤ y) -ℤ (s *ℤ d)) ≤ℤ (e *ℤ d) → ((s *ℤ d) -ℤ (pos 4611686018427387904 *ℤ y)) ≤ℤ (e *ℤ d)
     → (pos 12 *ℤ (x +ℤ y)) ≤ℤ (pos 17 *ℤ d) → (pos 24 *ℤ e) ≤ℤ pos 4611686018427387904 → (pos 0) <ℤ d → (c +ℤ s) ≤ℤ pos 6917529027641081856
@@ -247,6 +268,7 @@ size_both x y d c s e h0 h1 h2 h3 h4 h5 h6 =
     ((ko (pos 12) ⊗ va 2) ⊗ ko (pos 6917529027641081856)) ((((nm 12 ⊠ hy 1) ⊞ (nm 12 ⊠ hy 3)) ⊞ (nm 4611686018427387904 ⊠ hy 4)) ⊞ (hy 6 ⊠ hy 5)) refl
     (h0, (h1, (h2, (h3, (h4, (h5, (weak (pos 0) d h6, tt))))))))
 
+-- by 12*h1 + 12*h2 + 4611686018427387904*h4 + h6*h5
 pub size_first : (x y d c s e : ℤ) → ((pos 4611686018427387904 *ℤ x) -ℤ (c *ℤ d)) ≤ℤ (e *ℤ d) → ((c *ℤ d) -ℤ (pos 4611686018427387904 *ℤ x)) ≤ℤ (e *ℤ d)
     → ((pos 4611686018427387904 *ℤ y) -ℤ (s *ℤ d)) ≤ℤ (e *ℤ d) → ((s *ℤ d) -ℤ (pos 4611686018427387904 *ℤ y)) ≤ℤ (e *ℤ d)
     → (pos 12 *ℤ (x -ℤ y)) ≤ℤ (pos 17 *ℤ d) → (pos 24 *ℤ e) ≤ℤ pos 4611686018427387904 → (pos 0) <ℤ d → (c -ℤ s) ≤ℤ pos 6917529027641081856
@@ -259,6 +281,7 @@ size_first x y d c s e h0 h1 h2 h3 h4 h5 h6 =
     ((ko (pos 12) ⊗ va 2) ⊗ ko (pos 6917529027641081856)) ((((nm 12 ⊠ hy 1) ⊞ (nm 12 ⊠ hy 2)) ⊞ (nm 4611686018427387904 ⊠ hy 4)) ⊞ (hy 6 ⊠ hy 5)) refl
     (h0, (h1, (h2, (h3, (h4, (h5, (weak (pos 0) d h6, tt))))))))
 
+-- by 12*h0 + 12*h2 + 4611686018427387904*h4 + h6*h5
 pub size_neither : (x y d c s e : ℤ) → ((pos 4611686018427387904 *ℤ x) -ℤ (c *ℤ d)) ≤ℤ (e *ℤ d)
     → ((c *ℤ d) -ℤ (pos 4611686018427387904 *ℤ x)) ≤ℤ (e *ℤ d) → ((pos 4611686018427387904 *ℤ y) -ℤ (s *ℤ d)) ≤ℤ (e *ℤ d)
     → ((s *ℤ d) -ℤ (pos 4611686018427387904 *ℤ y)) ≤ℤ (e *ℤ d) → (pos 12 *ℤ ((pos 0 -ℤ x) -ℤ y)) ≤ℤ (pos 17 *ℤ d)

@@ -45,8 +45,9 @@ impl PointPair {
         requires radius_high { radius ≤ℤ pos (2 ^ 15) }
         requires low { neg_ℤ (pos (2 ^ 60)) ≤ℤ (self.now.angle -ℤ radius) }
         requires high { (self.now.angle +ℤ radius) ≤ℤ pos (2 ^ 60) }
-        ensures holds { (a c s : Rational) → InBox 56 (self.now.angle -ℤ radius) (self.now.angle +ℤ radius) a →
-            IsAnglePair 5 a c s → HoldsPair result c s }
+        ensures holds { (a c s : Rational) →
+            InBox 56 (self.now.angle -ℤ radius) (self.now.angle +ℤ radius) a → IsAnglePair 5 a c s →
+            HoldsPair result c s }
         ensures width { AreAtMostWide (pos 512 +ℤ (pos 64 *ℤ radius)) result }
         ensures ends { HasEndsWithin (9 * 2 ^ 57) result }
     {

@@ -17,7 +17,8 @@ pub fn rounding_laws()
 pub fn product_laws()
     ensures sign { (a b : ℤ) → pos 0 ≤ℤ a → pos 0 ≤ℤ b → pos 0 ≤ℤ (a *ℤ b) }
     ensures square { (a : ℤ) → pos 0 ≤ℤ (a *ℤ a) }
-    ensures size { (a b : ℤ) (m n : ℕ) → unsigned_abs a ≤ m → unsigned_abs b ≤ n → unsigned_abs (a *ℤ b) ≤ m * n }
+    ensures size { (a b : ℤ) (m n : ℕ) → unsigned_abs a ≤ m → unsigned_abs b ≤ n →
+        unsigned_abs (a *ℤ b) ≤ m * n }
     ensures factor { (c a b : ℤ) → pos 0 ≤ℤ c → a ≤ℤ b → (c *ℤ a) ≤ℤ (c *ℤ b) }
     ensures cancel { (c a b : ℤ) → pos 0 <ℤ c → (c *ℤ a) ≤ℤ (c *ℤ b) → a ≤ℤ b }
     ensures root { (a b : ℤ) → pos 0 ≤ℤ b → (a *ℤ a) ≤ℤ (b *ℤ b) → a ≤ℤ b }
@@ -30,10 +31,14 @@ pub fn power_law()
 
 /// A sum over a list is linear, keeps an order, and the order of two sums may be exchanged.
 pub fn sum_laws()
-    ensures linear { (f g : ℤ → ℤ) (xs : List ℤ) → sum_of (λ x. f x +ℤ g x) xs ≡ sum_of f xs +ℤ sum_of g xs }
-    ensures factor { (k : ℤ) (f : ℤ → ℤ) (xs : List ℤ) → sum_of (λ x. k *ℤ f x) xs ≡ k *ℤ sum_of f xs }
-    ensures append { (f : ℤ → ℤ) (xs ys : List ℤ) → sum_of f (xs ++ ys) ≡ sum_of f xs +ℤ sum_of f ys }
-    ensures exchange { (f : ℤ → ℤ → ℤ) (xs ys : List ℤ) → sum_of (λ x. sum_of (λ y. f x y) ys) xs ≡ sum_of (λ y. sum_of (λ x. f x y) xs) ys }
+    ensures linear { (f g : ℤ → ℤ) (xs : List ℤ) →
+        sum_of (λ x. f x +ℤ g x) xs ≡ sum_of f xs +ℤ sum_of g xs }
+    ensures factor { (k : ℤ) (f : ℤ → ℤ) (xs : List ℤ) →
+        sum_of (λ x. k *ℤ f x) xs ≡ k *ℤ sum_of f xs }
+    ensures append { (f : ℤ → ℤ) (xs ys : List ℤ) →
+        sum_of f (xs ++ ys) ≡ sum_of f xs +ℤ sum_of f ys }
+    ensures exchange { (f : ℤ → ℤ → ℤ) (xs ys : List ℤ) →
+        sum_of (λ x. sum_of (λ y. f x y) ys) xs ≡ sum_of (λ y. sum_of (λ x. f x y) xs) ys }
 {}
 
 /// The dot product is linear and symmetric, and a sum of squares is not negative.

@@ -2,6 +2,7 @@
 ghost use Rattle.std.specs.Prelude.{◌≡◌, ◌<◌, ◌≤◌, ℤ, List, length, vec_len, IfOk, All};
 ghost use Rattle.decimal_text.specs.Whole.{size_of};
 ghost use Rattle.line_source.specs.Lines.{lines_of};
+ghost use Rattle.line_source.specs.declared.transfer.TheConstants.{MAX_FILE};
 ghost use Rattle.rinex_head.specs.FirstFailing.{IsFirstFailing};
 ghost use Rattle.rinex_head.specs.LineRules.{rest_gives, ReadsFree, Gives, OnRefusal, IfRefused};
 ghost use Rattle.zero_rows.specs.Rows.{rows, AreRows, IsZeroFile};
@@ -80,7 +81,8 @@ fn number_in(word: &[u8], most: u32, line: &[u8]) -> Result<i64, Flaw>
 
 // The differences of the lines that are left.
 fn read_diffs(alloc: Global, lines: &mut Lines<'_>) -> Result<Vec<i64>, TextFault>
-    ensures reads { (z : ℤ) → Gives (rest_gives rows_rules lines.old (claimed z)) (λ ds. rows z ds.items) result }
+    ensures reads { (z : ℤ) →
+        Gives (rest_gives rows_rules lines.old (claimed z)) (λ ds. rows z ds.items) result }
     ensures in_range { IfOk result (λ ds. All (λ d. size_of d ≤ 1000000000) ds.items) }
     ensures some { IfOk result (λ ds. 0 < vec_len ds) }
     ensures few { IfOk result (λ ds. vec_len ds ≤ MAX_DIFFS) }
@@ -119,7 +121,7 @@ fn read_claim(lines: &mut Lines<'_>) -> Result<i64, At>
 
 /// What a `zero` file says, or the first place at which it is none.
 pub fn read_rows(alloc: Global, text: &[u8]) -> Result<ZeroRows, TextFault>
-    requires { length text.now ≤ 67108864 }
+    requires { length text.now ≤ MAX_FILE }
     ensures ok { IfOk result (λ found. AreRows (lines_of text.now) found.claim found.diffs) }
     ensures only { IfOk result (λ found. (z : ℤ) (ds : List ℤ) → AreRows (lines_of text.now) z ds
         → rows z ds ≡ found) }

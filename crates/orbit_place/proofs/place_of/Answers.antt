@@ -18,11 +18,16 @@ returns-clause-holds c = λ world eph sent q h s.
       held_along c.mul-x.result.held (q.radius *ʳ (direction latitude inclination node).x) q.x
           (x_with q.x q.plane_x q.plane_y q.radius latitude.cos latitude.sin node.cos node.sin inclination.cos s.position_in_plane_x s.position_in_plane_y s.earth_fixed_x)
           (c.mul-x.ensures.holds q.radius (direction latitude inclination node).x radius_held direction_held.0),
-      held_along c.mul-y.result.held (q.radius *ʳ (direction latitude inclination node).y) q.y
-          (y_with q.y q.plane_x q.plane_y q.radius latitude.cos latitude.sin node.cos node.sin inclination.cos s.position_in_plane_x s.position_in_plane_y s.earth_fixed_y)
-          (c.mul-y.ensures.holds q.radius (direction latitude inclination node).y radius_held direction_held.1),
-      held_along c.mul-z.result.held (q.radius *ʳ (direction latitude inclination node).z) q.z (z_with q.z q.plane_y q.radius latitude.sin inclination.sin s.position_in_plane_y s.earth_fixed_z)
-          (c.mul-z.ensures.holds q.radius (direction latitude inclination node).z radius_held direction_held.2),
+      (
+        held_along c.mul-y.result.held (q.radius *ʳ (direction latitude inclination node).y) q.y
+            (y_with q.y q.plane_x q.plane_y q.radius latitude.cos latitude.sin node.cos node.sin inclination.cos s.position_in_plane_x s.position_in_plane_y s.earth_fixed_y)
+            (c.mul-y.ensures.holds q.radius (direction latitude inclination node).y radius_held direction_held.1),
+        (
+          held_along c.mul-z.result.held (q.radius *ʳ (direction latitude inclination node).z) q.z (z_with q.z q.plane_y q.radius latitude.sin inclination.sin s.position_in_plane_y s.earth_fixed_z)
+              (c.mul-z.ensures.holds q.radius (direction latitude inclination node).z radius_held direction_held.2),
+          tt,
+        ),
+      ),
     )
 
 pub returns-clause-narrow : goal.returns-clause-narrow

@@ -12,7 +12,7 @@ use Rattle.session_files.proofs.nav_file.Goals as goal
 
 pub returns-clause-refused : goal.returns-clause-refused
 returns-clause-refused g c =
-    stopped_weaker c.nav_in.result _ _ (λ end refusal. refusal_whole _ _ _ c.args.name.now c.in_ok-text.text.items end c.in_ok-text.ensures.whole c.in_ok-text.ensures.given refusal)
+    stopped_weaker c.nav_in.result _ _ (λ end refusal. refusal_whole _ _ _ c.args.name.now c.in_ok-text.text.items end c.in_ok-text.ensures.reads.whole c.in_ok-text.ensures.given refusal)
     (subst (λ (text : List ℕ). IfStopped c.nav_in.result (λ end. IsRefusal (nav_of c.args.system) (HasNavFile c.args.system) c.args.name.now text end)) c.deref.ensures.value c.nav_in.ensures.stopped)
 
 pub returns-clause-read : goal.returns-clause-read

@@ -22,7 +22,7 @@ returns-in_ok-take_file-in-Gps-clause-stopped g c = λ known from.
 pub returns-in_ok-take_file-in-Gps-clause-refused : goal.returns-in_ok-take_file-in-Gps-clause-refused
 returns-in_ok-take_file-in-Gps-clause-refused g c =
     let answer = c.finish.result in
-    taken_refused c.args.system (g.F.Files.text_of c.args.files.now) _ _ c.args.name.now _ _ _ _ answer c.file_of.result c.in_ok-take_file-in-Gps.ensures.taken c.in_ok-take_file-in-Gps.ensures.whole
+    taken_refused c.args.system (g.F.Files.text_of c.args.files.now) _ _ c.args.name.now _ _ _ _ answer c.file_of.result c.in_ok-take_file-in-Gps.ensures.taken c.in_ok-take_file-in-Gps.ensures.reads.whole
     (λ text stands. answer_as _ _ text answer c.in-Gps.is (c.finish.ensures.answers text stands)) c.file_of.ensures.stopped
 
 pub returns-in_ok-take_file-in-Galileo-clause-read : goal.returns-in_ok-take_file-in-Galileo-clause-read
@@ -41,7 +41,7 @@ pub returns-in_ok-take_file-in-Galileo-clause-refused : goal.returns-in_ok-take_
 returns-in_ok-take_file-in-Galileo-clause-refused g c =
     let answer = c.finish-in-Galileo.result in
     taken_refused c.args.system (g.F.Files.text_of c.args.files.now) _ _ c.args.name.now _ _ _ _ answer c.file_of-in-Galileo.result
-    c.in_ok-take_file-in-Galileo.ensures.taken c.in_ok-take_file-in-Galileo.ensures.whole
+    c.in_ok-take_file-in-Galileo.ensures.taken c.in_ok-take_file-in-Galileo.ensures.reads.whole
     (λ text stands. answer_as _ _ text answer c.in-Galileo.is (galileo_answers text answer (c.finish-in-Galileo.ensures.answers text stands))) c.file_of-in-Galileo.ensures.stopped
 
 pub returns-in_err-take_file-in-Gps-clause-stopped : goal.returns-in_err-take_file-in-Gps-clause-stopped

@@ -7,6 +7,7 @@ use Rattle.cert_spelling.specs.Spelling.{all_pair_lines}
 use Rattle.std.proofs.lemmas.List.Elements.{All-push}
 use Rattle.cert_lines.specs.Lengths.{IsWholePair}
 use Rattle.obs_rows.specs.Signals.{fine_signals}
+use Rattle.obs_rows.proofs.HeadLaws.{keeps_on}
 use Rattle.cert_lines.specs.Versions.{group_limit}
 use Rattle.cert_text.proofs.PairSteps.{pairs_took}
 use Rattle.grammar_lines.proofs.RowSteps.{pairs_below}
@@ -15,7 +16,7 @@ use Rattle.cert_text.proofs.pairs.read_all_pairs.Goals as goal
 pub returns-in_err-pair-clause-reads : goal.returns-in_err-pair-clause-reads
 returns-in_err-pair-clause-reads c = λ budget.
     let refusal = err_from_is_err_and c.from_residual.result c.from_residual.ensures.1 in
-    let arcs = c.as_slice.ensures ∙ c.pairs.invariant.arcs in
+    let arcs = c.as_slice.ensures ∙ c.pairs.invariant.head.arcs in
     let given = rw arcs at c.in_err-pair.ensures.reads in
     rw (refusal.1, refusal.2) (handed_on _ _ c.in_err-pair.field-0.0 (c.pairs.invariant.reads budget) (given budget))
 
@@ -24,7 +25,7 @@ pairs-preserved c =
     let before = c.pairs.session.pairs in
     let pair = c.in_ok-pair.pair in
     let pairs = c.in_ok-push.ensures.added in
-    let arcs = c.as_slice.ensures ∙ c.pairs.invariant.arcs in
+    let arcs = c.as_slice.ensures ∙ c.pairs.invariant.head.arcs in
     let given = rw arcs at c.in_ok-pair.ensures.reads in
     let one = length_push before pair in
     record {
@@ -37,10 +38,5 @@ pairs-preserved c =
       below = rw pairs (pairs_below before pair c.pairs.least c.pairs.invariant.below c.in_ok-pair.ensures.least);
       of_version = rw pairs (All-push (λ (q : PairRows). unsigned_abs q.group < group_limit c.args.version) before pair c.pairs.invariant.of_version c.in_ok-pair.ensures.of_version);
       whole = rw pairs (All-push IsWholePair before pair c.pairs.invariant.whole c.in_ok-pair.ensures.whole);
-      scale = c.push.ensures.scale ∙ c.pairs.invariant.scale;
-      system = c.push.ensures.system ∙ c.pairs.invariant.system;
-      base = c.push.ensures.base ∙ c.pairs.invariant.base;
-      point = c.push.ensures.point ∙ c.pairs.invariant.point;
-      signals = c.push.ensures.signals ∙ c.pairs.invariant.signals;
-      arcs = c.push.ensures.arcs ∙ c.pairs.invariant.arcs;
+      head = keeps_on c.args.session c.pairs.session c.push.new.self c.pairs.invariant.head c.push.ensures.head;
     }

@@ -3,6 +3,7 @@ use Rattle.rinex_head.specs.LineRules.{rest_gives}
 use Rattle.cert_spelling.specs.Spelling.{all_pair_lines}
 use Rattle.cert_lines.specs.Lengths.{IsWholePair}
 use Rattle.cert_text.specs.Rules.{cert_rules, frame, before_pairs}
+use Rattle.obs_rows.specs.Heads.{KeepsHead}
 use Rattle.obs_rows.specs.Signals.{fine_signals}
 use Rattle.cert_lines.specs.Versions.{group_limit}
 use Rattle.cert_text.proofs.pairs.read_all_pairs.Given as goal
@@ -16,12 +17,7 @@ invariant-pairs l = record {
   below : All (λ p. p.number < l.least) l.session.pairs;
   of_version : All (λ p. unsigned_abs p.group < group_limit l.version) l.session.pairs;
   whole : All IsWholePair l.session.pairs;
-  scale : l.session.scale ≡ l.fn.session.scale;
-  system : l.session.system ≡ l.fn.session.system;
-  base : l.session.base ≡ l.fn.session.base;
-  point : l.session.point ≡ l.fn.session.point;
-  signals : l.session.signals ≡ l.fn.session.signals;
-  arcs : l.session.arcs ≡ l.fn.session.arcs;
+  head : KeepsHead l.fn.session l.session;
 }
 
 abbrev pub decreases-pairs : goal.decreases-pairs

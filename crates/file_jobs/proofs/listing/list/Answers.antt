@@ -17,7 +17,7 @@ returns-in_err-file g c =
     let work = file_work g.F.Files files files_after in
     let stopped = c.in_err-file.ensures in
     let from = known_from (g.F.Files.text_of files) (g.F.Files.given files) (g.F.Files.given files_after) in
-    rw (answered.1, answered.2) (list_stop work c.args.name.now c.in_err-file.field-0.0 stopped.opened stopped.gives (stopped.stopped work.text_of from) stopped.refused stopped.fault stopped.sure)
+    rw (answered.1, answered.2) (list_stop work c.args.name.now c.in_err-file.field-0.0 stopped.uses.opened stopped.uses.gives (stopped.stopped work.text_of from) stopped.refused stopped.fault stopped.sure)
 
 pub returns : goal.returns
 returns g c =
@@ -31,5 +31,5 @@ returns g c =
       fits = read.read.is.fits;
     } in
     let known : IsObsOf Gps work.text_of c.args.name.now c.in_ok-file.file = record { text = read.read.text; is = is; is_file = read.read.is_file } in
-    text_done work c.args.name.now read.read.text list_job _ is read.whole read.opens read.read.given
+    text_done work c.args.name.now read.read.text list_job _ is read.reads.whole read.reads.opens read.read.given
     (listed read.read.text c.args.name.now c.in_ok-file.file work.text_of _ known c.in_ok-answer_file.ensures)

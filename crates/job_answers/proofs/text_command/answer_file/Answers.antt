@@ -16,7 +16,7 @@ returns g c =
     let read = c.in_ok-text.ensures in
     let job = g.C.TextCommand.job c.args.command.now in
     let known : IsKnownFrom work.text_of (g.F.Files.text_of files) (g.F.Files.given files) (g.F.Files.given files_after) = known_from (g.F.Files.text_of files) (g.F.Files.given files) (g.F.Files.given files_after) in
-    text_done work c.args.name.now _ job c.answer_bytes.result (read.text work.text_of known) read.whole read.opens read.given
+    text_done work c.args.name.now _ job c.answer_bytes.result (read.text work.text_of known) read.reads.whole read.reads.opens read.given
     (subst (λ (text : List ℕ). IfEnded c.answer_bytes.result (EndsOnText job c.args.name.now text)) c.deref.ensures.value c.answer_bytes.ensures)
 
 pub returns-in_err-text : goal.returns-in_err-text
@@ -28,4 +28,4 @@ returns-in_err-text g c =
     let stopped = c.in_err-text.ensures in
     let known : IsKnownFrom work.text_of (g.F.Files.text_of files) (g.F.Files.given files) (g.F.Files.given files_after) = known_from (g.F.Files.text_of files) (g.F.Files.given files) (g.F.Files.given files_after) in
     rw (answered.1, answered.2)
-    (stop_done work c.args.name.now (g.C.TextCommand.job c.args.command.now) c.in_err-text.field-0.0 stopped.opened stopped.gives (stopped.stopped work.text_of known) stopped.refused stopped.fault stopped.sure)
+    (stop_done work c.args.name.now (g.C.TextCommand.job c.args.command.now) c.in_err-text.field-0.0 stopped.uses.opened stopped.uses.gives (stopped.stopped work.text_of known) stopped.refused stopped.fault stopped.sure)

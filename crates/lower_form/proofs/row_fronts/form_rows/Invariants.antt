@@ -1,7 +1,5 @@
-use Rattle.std.proofs.Common.{◌≡◌, ℕ, ◌+◌, ◌-◌, ◌^◌, ◌<◌, ◌≤◌, true}
-use Rattle.form_tables.specs.Tables.{entry, IsZeroOutside}
-use Rattle.form_tables.specs.Matrices.{IsSymmetric, EntriesBelow}
-use Rattle.integer_form.specs.Kept.{IsBelowDiagonal}
+use Rattle.std.proofs.Common.{◌≡◌, ℕ, ◌+◌, ◌-◌, ◌<◌, ◌≤◌, true}
+use Rattle.form_tables.specs.Tables.{entry}
 use Rattle.elimination.specs.StepEntries.{is_small}
 use Rattle.elimination.specs.RowSteps.{row_entry, HasFactors}
 use Rattle.lower_form.specs.FirstRounding.{first_entry}
@@ -9,13 +7,10 @@ use Rattle.lower_form.proofs.row_fronts.form_rows.Given as goal
 
 abbrev pub invariant-loop-r : goal.invariant-loop-r
 invariant-loop-r l = record {
-  form : (i c : ℕ) → i < l.r → i ≤ c → c < l.normal.columns - 3 → entry l.p i c ≡ row_entry (first_entry l.normal l.fn.h) l.pivots.rows l.normal.columns 3 (3 + i) (3 + c);
+  form : (i c : ℕ) → i < l.r → i ≤ c → c < l.normal.columns - 3 → entry l.front.p i c ≡ row_entry (first_entry l.normal l.fn.h) l.pivots.rows l.normal.columns 3 (3 + i) (3 + c);
   small : (k i c : ℕ) → k ≤ 3 → 3 ≤ i → i < 3 + l.r → i ≤ c → c < l.normal.columns → is_small (row_entry (first_entry l.normal l.fn.h) l.pivots.rows l.normal.columns k i c) ≡ true;
-  factors_are : (j i : ℕ) → j < 3 → 3 ≤ i → i < 3 + l.r → HasFactors l.pivots.rows l.factors j i;
-  first : (i m : ℕ) → i < 3 → entry l.factors i m ≡ entry l.initial.factors i m;
-  factors_below : EntriesBelow (2 ^ 52) l.factors;
-  factors_outside : IsBelowDiagonal l.normal.columns l.factors;
-  symmetric : IsSymmetric l.p;
-  below : EntriesBelow (2 ^ 52) l.p;
-  outside : IsZeroOutside (l.normal.columns - 3) (l.normal.columns - 3) l.p;
+  factors_are : (j i : ℕ) → j < 3 → 3 ≤ i → i < 3 + l.r → HasFactors l.pivots.rows l.front.l j i;
+  first : (i m : ℕ) → i < 3 → entry l.front.l i m ≡ entry l.initial.front.l i m;
+  kept : l.front.d ≡ l.initial.front.d;
+  columns : l.front.columns ≡ l.normal.columns;
 }

@@ -1,4 +1,4 @@
-use Rattle.std.proofs.Common.{◌≡◌, ℕ, ◌^◌, ◌<◌, ◌≤◌, length, set, ℤ, pos, int_lt, true, false, unsigned_abs, get_or-set_same, get_or-set_other, length-set, arith, to_z, of_z, sym, ap, ◌∙◌, subst, rules}
+use Rattle.std.proofs.Common.{◌≡◌, ℕ, ◌^◌, ◌<◌, ◌≤◌, List, length, set, ℤ, pos, int_lt, true, false, unsigned_abs, slice_index_or, get_or-set_same, get_or-set_other, length-set, arith, to_z, of_z, sym, ap, ◌∙◌, subst, rules}
 use Rattle.std.specs.Int.{w64}
 use Rattle.whole_math.proofs.Words.{as_w64}
 use Rattle.quadratic_form.specs.Elimination.{kept}
@@ -13,9 +13,8 @@ use Rattle.lower_form.proofs.row_fronts.pivot_rows.Goals as goal
 pub loop-j-init : goal.loop-j-init
 loop-j-init c = record {
   full = search rules;
-  rows = no_rows (first_entry c.args.normal.now c.args.h) c.args.pivots.now.rows c.args.normal.now.columns c.args.d.now c.args.factors.now;
-  below = c.requires.below;
-  outside = c.requires.outside;
+  rows = no_rows (first_entry c.args.normal.now c.args.h) c.args.pivots.now.rows c.args.normal.now.columns c.args.front.now.d c.args.front.now.l;
+  columns = c.requires.columns;
 }
 
 inside : (n : Normal) (j : ℕ) → j < 3 → j < n.columns
@@ -25,10 +24,10 @@ pub stepped_row-requires-clause-row_in : goal.stepped_row-requires-clause-row_in
 stepped_row-requires-clause-row_in c = inside c.args.normal.now c.loop-j.j c.loop-j-test.true
 
 pub stepped_row-requires-clause-positive : goal.stepped_row-requires-clause-positive
-stepped_row-requires-clause-positive c = pivots_positive (first_entry c.args.normal.now c.args.h) c.loop-j.pivots.rows c.args.normal.now.columns c.loop-j.d c.loop-j.factors c.loop-j.j c.loop-j.invariant.rows
+stepped_row-requires-clause-positive c = pivots_positive (first_entry c.args.normal.now c.args.h) c.loop-j.pivots.rows c.args.normal.now.columns c.loop-j.front.d c.loop-j.front.l c.loop-j.j c.loop-j.invariant.rows
 
 pub stepped_row-requires-clause-pivots : goal.stepped_row-requires-clause-pivots
-stepped_row-requires-clause-pivots c = pivot_sizes (first_entry c.args.normal.now c.args.h) c.loop-j.pivots.rows c.args.normal.now.columns c.loop-j.d c.loop-j.factors c.loop-j.j c.loop-j.invariant.rows
+stepped_row-requires-clause-pivots c = pivot_sizes (first_entry c.args.normal.now c.args.h) c.loop-j.pivots.rows c.args.normal.now.columns c.loop-j.front.d c.loop-j.front.l c.loop-j.j c.loop-j.invariant.rows
 
 pub keep-requires-clause-column_in : goal.keep-requires-clause-column_in
 keep-requires-clause-column_in c = inside c.args.normal.now c.loop-j.j c.loop-j-test.true
@@ -50,19 +49,21 @@ loop-j-preserved c =
     let f : ℤ = c.in-Some.kept in
     let v : ℤ = to_z w64 (of_z w64 c.in-Some.kept) in
     let ev : v ≡ f = as_w64 f (omega (arith, c.in-Some.ensures.size)) in
-    let room : j < length c.loop-j.d = omega (arith, c.loop-j.invariant.full, c.loop-j-test.true) in
+    let d : List ℤ = c.stepped_row.new.front.d in
+    let same : d ≡ c.loop-j.front.d = c.stepped_row.ensures.others.kept in
+    let full : length d ≡ 3 = ap (λ (s : List ℤ). length s) same ∙ c.loop-j.invariant.full in
+    let room : j < length d = omega (arith, full, c.loop-j-test.true) in
     record {
-      full = length-set c.loop-j.d j v ∙ c.loop-j.invariant.full;
-      rows = more_rows (first_entry c.args.normal.now c.args.h) c.loop-j.pivots.rows c.keep.new.self.rows c.args.normal.now.columns c.loop-j.d (set c.loop-j.d j v) c.loop-j.factors
-          c.stepped_row.new.factors j c.loop-j.invariant.rows
+      full = length-set d j v ∙ full;
+      rows = more_rows (first_entry c.args.normal.now c.args.h) c.loop-j.pivots.rows c.keep.new.self.rows c.args.normal.now.columns c.loop-j.front.d (set d j v) c.loop-j.front.l
+          c.stepped_row.new.front.l j c.loop-j.invariant.rows
           (λ i m d. c.keep.ensures.others i m d)
-          (λ i a. get_or-set_other c.loop-j.d j i v (pos 0) (omega arith))
-          (λ i m d. c.stepped_row.ensures.others i m d)
+          (λ i a. get_or-set_other d j i v (pos 0) (omega arith) ∙ ap (λ (s : List ℤ). slice_index_or s i (pos 0)) same)
+          (λ i m d. c.stepped_row.ensures.others.others i m d)
           (λ k h g. c.keep.ensures.row k h g ∙ c.stepped_row.ensures.value done k h g)
           (subst (λ (z : ℤ). int_lt z (pos (2 ^ 20)) ≡ false) (sym own) c.in-Some.ensures.strong)
           (c.stepped_row.ensures.factors done)
-          (get_or-set_same c.loop-j.d j v (pos 0) room ∙ ev ∙ c.in-Some.ensures.kept ∙ ap (λ (z : ℤ). kept (unsigned_abs z)) (sym own))
+          (get_or-set_same d j v (pos 0) room ∙ ev ∙ c.in-Some.ensures.kept ∙ ap (λ (z : ℤ). kept (unsigned_abs z)) (sym own))
           (c.stepped_row.ensures.small done);
-      below = c.stepped_row.ensures.below;
-      outside = c.stepped_row.ensures.outside;
+      columns = c.stepped_row.ensures.others.columns ∙ c.loop-j.invariant.columns;
     }

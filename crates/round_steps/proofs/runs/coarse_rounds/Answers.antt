@@ -1,11 +1,35 @@
-use Rattle.std.proofs.Common.{◌≡◌, ◌<◌, ◌≤◌, ◌+◌, ◌-◌, false, nat_eq, ℕ, List, ℤ, arith, subst}
+use Rattle.std.proofs.Common.{◌≡◌, ◌<◌, ◌≤◌, ◌+◌, ◌-◌, false, nat_eq, ℕ, List, map, All, ℤ, arith, subst, sym, ap, ◌∙◌}
 use Rattle.integer_form.specs.declared.form.Form.{Form}
+use Rattle.obs_rows.specs.declared.bands.Signals.{Signals}
 use Rattle.obs_rows.specs.declared.units.TheConstants.{COARSE_SCALE}
+use Rattle.obs_rows.specs.Signals.{fine_signals}
+use Rattle.obs_rows.specs.Unused.{HasUsedShifts}
+use Rattle.round_steps.specs.Shifts.{without_shifts}
 use Rattle.round_steps.specs.Steps.{IsCoarseStep, IsSettledForm, IsMoved}
 use Rattle.round_steps.specs.Runs.{Rules, IsSessionOf, coarse, most_rounds}
-use Rattle.round_steps.proofs.RunLaws.{session_at, one_more, coarse_settles, coarse_declines, coarse_moves}
-use Rattle.round_steps.proofs.SameRules.{stays_on, same_session}
+use Rattle.round_steps.proofs.RunLaws.{session_at, one_more, coarse_begins, coarse_settles, coarse_declines, coarse_moves}
+use Rattle.round_steps.proofs.SameRules.{stays, stays_on, same_session}
 use Rattle.round_steps.proofs.runs.coarse_rounds.Goals as goal
+
+pub rounds-init : goal.rounds-init
+rounds-init g c =
+    let rules : Rules = g.R.Rounds.rules c.args.rounds.now in
+    let none_made = c.requires.begins.fresh in
+    record {
+      so_far = coarse_begins rules (g.R.Rounds.made c.args.rounds.now) c.args.arcs.now c.args.base.now c.requires.begins;
+      rules = stays rules;
+      ready = c.requires.ready;
+      sessions = omega arith;
+    }
+
+pub session-requires-clause-arcs : goal.session-requires-clause-arcs
+session-requires-clause-arcs g c = ap (map without_shifts) (c.requires.begins.arcs_are ∙ sym c.rounds.invariant.rules.arcs)
+
+pub session-requires-clause-shifts : goal.session-requires-clause-shifts
+session-requires-clause-shifts g c = c.requires.begins.shifts_in
+
+pub session-requires-clause-used : goal.session-requires-clause-used
+session-requires-clause-used g c = subst (λ (signals : Signals). All (HasUsedShifts (fine_signals signals)) c.args.arcs.now) (sym c.rounds.invariant.rules.signals) c.requires.begins.used
 
 pub returns-in-Ok-None-clause-end : goal.returns-in-Ok-None-clause-end
 returns-in-Ok-None-clause-end g c =

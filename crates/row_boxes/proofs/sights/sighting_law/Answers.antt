@@ -4,12 +4,10 @@ use Rattle.rational.specs.Rational.{of_scale}
 use Rattle.iv_core.specs.declared.Iv.{Iv}
 use Rattle.iv_core.specs.Intervals.{Holds}
 use Rattle.iv_core.proofs.BoxLaws.{low_held}
-use Rattle.orbit_model.specs.SeenPlaces.{Place, HasSeenPlace, IsReceiverPlace}
+use Rattle.orbit_model.specs.SeenPlaces.{Place, HasSeenPlace, IsReceiverPlace, HoldsPlace, place_at}
 use Rattle.orbit_model.proofs.Exists.{seen_place_exists}
 use Rattle.obs_rows.specs.ReceiverPoints.{IsReceiverPoint}
-use Rattle.signal_travel.specs.Boxes.{HoldsPlace}
 use Rattle.signal_travel.proofs.Sights.{receiver_place}
-use Rattle.row_boxes.specs.Sightings.{place_at}
 use Rattle.row_boxes.proofs.sights.sighting_law.Goals as goal
 
 -- the lower ends

@@ -1,7 +1,7 @@
 use Rattle.std.proofs.Common.{◌≡◌, List, ℤ, sym, subst}
 use Rattle.std.specs.Cmp.Rules.{signed_items}
+use Rattle.orbit_model.specs.SeenPlaces.{place_at}
 use Rattle.screening.specs.BaseRanges.{HoldsRange}
-use Rattle.row_boxes.specs.Sightings.{place_at}
 use Rattle.row_build.proofs.halves.half_from.Goals as goal
 
 pub half_by_range-requires-clause-range : goal.half_by_range-requires-clause-range

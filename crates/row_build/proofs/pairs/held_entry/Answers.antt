@@ -4,7 +4,7 @@ use Rattle.std.proofs.lemmas.Option.{same_Some, slice_get-get_or, slice_get_with
 use Rattle.obs_rows.specs.declared.arcs.Arc.{Arc}
 use Rattle.slip_arcs.specs.Used.{is_used}
 use Rattle.row_build.specs.Entries.{IsEntry}
-use Rattle.row_build.proofs.ArcLaws.{held_sat, held_read}
+use Rattle.row_build.proofs.ArcLaws.{cut_sat, held_read}
 use Rattle.row_build.proofs.pairs.held_entry.Goals as goal
 
 pub bounds-from-number : goal.bounds-from-number
@@ -12,12 +12,14 @@ bounds-from-number c =
     let is_held = held_read c.args.from.now.arcs.now c.args.pair c.args.place c.args.held.now c.requires.held c.requires.inside in
     slice_get_within c.args.from.now.arcs.now (get_or c.args.held.now c.args.place 0) is_held.arc is_held.is
 
-pub entry_of-requires-clause-used : goal.entry_of-requires-clause-used
-entry_of-requires-clause-used c =
+pub entry_of-requires : goal.entry_of-requires
+entry_of-requires c =
     let arc_number : ℕ = get_or c.args.held.now c.args.place 0 in
     let is_held = held_read c.args.from.now.arcs.now c.args.pair c.args.place c.args.held.now c.requires.held c.requires.inside in
-    subst (λ (a : Arc). is_used c.args.from.now.screened.now.used a.sat c.args.pair ≡ true) (sym (get_or_from_slice_get c.args.from.now.arcs.now arc_number is_held.arc _ is_held.is))
-    (held_sat c.args.from.now.screened.now.used c.args.from.now.arcs.now arc_number c.args.pair is_held.arc c.requires.cut is_held.is is_held.held)
+    record {
+      used = subst (λ (a : Arc). is_used c.args.from.now.screened.now.used a.sat c.args.pair ≡ true) (sym (get_or_from_slice_get c.args.from.now.arcs.now arc_number is_held.arc _ is_held.is))
+          (cut_sat c.args.from.now.screened.now.used c.args.from.now.arcs.now arc_number c.args.pair is_held.arc c.args.from.now.cut is_held.is is_held.held);
+    }
 
 pub returns-then-place-eq0-clause-entry : goal.returns-then-place-eq0-clause-entry
 returns-then-place-eq0-clause-entry c = λ n a at is.

@@ -1,11 +1,14 @@
 use Rattle.std.proofs.Common.{◌≡◌, ℕ, ◌+◌, ◌^◌, ◌<◌, ◌≤◌, Some, List, take, length, get_or, ℤ, unsigned_abs, arith, to_z, of_z, sym, subst, subst₂, ap, ◌∙◌}
 use Rattle.std.specs.Prelude.{slice_get}
 use Rattle.std.specs.Int.{w64}
+use Rattle.std.proofs.Math.Logic.{∥∥₁_elim}
+use Rattle.std.proofs.Props.{props}
 use Rattle.std.proofs.lemmas.Option.{slice_get-get_or}
 use Rattle.obs_rows.specs.declared.rows.Row.{Row}
 use Rattle.obs_rows.specs.Rows.{AreBelow}
 use Rattle.obs_rows.specs.declared.limits.TheConstants.{MOST_SATELLITES}
 use Rattle.obs_rows.specs.declared.arcs.Arc.{Arc}
+use Rattle.slip_arcs.specs.Linked.{IsCutOf}
 use Rattle.screening.specs.declared.sv_pair.SvPair.{SvPair}
 use Rattle.row_build.specs.Entries.{IsEntry}
 use Rattle.row_build.specs.HeldArcs.{arcs_at, IsHeld}
@@ -50,7 +53,9 @@ row_at-requires-clause-entry c = λ a is.
 pub push-requires-clause-room : goal.push-requires-clause-room
 push-requires-clause-room c =
     let few_held : length c.args.held.now ≤ MOST_SATELLITES = subst (λ (xs : List ℕ). length xs ≤ MOST_SATELLITES) (sym c.requires.held)
-    (held_few c.args.from.now.screened.now.used c.args.from.now.arcs.now c.args.rows.number c.requires.cut c.args.from.now.screened.now.ranges c.requires.pair) in
+    (∥∥₁_elim c.args.from.now.cut (hlevel props)
+    (λ (cut : IsCutOf c.args.from.now.screened.now.used c.args.from.now.arcs.now).
+    held_few c.args.from.now.screened.now.used c.args.from.now.arcs.now c.args.rows.number cut c.args.from.now.screened.now.ranges c.requires.pair)) in
     few_so_far c.args.held.now c.loop-place.rows.rows c.loop-place.place c.loop-place.invariant.3.arcs c.loop-place-test.true few_held
 
 pub push-requires-clause-order : goal.push-requires-clause-order

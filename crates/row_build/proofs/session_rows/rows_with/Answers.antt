@@ -1,10 +1,13 @@
 use Rattle.std.proofs.Common.{◌≡◌, ℕ, All, length, List, arith, refl, sym, subst, ◌∙◌}
+use Rattle.std.proofs.Math.Logic.{∥∥₁_elim}
+use Rattle.std.proofs.Props.{props}
 use Rattle.obs_rows.specs.declared.arcs.Arc.{Arc}
 use Rattle.obs_rows.specs.declared.pair_rows.PairRows.{PairRows}
 use Rattle.obs_rows.specs.declared.bands.Signals.{Signals}
 use Rattle.obs_rows.specs.Pairs.{IsAfter, HasItsArcs}
 use Rattle.obs_rows.specs.Signals.{fine_signals}
 use Rattle.obs_rows.specs.Unused.{HasUsedRows, HasUsedShifts}
+use Rattle.slip_arcs.specs.Linked.{IsCutOf}
 use Rattle.row_build.specs.Rows.{setting_from}
 use Rattle.row_build.specs.PairRows.{ArePairRows}
 use Rattle.row_build.specs.SessionRows.{AreSessionRows}
@@ -14,10 +17,10 @@ use Rattle.row_build.proofs.UnusedLaws.{used_rows}
 use Rattle.row_build.proofs.session_rows.rows_with.Goals as goal
 
 pub new-session-requires-clause-base : goal.new-session-requires-clause-base
-new-session-requires-clause-base c = receiver_is_point c.args.from.now.base.now c.requires.base
+new-session-requires-clause-base c = receiver_is_point c.args.from.now.base.now c.args.from.now.base_in
 
 pub new-session-requires-clause-point : goal.new-session-requires-clause-point
-new-session-requires-clause-point c = receiver_is_point c.args.from.now.point.now c.requires.point
+new-session-requires-clause-point c = receiver_is_point c.args.from.now.point.now c.args.from.now.point_in
 
 pub add_pair-requires-clause-order : goal.add_pair-requires-clause-order
 add_pair-requires-clause-order c =
@@ -48,12 +51,12 @@ loop-pair-preserved c =
     let setting = setting_from c.args.from.now c.args.scale in
     let session_so_far = c.loop-pair.invariant in
     let pair_added = c.add_pair.ensures in (
-      pair_added.scale ∙ session_so_far.0,
-      pair_added.system ∙ session_so_far.1,
-      pair_added.base ∙ session_so_far.2,
-      pair_added.point ∙ session_so_far.3,
-      pair_added.signals ∙ session_so_far.4,
-      pair_added.arcs ∙ session_so_far.5,
+      pair_added.head.scale ∙ session_so_far.0,
+      pair_added.head.system ∙ session_so_far.1,
+      pair_added.head.base ∙ session_so_far.2,
+      pair_added.head.point ∙ session_so_far.3,
+      pair_added.head.signals ∙ session_so_far.4,
+      pair_added.head.arcs ∙ session_so_far.5,
       with_listed setting c.loop-pair.pair c.loop-pair.session.pairs c.add_pair.new.session.pairs c.in_ok-rows.rows session_so_far.6 c.in_ok-rows.ensures.none
           (some_at c.in_ok-rows.rows (λ (p : PairRows). ArePairRows setting c.loop-pair.pair p) c.in_ok-rows.ensures.rows) c.in_ok-add_pair.ensures.added,
     )
@@ -62,5 +65,7 @@ pub finish-requires : goal.finish-requires
 finish-requires c =
     let setting = setting_from c.args.from.now c.args.scale in
     let all_pairs_done : c.loop-pair.pair ≡ length c.args.from.now.screened.now.used = omega arith in
-    some_pair c.args.from.now.screened.now.used c.args.from.now.arcs.now setting c.loop-pair.session.pairs refl c.requires.cut c.requires.arcs.some
-    (subst (λ (n : ℕ). AreSessionRows setting n c.loop-pair.session.pairs) all_pairs_done c.loop-pair.invariant.6)
+    let rows : AreSessionRows setting (length c.args.from.now.screened.now.used) c.loop-pair.session.pairs =
+    subst (λ (n : ℕ). AreSessionRows setting n c.loop-pair.session.pairs) all_pairs_done c.loop-pair.invariant.6 in
+    ∥∥₁_elim c.args.from.now.cut (hlevel props) (λ (cut : IsCutOf c.args.from.now.screened.now.used c.args.from.now.arcs.now).
+    some_pair c.args.from.now.screened.now.used c.args.from.now.arcs.now setting c.loop-pair.session.pairs refl cut c.requires.arcs.some rows)

@@ -4,7 +4,7 @@ use Rattle.obs_rows.specs.declared.arcs.Arc.{Arc}
 use Rattle.row_build.specs.HeldArcs.{holds_pair}
 use Rattle.row_build.specs.Rows.{setting_from}
 use Rattle.row_build.specs.Shifts.{AreFirstShifts}
-use Rattle.row_build.proofs.ArcLaws.{not_empty, held_sat}
+use Rattle.row_build.proofs.ArcLaws.{not_empty, cut_sat}
 use Rattle.row_build.proofs.shifts.shift_with.Goals as goal
 
 pub first_shifts-requires-clause-held : goal.first_shifts-requires-clause-held
@@ -12,7 +12,7 @@ first_shifts-requires-clause-held c = not_empty c.args.from.now.arcs.now 0 c.arg
     (slice_get-get_or c.args.from.now.arcs.now c.args.arc _ c.requires.arc) (sym c.holds.ensures ∙ c.if-holds.true)
 
 pub first_shifts-requires-clause-used : goal.first_shifts-requires-clause-used
-first_shifts-requires-clause-used c = held_sat c.args.from.now.screened.now.used c.args.from.now.arcs.now c.args.arc c.args.pair _ c.requires.cut
+first_shifts-requires-clause-used c = cut_sat c.args.from.now.screened.now.used c.args.from.now.arcs.now c.args.arc c.args.pair _ c.args.from.now.cut
     (slice_get-get_or c.args.from.now.arcs.now c.args.arc _ c.requires.arc)
     (sym c.holds.ensures ∙ c.if-holds.true)
 

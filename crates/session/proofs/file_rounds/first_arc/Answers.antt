@@ -1,9 +1,11 @@
-use Rattle.std.proofs.Common.{◌≡◌, ◌<◌, ◌^◌, ℕ, false, List, [], length, Some, get_or, arith, refl, sym, ap, ◌∙◌, subst}
+use Rattle.std.proofs.Common.{◌≡◌, ◌<◌, ◌≤◌, ◌^◌, ℕ, false, List, [], length, Some, get_or, arith, refl, sym, ap, ◌∙◌, subst}
 use Rattle.std.specs.Prelude.{slice_get, pos}
 use Rattle.std.proofs.lemmas.Bool.{false≢true}
 use Rattle.std.proofs.lemmas.Option.{slice_get-get_or, get_or_from_slice_get}
 use Rattle.obs_rows.specs.declared.arcs.Arc.{Arc}
+use Rattle.obs_rows.specs.declared.limits.TheConstants.{MOST_ARCS}
 use Rattle.row_boxes.specs.declared.pseudoranges.Pseudorange.{Pseudorange}
+use Rattle.slip_arcs.specs.Linked.{IsCutOf}
 use Rattle.row_build.specs.Halves.{AreBaseHalves}
 use Rattle.row_build.specs.Rows.{setting}
 use Rattle.row_build.specs.HeldArcs.{holds_pair}
@@ -21,11 +23,6 @@ shift_with-requires-clause-pair c =
     subst (λ (l : List Arc). (get_or l c.args.k unread).first < length c.args.files.now.screened.used) (sym c.as_slice-kept.ensures)
     (first_inside c.args.files.now.screened.used kept c.args.k (get_or kept c.args.k unread) c.requires.cut c.args.files.now.screened.numbered
     (slice_get-get_or kept c.args.k unread c.requires.inside))
-
-pub shift_with-requires-clause-halves : goal.shift_with-requires-clause-halves
-shift_with-requires-clause-halves c =
-    let files = c.args.files.now in
-    subst (λ (halves : List Pseudorange). AreBaseHalves files.screened.boxes files.position halves) (sym c.as_slice.ensures.value) c.requires.halves
 
 pub returns-in-Some-clause-same : goal.returns-in-Some-clause-same
 returns-in-Some-clause-same c = λ a at.
@@ -74,4 +71,13 @@ pub returns-in-None-clause-size : goal.returns-in-None-clause-size
 returns-in-None-clause-size c = three_below (pos 0) (pos 0) (pos 0) (2 ^ 39) (omega arith) (omega arith) (omega arith)
 
 pub invariant_of-from : goal.invariant_of-from
-invariant_of-from c = record { sights_hold = no_sights c.args.files.now.screened.boxes c.args.point.now }
+invariant_of-from c =
+    let files = c.args.files.now in
+    record {
+      cut = ∣ subst (λ (arcs : List Arc). IsCutOf files.screened.used arcs) (sym c.as_slice-kept.ensures) c.requires.cut ∣₁;
+      few = subst (λ (arcs : List Arc). length arcs ≤ MOST_ARCS) (sym c.as_slice-kept.ensures) c.requires.arcs.few;
+      base_in = c.requires.base;
+      point_in = c.requires.point;
+      halves_hold = ∣ subst (λ (halves : List Pseudorange). AreBaseHalves files.screened.boxes files.position halves) (sym c.as_slice.ensures.value) c.requires.halves ∣₁;
+      sights_hold = no_sights files.screened.boxes c.args.point.now;
+    }

@@ -1,4 +1,4 @@
-use Rattle.std.proofs.Common.{◌≤◌, ◌^◌, ◌⊎◌, ℕ, Bool, IsTrue, List, length, All, sym, ap, ◌∙◌, subst}
+use Rattle.std.proofs.Common.{◌≤◌, ◌^◌, ◌⊎◌, ℕ, Bool, IsTrue, List, length, All, refl, sym, ap, ◌∙◌, subst}
 use Rattle.obs_rows.specs.declared.arcs.Arc.{Arc}
 use Rattle.obs_rows.specs.Ranges.{IsSystem}
 use Rattle.obs_rows.specs.Signals.{fine_signals}
@@ -35,22 +35,22 @@ few_kept f cut = kept_few f.screened.used f.kept cut f.screened.ranges f.screene
 pub outcome-requires-clause-few_arcs : goal.outcome-requires-clause-few_arcs
 outcome-requires-clause-few_arcs c = subst (λ (l : List Arc). length l ≤ MOST_KEPT_ARCS) (sym c.as_slice-kept.ensures) (few_kept c.args.run.now.rounds c.requires.is.cut)
 
-pub outcome-requires-clause-base : goal.outcome-requires-clause-base
-outcome-requires-clause-base c = sym c.requires.is.screened.position_is
-
-pub outcome-requires-clause-point : goal.outcome-requires-clause-point
-outcome-requires-clause-point c = c.requires.is.position_is.in_reach
+pub outcome-requires-clause-begins : goal.outcome-requires-clause-begins
+outcome-requires-clause-begins c =
+    let rounds = c.args.run.now.rounds in
+    let is_screened = c.requires.is in
+    let none_shifted = is_screened.screened.arcs_are.shifts in
+    record {
+      fresh = refl;
+      base_is = sym is_screened.screened.position_is;
+      arcs_are = c.as_slice-kept.ensures;
+      base_in = is_screened.position_is.in_reach;
+      shifts_in = subst (AreShiftsBelow (2 ^ 40)) (sym c.as_slice-kept.ensures) (no_shifts rounds.kept none_shifted);
+      used = subst (All (HasUsedShifts (fine_signals rounds.signals))) (sym c.as_slice-kept.ensures) (none_unused (fine_signals rounds.signals) rounds.kept none_shifted);
+    }
 
 pub outcome-requires-clause-few : goal.outcome-requires-clause-few
 outcome-requires-clause-few c = c.requires.is.few
-
-pub outcome-requires-clause-shifts : goal.outcome-requires-clause-shifts
-outcome-requires-clause-shifts c = subst (AreShiftsBelow (2 ^ 40)) (sym c.as_slice-kept.ensures) (no_shifts c.args.run.now.rounds.kept c.requires.is.screened.arcs_are.shifts)
-
-pub outcome-requires-clause-used : goal.outcome-requires-clause-used
-outcome-requires-clause-used c =
-    let rounds = c.args.run.now.rounds in
-    subst (All (HasUsedShifts (fine_signals rounds.signals))) (sym c.as_slice-kept.ensures) (none_unused (fine_signals rounds.signals) rounds.kept c.requires.is.screened.arcs_are.shifts)
 
 pub returns-clause-outcome : goal.returns-clause-outcome
 returns-clause-outcome c = λ base rover nav is.

@@ -6,7 +6,7 @@ use Rattle.orbit_clock.specs.Records.{constants_of, elements_of}
 use Rattle.orbit_model.specs.SeenPlaces.{range_of, sent_place}
 use Rattle.orbit_exists.proofs.Ranges.{near}
 use Rattle.sim_session.specs.Observed.{distance}
-use Rattle.sim_session.proofs.Solutions.{placed, code_cast}
+use Rattle.sim_session.proofs.Solutions.{code_cast}
 use Rattle.sim_session.proofs.passes.distance_at.Goals as goal
 
 pub returns : goal.returns
@@ -24,7 +24,7 @@ returns c =
     (sym (code_cast c.args.code c.requires.code_low c.requires.code_high)) is) in
     let solution = near eph world c.args.tag.0 c.args.code c.requires.near c.requires.code_low c.requires.code_high in
     let quantities : Quantities = solution.quantities in
-    let seen = c.seen_from-seen.ensures.exists x y z (sent_place quantities) point_is (placed c.sv_with-satellite.result.place quantities (held quantities solution.is).place) in
+    let seen = c.seen_from-seen.ensures.exists x y z (sent_place quantities) point_is (held quantities solution.is).place in
     record {
       some = distance seen.travel quantities.clock;
       exists = record {
@@ -43,5 +43,5 @@ returns c =
           let q : Quantities = is.solution in
           let within = held q is.is_solution in
           rw is.distance_is (c.distance_of.ensures (range_of is.travel) q.clock
-          (c.seen_from-seen.ensures.range is.x is.y is.z (sent_place q) is.seen is.travel is.point_is (placed c.sv_with-satellite.result.place q within.place) is.is_seen) within.clock);
+          (c.seen_from-seen.ensures.range is.x is.y is.z (sent_place q) is.seen is.travel is.point_is within.place is.is_seen) within.clock);
     }

@@ -8,11 +8,8 @@ use Rattle.track_rows.proofs.PairSessions.{is_there}
 use Rattle.row_build.proofs.HalfLaws.{no_sights}
 use Rattle.track_rows.proofs.rows.rows_of.Goals as goal
 
-pub pair_rows_with-requires-clause-cut : goal.pair_rows_with-requires-clause-cut
-pair_rows_with-requires-clause-cut c = cut_along c.args.files.now.screened.now.used c.args.files.now.kept.now c.args.arcs.now c.requires.same c.requires.ready.cut
-
 pub unwrap-requires : goal.unwrap-requires
-unwrap-requires c = is_there c.in_ok-rows.rows (λ none. some_held c.args.files.now.kept.now c.args.arcs.now c.args.pair c.requires.same c.requires.enough (c.in_ok-rows.ensures.none.0 none))
+unwrap-requires c = is_there c.in_ok-rows.rows (λ none. some_held c.args.files.now.kept.now c.args.arcs.now c.args.pair c.requires.may.same c.requires.enough (c.in_ok-rows.ensures.none.0 none))
 
 pub returns-clause-rows : goal.returns-clause-rows
 returns-clause-rows c =
@@ -25,4 +22,14 @@ returns-in_err-rows-clause-far c = λ e.
     c.in_err-rows.ensures.overwidth (cc (answered.1, answered.2, e))
 
 pub invariant_of-from : goal.invariant_of-from
-invariant_of-from c = record { sights_hold = no_sights c.args.files.now.screened.now.boxes c.args.point.now }
+invariant_of-from c =
+    let may = c.requires.may in
+    let ready = may.ready in
+    record {
+      cut = ∣ cut_along c.args.files.now.screened.now.used c.args.files.now.kept.now c.args.arcs.now may.same ready.cut ∣₁;
+      few = may.arcs_are.few;
+      base_in = ready.position_in;
+      point_in = c.requires.point;
+      halves_hold = ∣ ready.halves ∣₁;
+      sights_hold = no_sights c.args.files.now.screened.now.boxes c.args.point.now;
+    }

@@ -14,14 +14,17 @@ use Rattle.track_rows.specs.PairRules.{TrackSetting, rows_setting, setting_of}
 use Rattle.track_rows.proofs.PairSessions.{made_session}
 use Rattle.track_rows.proofs.rows.session_of.Goals as goal
 
+pub new-session-requires-clause-system : goal.new-session-requires-clause-system
+new-session-requires-clause-system c = c.requires.may.ready.system_is
+
 pub new-session-requires-clause-base : goal.new-session-requires-clause-base
-new-session-requires-clause-base c = receiver_is_point c.args.files.now.position c.requires.ready.position_in
+new-session-requires-clause-base c = receiver_is_point c.args.files.now.position c.requires.may.ready.position_in
 
 pub new-session-requires-clause-point : goal.new-session-requires-clause-point
 new-session-requires-clause-point c = receiver_is_point c.args.point.now c.requires.point
 
 pub new-session-requires-clause-arcs : goal.new-session-requires-clause-arcs
-new-session-requires-clause-arcs c = subst AreArcs (sym (c.new-held.ensures ∙ c.in_ok-from_slice.ensures.items)) c.requires.arcs
+new-session-requires-clause-arcs c = subst AreArcs (sym (c.new-held.ensures ∙ c.in_ok-from_slice.ensures.items)) c.requires.may.arcs_are
 
 pub new-session-requires-clause-shifts : goal.new-session-requires-clause-shifts
 new-session-requires-clause-shifts c =
@@ -45,14 +48,14 @@ returns-clause-session c =
     let pushed = c.push.ensures in
     let new = c.new-session.ensures in
     made_session (setting_of c.args.files.now) c.args.pair c.args.scale c.args.point.now c.args.arcs.now c.in_ok-rows.rows c.finish.result
-    (made.scale ∙ pushed.scale ∙ new.scale)
-    (made.system ∙ pushed.system ∙ new.system)
-    (made.base ∙ pushed.base ∙ new.base)
-    (made.point ∙ pushed.point ∙ new.point)
-    (made.signals ∙ pushed.signals ∙ new.signals)
-    (made.arcs ∙ pushed.arcs ∙ new.arcs ∙ c.new-held.ensures ∙ c.in_ok-from_slice.ensures.items)
+    (made.head.scale ∙ pushed.head.scale ∙ new.scale)
+    (made.head.system ∙ pushed.head.system ∙ new.system)
+    (made.head.base ∙ pushed.head.base ∙ new.base)
+    (made.head.point ∙ pushed.head.point ∙ new.point)
+    (made.head.signals ∙ pushed.head.signals ∙ new.signals)
+    (made.head.arcs ∙ pushed.head.arcs ∙ new.arcs ∙ c.new-held.ensures ∙ c.in_ok-from_slice.ensures.items)
     (made.pairs ∙ c.in_ok-push.ensures.added ∙ ap (λ (l : List PairRows). l ++ c.in_ok-rows.rows ∷ []) new.pairs)
-    c.requires.same c.in_ok-rows.ensures.rows
+    c.requires.may.same c.in_ok-rows.ensures.rows
 
 pub returns-in_err-rows-clause-far : goal.returns-in_err-rows-clause-far
 returns-in_err-rows-clause-far c = λ e.

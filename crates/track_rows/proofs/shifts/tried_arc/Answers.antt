@@ -49,4 +49,13 @@ returns-in-Some-clause-used c =
     (c.in-Some.ensures.near (get_or kept c.args.k no_arc) (slice_get-get_or kept c.args.k no_arc inside)).unused
 
 pub invariant_of-from : goal.invariant_of-from
-invariant_of-from c = record { sights_hold = no_sights c.args.files.now.screened.now.boxes c.args.point.now }
+invariant_of-from c =
+    let ready = c.requires.ready in
+    record {
+      cut = ∣ ready.cut ∣₁;
+      few = ready.arcs.few;
+      base_in = ready.position_in;
+      point_in = c.requires.point;
+      halves_hold = ∣ ready.halves ∣₁;
+      sights_hold = no_sights c.args.files.now.screened.now.boxes c.args.point.now;
+    }

@@ -14,10 +14,10 @@ use Rattle.track_rows.proofs.TriedArcs.{more_tried, same_tried, all_tried, keeps
 use Rattle.track_rows.proofs.shifts.tried_arcs.Goals as goal
 
 pub tried_arc-requires-clause-as_many : goal.tried_arc-requires-clause-as_many
-tried_arc-requires-clause-as_many c = length_same c.args.files.now.kept.now c.args.arcs.now c.requires.same
+tried_arc-requires-clause-as_many c = length_same c.args.files.now.kept.now c.args.arcs.now c.requires.may.same
 
 pub tried_arc-requires-clause-small : goal.tried_arc-requires-clause-small
-tried_arc-requires-clause-small c = shifts_in_range c.args.arcs.now c.requires.arcs
+tried_arc-requires-clause-small c = shifts_in_range c.args.arcs.now c.requires.may.arcs_are
 
 pub loop-k-preserved : goal.loop-k-preserved
 loop-k-preserved c =
@@ -35,7 +35,7 @@ loop-k-preserved c =
 pub returns-clause-tried : goal.returns-clause-tried
 returns-clause-tried c =
     let setting : TrackSetting = setting_of c.args.files.now in
-    all_tried setting c.args.arcs.now (flagged c.args.begun.now) c.args.pair c.args.point.now c.loop-k.k c.loop-k.tried.items c.requires.same (omega arith) c.loop-k.invariant.tried
+    all_tried setting c.args.arcs.now (flagged c.args.begun.now) c.args.pair c.args.point.now c.loop-k.k c.loop-k.tried.items c.requires.may.same (omega arith) c.loop-k.invariant.tried
 
 pub returns-clause-others : goal.returns-clause-others
 returns-clause-others c =
@@ -47,5 +47,5 @@ returns-clause-arcs c =
     let setting : TrackSetting = setting_of c.args.files.now in
     let all_arcs_done : c.loop-k.k ≡ length c.args.arcs.now = omega arith in
     arcs_along setting.kept c.loop-k.tried.items
-    (same_tried setting c.args.arcs.now (flagged c.args.begun.now) c.args.pair c.args.point.now c.loop-k.k c.loop-k.tried.items c.requires.same all_arcs_done c.loop-k.invariant.tried)
-    c.requires.ready.arcs c.loop-k.invariant.small
+    (same_tried setting c.args.arcs.now (flagged c.args.begun.now) c.args.pair c.args.point.now c.loop-k.k c.loop-k.tried.items c.requires.may.same all_arcs_done c.loop-k.invariant.tried)
+    c.requires.may.ready.arcs c.loop-k.invariant.small

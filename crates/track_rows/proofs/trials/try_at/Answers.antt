@@ -1,6 +1,8 @@
-use Rattle.std.proofs.Common.{List, Err, ap, subst}
+use Rattle.std.proofs.Common.{List, Err, sym, ap, subst}
 use Rattle.obs_rows.specs.declared.arcs.Arc.{Arc}
+use Rattle.obs_rows.specs.Arcs.{AreArcs}
 use Rattle.obs_rows.specs.Signals.{fine_signals}
+use Rattle.round_steps.specs.Shifts.{AreSameArcs}
 use Rattle.row_build.specs.PairRows.{ArePairRows}
 use Rattle.row_build.specs.Far.{HasFarRow}
 use Rattle.row_build.proofs.SessionLaws.{has_arcs}
@@ -10,6 +12,17 @@ use Rattle.track_rows.specs.Trials.{IsTried, flagged}
 use Rattle.track_rows.proofs.KeptArcs.{has_kept}
 use Rattle.track_rows.proofs.Outcomes.{is_tried, lost_far, lost_weak, lost_wide, tracked_by, fits_track, rows_there}
 use Rattle.track_rows.proofs.trials.try_at.Goals as goal
+
+pub rows_of-requires-clause-may : goal.rows_of-requires-clause-may
+rows_of-requires-clause-may c =
+    let may = c.requires.may in
+    let tried = c.in_ok-tried.ensures in
+    record {
+      ready = may.ready;
+      arcs_are = subst AreArcs (sym c.as_slice.ensures.value) tried.arcs;
+      same = subst (AreSameArcs c.args.files.now.kept.now) (sym c.as_slice.ensures.value) tried.tried.same;
+      pair_in = may.pair_in;
+    }
 
 pub fill-requires-clause-arcs : goal.fill-requires-clause-arcs
 fill-requires-clause-arcs c =

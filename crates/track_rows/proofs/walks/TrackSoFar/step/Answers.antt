@@ -1,11 +1,24 @@
 use Rattle.std.proofs.Common.{Bool, List, sym, ◌∙◌, subst}
 use Rattle.std.proofs.lemmas.Result.{on_ok_weaker}
 use Rattle.obs_rows.specs.declared.arcs.Arc.{Arc}
+use Rattle.obs_rows.specs.Arcs.{AreArcs}
+use Rattle.round_steps.specs.Shifts.{AreSameArcs}
 use Rattle.round_steps.proofs.ShiftLaws.{length_same}
 use Rattle.track_rows.specs.declared.trials.Trial.{Trial}
 use Rattle.track_rows.specs.PairRules.{setting_of}
 use Rattle.track_rows.specs.Trials.{IsTrialOf, Fits, flagged}
 use Rattle.track_rows.proofs.walks.TrackSoFar.step.Goals as goal
+
+pub try_pair-requires-clause-may : goal.try_pair-requires-clause-may
+try_pair-requires-clause-may c =
+    let walked = c.requires.walked in
+    let same_arcs = sym c.as_slice-arcs.ensures.value in
+    record {
+      ready = c.requires.ready;
+      arcs_are = subst AreArcs same_arcs walked.fit.arcs_in;
+      same = subst (AreSameArcs c.args.files.now.kept.now) same_arcs walked.is_track.same;
+      pair_in = c.requires.pair;
+    }
 
 pub track-requires : goal.track-requires
 track-requires c =
