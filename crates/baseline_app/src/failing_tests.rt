@@ -1,10 +1,9 @@
 //! A run of `fix` on a simulated session, each of whose calls on the world fails once.
-use crate::tests::{Fails, Ran, expect_run, named, run_over};
+use crate::tests::{Fails, Ran, ended_with, named, run_over};
 use job_answers::Status;
 use line_source::MemFiles;
 use sim_session::{Made, make};
 use std::alloc::{AllocError, Global};
-use std::test::Fail;
 
 const ROOM: usize = 8_000_000;
 
@@ -67,63 +66,119 @@ fn are_in_turn(names: &[usize]) -> bool {
         && names.iter().all(|name| *name < 3)
 }
 
-// Each file is opened and read in turn, so the calls that fail name B, then R, then N, until no call is left.
-#[test]
-fn each_call_on_the_files_fails(rt: HostRuntime) -> Result<(), Fail> {
-    let alloc = rt.alloc();
+// The run of which no call fails.
+fn whole_run(alloc: Global, made: &Made) -> Result<Ran, AllocError> {
+    run_fix(alloc, made, ROOM, Fails::none(alloc))
+}
+
+// Whether the run of which that call is to fail ends as if none failed.
+fn is_whole_at(alloc: Global, made: &Made, call: u64) -> Result<bool, AllocError> {
+    let whole = whole_run(alloc, made)?;
+    let ran = run_failing_at(alloc, made, call)?;
+    let is_same = ended_with(&ran, Status::Done, whole.out.bytes(), whole.err.bytes());
+    Ok(whole.status == Status::Done && is_same)
+}
+
+// Whether each file is opened and read in turn, so that the calls that fail name B, then R, then N, until no call is left.
+fn fails_in_turn(alloc: Global) -> Result<bool, AllocError> {
     let made = make(alloc, 1, 60, 8, 12, b'G')?;
     let names = reported_names(alloc, &made)?;
-    assert!(rt; are_in_turn(&names));
-    let whole = run_fix(alloc, &made, ROOM, Fails::none(alloc))?;
-    let ran = run_failing_at(alloc, &made, names.len() as u64)?;
-    assert_eq!(rt; whole.status, Status::Done);
-    expect_run(
-        &rt,
-        &ran,
-        Status::Done,
-        whole.out.bytes(),
-        whole.err.bytes(),
-    );
-    Ok(())
+    Ok(are_in_turn(&names) && is_whole_at(alloc, &made, names.len() as u64)?)
+}
+
+#[test]
+fn each_call_on_the_files_fails(rt: HostRuntime) {
+    assert!(rt; matches!(fails_in_turn(rt.alloc()), Ok(true)));
+}
+
+/// Sinks that fail, and what the run ends with.
+#[derive(Drop)]
+struct SinkRow<'a> {
+    /// The room for out.
+    room: usize,
+    /// The calls of out and of err that fail.
+    out: Option<u64>,
+    err: Option<u64>,
+    status: Status,
+    /// How much of the text is written, and what is reported.
+    written: usize,
+    reports: &'a [u8],
 }
 
 const WRITE_FAULT: &[u8] = b"write fault\n";
 
-#[test]
-fn each_sink_fails(rt: HostRuntime) -> Result<(), Fail> {
-    let alloc = rt.alloc();
-    let made = make(alloc, 1, 60, 8, 12, b'G')?;
-    let whole = run_fix(alloc, &made, ROOM, Fails::none(alloc))?;
-    let (text, reports) = (whole.out.bytes(), whole.err.bytes());
-    // the room for out, the calls of out and of err that fail; then the status, how much of the text is written, and what is reported.
-    // The last row's calls are never made.
-    let rows = [
-        (7, None, None, Status::WriteFault, 7, WRITE_FAULT),
-        (100, None, None, Status::WriteFault, 100, WRITE_FAULT),
-        (4096, None, None, Status::WriteFault, 4096, WRITE_FAULT),
-        (ROOM, Some(0), None, Status::WriteFault, 0, WRITE_FAULT),
-        (
-            ROOM,
-            None,
-            Some(0),
-            Status::WriteFault,
-            text.len(),
-            b"".as_slice(),
-        ),
-        (
-            ROOM,
-            Some(text.len() as u64),
-            Some(1),
-            Status::Done,
-            text.len(),
-            reports,
-        ),
-    ];
-    for row in rows.iter() {
-        let (room, out, err, status, written, reports) = *row;
-        let ran = run_fix(alloc, &made, room, Fails::at(alloc, None, out, err)?)?;
-        let written = text.get(..written).ok_or("a short text")?;
-        expect_run(&rt, &ran, status, written, reports);
+// Out without room for more than this much.
+fn without_room(room: usize) -> SinkRow<'static> {
+    SinkRow {
+        room,
+        out: None,
+        err: None,
+        status: Status::WriteFault,
+        written: room,
+        reports: WRITE_FAULT,
     }
-    Ok(())
+}
+
+// Of a run with this text and these reports. The last row's calls are never made.
+fn sink_rows<'a>(text: &[u8], reports: &'a [u8]) -> [SinkRow<'a>; 6] {
+    [
+        without_room(7),
+        without_room(100),
+        without_room(4096),
+        SinkRow {
+            room: ROOM,
+            out: Some(0),
+            err: None,
+            status: Status::WriteFault,
+            written: 0,
+            reports: WRITE_FAULT,
+        },
+        SinkRow {
+            room: ROOM,
+            out: None,
+            err: Some(0),
+            status: Status::WriteFault,
+            written: text.len(),
+            reports: b"",
+        },
+        SinkRow {
+            room: ROOM,
+            out: Some(text.len() as u64),
+            err: Some(1),
+            status: Status::Done,
+            written: text.len(),
+            reports,
+        },
+    ]
+}
+
+fn ends_so(alloc: Global, made: &Made, text: &[u8], row: &SinkRow<'_>) -> Result<bool, AllocError> {
+    let fails = Fails::at(alloc, None, row.out, row.err)?;
+    let ran = run_fix(alloc, made, row.room, fails)?;
+    match text.get(..row.written) {
+        Some(written) => Ok(ended_with(&ran, row.status, written, row.reports)),
+        None => Ok(false),
+    }
+}
+
+// The first row whose run ends otherwise.
+fn first_fault(alloc: Global, made: &Made, whole: &Ran) -> Option<usize> {
+    let text = whole.out.bytes();
+    for (at, row) in sink_rows(text, whole.err.bytes()).iter().enumerate() {
+        if !matches!(ends_so(alloc, made, text, row), Ok(true)) {
+            return Some(at);
+        }
+    }
+    None
+}
+
+fn sink_fault(alloc: Global) -> Result<Option<usize>, AllocError> {
+    let made = make(alloc, 1, 60, 8, 12, b'G')?;
+    let whole = whole_run(alloc, &made)?;
+    Ok(first_fault(alloc, &made, &whole))
+}
+
+#[test]
+fn each_sink_fails(rt: HostRuntime) {
+    assert!(rt; matches!(sink_fault(rt.alloc()), Ok(None)));
 }

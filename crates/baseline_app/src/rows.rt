@@ -1,5 +1,5 @@
 //! Rows of tables: runs on the file F, whose text is written out, and what they end with.
-use crate::tests::{Fails, Ran, USAGE, run_on};
+use crate::tests::{Fails, Ran, USAGE, ended_with, run_on};
 use job_answers::Status;
 use std::alloc::{AllocError, Global};
 use std::str;
@@ -36,10 +36,6 @@ pub(crate) fn push_lines(text: &mut Vec<u8>, lines: &[&str]) -> Result<(), Alloc
         text.push(b'\n')?;
     }
     Ok(())
-}
-
-fn ended_with(ran: &Ran, status: Status, out: &[u8], err: &[u8]) -> bool {
-    ran.status == status && ran.out.bytes() == out && ran.err.bytes() == err
 }
 
 // Whether these lines alone came, with this status.

@@ -5,8 +5,6 @@ use crate::top::run;
 use job_answers::Status;
 use line_source::{Files, MemFiles, MemSink, Named, load};
 use std::alloc::{AllocError, Global};
-use std::process::Abort;
-use std::test::Fail;
 
 pub(crate) const USAGE: &[u8] =
     b"usage: baseline fix|check|residuals|zero|list|orbit|arcs|sim|migrate|track|check-track WORDS\n";
@@ -117,9 +115,9 @@ pub(crate) fn run_on(
     run_over(alloc, words, &mut files, room, 7, fails.out, fails.err)
 }
 
-pub(crate) fn expect_run(rt: &impl Abort, ran: &Ran, status: Status, out: &[u8], err: &[u8]) {
-    let found = (ran.status, ran.out.bytes(), ran.err.bytes());
-    assert_eq!(rt; found, (status, out, err));
+// Whether a run ended with this status, and wrote these texts.
+pub(crate) fn ended_with(ran: &Ran, status: Status, out: &[u8], err: &[u8]) -> bool {
+    ran.status == status && ran.out.bytes() == out && ran.err.bytes() == err
 }
 
 // A run on the file F: the command, the text, the room for out, the calls of the files, of out and of err that fail, and what comes
@@ -134,41 +132,41 @@ pub(crate) struct Case {
     pub(crate) err: &'static [u8],
 }
 
-pub(crate) fn expect_cases(rt: &impl Abort, alloc: Global, cases: &[Case]) -> Result<(), Fail> {
-    for case in cases {
-        let [files, out, err] = case.fails;
-        let fails = Fails::at(alloc, files, out, err)?;
-        let ran = run_on(alloc, &[case.command, "F"], case.text, case.room, fails)?;
-        expect_run(rt, &ran, case.status, case.out, case.err);
-    }
-    Ok(())
+// Whether the run of a case ends as it says.
+pub(crate) fn is_so(alloc: Global, case: &Case) -> Result<bool, AllocError> {
+    let [files, out, err] = case.fails;
+    let fails = Fails::at(alloc, files, out, err)?;
+    let ran = run_on(alloc, &[case.command, "F"], case.text, case.room, fails)?;
+    Ok(ended_with(&ran, case.status, case.out, case.err))
+}
+
+static WRONG_WORDS: [&[&str]; 3] = [&["zero", "F", "F"], &["zero"], &["fix", "a", "b"]];
+
+// Whether the words are told to be wrong before any call on the files, the first of which fails and is still to come.
+fn opens_no_file(alloc: Global, words: &[&str]) -> Result<bool, AllocError> {
+    let mut files = files_of(alloc, "F", b"", vec![in alloc; 0]?)?;
+    let ran = run_over(
+        alloc,
+        words,
+        &mut files,
+        1000,
+        7,
+        Vec::new(alloc),
+        Vec::new(alloc),
+    )?;
+    let is_told = ended_with(&ran, Status::Usage, b"", USAGE);
+    Ok(is_told && load(alloc, &mut files, "F").is_err())
 }
 
 #[test]
-fn wrong_words_open_no_file(rt: HostRuntime) -> Result<(), Fail> {
-    let alloc = rt.alloc();
-    let rows = [["zero", "F", "F"].as_slice(), &["zero"], &["fix", "a", "b"]];
-    for row in rows {
-        let mut files = files_of(alloc, "F", b"", vec![in alloc; 0]?)?;
-        let ran = run_over(
-            alloc,
-            row,
-            &mut files,
-            1000,
-            7,
-            Vec::new(alloc),
-            Vec::new(alloc),
-        )?;
-        expect_run(&rt, &ran, Status::Usage, b"", USAGE);
-        // the first call on the files is the one that fails, and it is still to come
-        assert!(rt; load(alloc, &mut files, "F").is_err());
+fn wrong_words_open_no_file(rt: HostRuntime) {
+    for words in WRONG_WORDS.iter() {
+        assert!(rt; matches!(opens_no_file(rt.alloc(), *words), Ok(true)));
     }
-    Ok(())
 }
 
-#[test]
-fn an_empty_name_is_reported(rt: HostRuntime) -> Result<(), Fail> {
-    let alloc = rt.alloc();
+// Whether the line about a file without a name is the one of any file.
+fn is_reported(alloc: Global) -> Result<bool, AllocError> {
     let mut files = files_of(alloc, "", b"zero 1\nz 2\n", Vec::new(alloc))?;
     let ran = run_over(
         alloc,
@@ -180,8 +178,12 @@ fn an_empty_name_is_reported(rt: HostRuntime) -> Result<(), Fail> {
         Vec::new(alloc),
     )?;
     let line = b"refused:  line 3 column 1: bad line\n";
-    expect_run(&rt, &ran, Status::Refused, b"", line);
-    Ok(())
+    Ok(ended_with(&ran, Status::Refused, b"", line))
+}
+
+#[test]
+fn an_empty_name_is_reported(rt: HostRuntime) {
+    assert!(rt; matches!(is_reported(rt.alloc()), Ok(true)));
 }
 
 const ROWS: &[u8] = b"zero 1\nz 1\ndiff 61\ndiff 59\ndiff 63\n";
@@ -227,8 +229,10 @@ static FILE_CALLS: [Case; 4] = [
 ];
 
 #[test]
-fn each_call_on_the_files_fails(rt: HostRuntime) -> Result<(), Fail> {
-    expect_cases(&rt, rt.alloc(), &FILE_CALLS)
+fn each_call_on_the_files_fails(rt: HostRuntime) {
+    for case in FILE_CALLS.iter() {
+        assert!(rt; matches!(is_so(rt.alloc(), case), Ok(true)));
+    }
 }
 
 static SINK_CALLS: [Case; 5] = [
@@ -280,6 +284,8 @@ static SINK_CALLS: [Case; 5] = [
 ];
 
 #[test]
-fn each_call_on_a_sink_fails(rt: HostRuntime) -> Result<(), Fail> {
-    expect_cases(&rt, rt.alloc(), &SINK_CALLS)
+fn each_call_on_a_sink_fails(rt: HostRuntime) {
+    for case in SINK_CALLS.iter() {
+        assert!(rt; matches!(is_so(rt.alloc(), case), Ok(true)));
+    }
 }

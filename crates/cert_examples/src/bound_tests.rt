@@ -6,14 +6,13 @@ ghost use Rattle.obs_rows.specs.Pairs.{HasItsArcs};
 
 use crate::bound_texts::{GALILEO, MIGRATED, TEN_EPOCHS, THREE_BANDS, TRACK};
 use crate::real_text::REAL;
+use crate::texts::cert_of;
 use cert_data::{Cert, Tail};
-use cert_text::read_cert;
+use line_source::MAX_FILE;
 use obs_rows::{
     Arc, PairRows, Session, Signals, fine_signals, free_arcs, has_its_arcs, integer_count,
 };
 use std::alloc::Global;
-use std::process::Abort;
-use std::test::Fail;
 use track_data::{TrackCert, TrackTail};
 use track_text::read_track;
 use vector_bound::{
@@ -21,7 +20,7 @@ use vector_bound::{
 };
 
 // In 2^-5 ι, and in hundredths of a millimetre.
-type Bounds = Option<(i64, i64)>;
+type Bounds = (Option<i64>, Option<i64>);
 
 // Whether all are below the limit in size.
 fn are_below(numbers: &[i64], limit: u64) -> bool
@@ -44,8 +43,8 @@ fn have_their_arcs(arcs: &[Arc], pairs: &[PairRows]) -> bool
     pairs.iter().all(|pair| has_its_arcs(arcs, pair))
 }
 
-// Of a session, or None where the calls aren't allowed.
-fn bounds_of(session: &Session, h: u32, z: &[i64], moved: &[i64; 3], top: i128) -> Bounds {
+// Of a session, or nothing where the calls aren't allowed.
+fn bounds_of(session: &Session, h: u32, z: &[i64], moved: &[i64; 3], top: i128) -> Option<Bounds> {
     let arcs = session.arcs.as_slice();
     if session.scale != 0 || h > 77 || !are_below(z, 1 << 30) || !are_below(moved, 1 << 46) {
         return None;
@@ -53,29 +52,29 @@ fn bounds_of(session: &Session, h: u32, z: &[i64], moved: &[i64; 3], top: i128) 
     if z.len() != integer_count(arcs, fine_signals(session.signals)) {
         return None;
     }
-    let units = move_bound(session, h, z, moved, top)?;
-    Some((units, vector_bound(session, h, z, moved, top)?))
+    let units = move_bound(session, h, z, moved, top);
+    Some((units, vector_bound(session, h, z, moved, top)))
 }
 
-// Of one pair of a track, or None where the calls aren't allowed.
+// Of one pair of a track, or nothing where the calls aren't allowed.
 fn pair_bounds(
     arcs: &[Arc],
     signals: Signals,
     pair: &PairRows,
     z: &[i64],
     moved: &[i64; 3],
-) -> Bounds {
+) -> Option<Bounds> {
     if free_arcs(arcs) > 20 || z.len() != integer_count(arcs, fine_signals(signals)) {
         return None;
     }
     if !has_its_arcs(arcs, pair) || !are_below(z, 1 << 30) || !are_below(moved, 1 << 46) {
         return None;
     }
-    let units = pair_move_bound(arcs, signals, pair, z, moved)?;
-    Some((units, pair_vector_bound(arcs, signals, pair, z, moved)?))
+    let units = pair_move_bound(arcs, signals, pair, z, moved);
+    Some((units, pair_vector_bound(arcs, signals, pair, z, moved)))
 }
 
-// The greatest in hundredths of a millimetre of a track's pairs, or None where the call isn't allowed.
+// The greatest in hundredths of a millimetre of a track's pairs, or nothing where the call isn't allowed.
 fn greatest_bound(
     arcs: &[Arc],
     signals: Signals,
@@ -95,13 +94,8 @@ fn greatest_bound(
     track_vector_bound(arcs, signals, pairs, z, moves)
 }
 
-// Of the certificate of this text.
-fn found(rt: &impl Abort, alloc: Global, text: &str) -> Bounds {
-    assert!(rt; text.len() <= 67_108_864);
-    let cert = match read_cert(alloc, text.as_bytes()) {
-        Ok(cert) => cert,
-        Err(_) => panic!(rt; "refused"),
-    };
+// Of a certificate that is fixed.
+fn bounds_in(cert: &Cert) -> Option<Bounds> {
     match &cert.tail {
         Tail::Fixed {
             h,
@@ -109,57 +103,52 @@ fn found(rt: &impl Abort, alloc: Global, text: &str) -> Bounds {
             best,
             top,
         } => bounds_of(&cert.session, *h, &best.first[..best.size], moved, *top),
-        _ => panic!(rt; "not fixed"),
+        _ => None,
+    }
+}
+
+static VECTORS: [(&str, i64, i64); 5] = [
+    (TEN_EPOCHS, 7, 4),
+    (MIGRATED, 7, 4),
+    (REAL, 6, 3),
+    (THREE_BANDS, 17, 8),
+    (GALILEO, 8, 4),
+];
+
+// Whether these are the bounds of the text's certificate.
+fn are_bounds(alloc: Global, text: &str, units: i64, hundredths: i64) -> bool {
+    match cert_of(alloc, text) {
+        Some(cert) => bounds_in(&cert) == Some((Some(units), Some(hundredths))),
+        None => false,
     }
 }
 
 #[test]
-fn bounds_vectors(rt: HostRuntime) -> Result<(), Fail> {
-    let alloc = rt.alloc();
-    assert_eq!(rt; found(&rt, alloc, TEN_EPOCHS), Some((7, 4)));
-    assert_eq!(rt; found(&rt, alloc, MIGRATED), Some((7, 4)));
-    assert_eq!(rt; found(&rt, alloc, REAL), Some((6, 3)));
-    assert_eq!(rt; found(&rt, alloc, THREE_BANDS), Some((17, 8)));
-    assert_eq!(rt; found(&rt, alloc, GALILEO), Some((8, 4)));
-    Ok(())
-}
-
-// The certificate of the track.
-fn track_of(rt: &impl Abort, alloc: Global) -> TrackCert {
-    assert!(rt; TRACK.len() <= 67_108_864);
-    match read_track(alloc, TRACK.as_bytes()) {
-        Ok(cert) => cert,
-        Err(_) => panic!(rt; "refused"),
+fn bounds_vectors(rt: HostRuntime) {
+    for row in VECTORS.iter() {
+        assert!(rt; are_bounds(rt.alloc(), row.0, row.1, row.2));
     }
 }
 
-// Of a pair of the track, at its move with this much more in each coordinate.
-fn found_of_pair(rt: &impl Abort, cert: &TrackCert, k: usize, more: i64) -> Bounds {
+// Of a pair of the track, at its move with this much more in each coordinate; nothing where the calls aren't allowed.
+fn found_of_pair(cert: &TrackCert, k: usize, more: i64) -> Option<Bounds> {
     let track = &cert.track;
-    let (arcs, pairs) = (track.arcs.as_slice(), track.pairs.as_slice());
-    match &cert.tail {
-        TrackTail::Fixed { moves, best, .. } => {
-            let moves = moves.as_slice();
-            assert!(rt; k < pairs.len() && k < moves.len());
-            let [a, b, c] = moves[k];
-            let moved = [
-                a.wrapping_add(more),
-                b.wrapping_add(more),
-                c.wrapping_add(more),
-            ];
-            pair_bounds(
-                arcs,
-                track.signals,
-                &pairs[k],
-                &best.first[..best.size],
-                &moved,
-            )
-        }
-        _ => panic!(rt; "not fixed"),
-    }
+    let TrackTail::Fixed { moves, best, .. } = &cert.tail else {
+        return None;
+    };
+    let pair = track.pairs.as_slice().get(k)?;
+    let [a, b, c] = *moves.as_slice().get(k)?;
+    let moved = [
+        a.wrapping_add(more),
+        b.wrapping_add(more),
+        c.wrapping_add(more),
+    ];
+    let first = &best.first[..best.size];
+    pair_bounds(track.arcs.as_slice(), track.signals, pair, first, &moved)
 }
 
-fn greatest_of(rt: &impl Abort, cert: &TrackCert) -> Option<i64> {
+// Of all pairs of the track.
+fn greatest_of(cert: &TrackCert) -> Option<i64> {
     let track = &cert.track;
     let (arcs, pairs) = (track.arcs.as_slice(), track.pairs.as_slice());
     match &cert.tail {
@@ -167,19 +156,46 @@ fn greatest_of(rt: &impl Abort, cert: &TrackCert) -> Option<i64> {
             let first = &best.first[..best.size];
             greatest_bound(arcs, track.signals, pairs, first, moves.as_slice())
         }
-        _ => panic!(rt; "not fixed"),
+        _ => None,
     }
 }
 
-// The vector of the same session has 13. A kilometre from its move a pair has none, since its residuals are too large.
+// A pair, how much its move is more, and its bounds. A kilometre from its move a pair has none, since its residuals are too large.
+static PAIRS: [(usize, i64, Bounds); 5] = [
+    (0, 0, (Some(5), Some(3))),
+    (1, 0, (Some(9), Some(4))),
+    (2, 0, (Some(12), Some(6))),
+    (3, 0, (Some(13), Some(6))),
+    (0, 1 << 28, (None, None)),
+];
+
+// Whether each pair has its bounds, and which the greatest is. The vector of the same session has 13.
+fn are_pairs_bounded(cert: &TrackCert) -> bool {
+    for row in PAIRS.iter() {
+        if found_of_pair(cert, row.0, row.1) != Some(row.2) {
+            return false;
+        }
+    }
+    greatest_of(cert) == Some(6)
+}
+
+// The certificate of the track.
+fn track_cert(alloc: Global) -> Option<TrackCert> {
+    if TRACK.len() > MAX_FILE {
+        return None;
+    }
+    read_track(alloc, TRACK.as_bytes()).ok()
+}
+
+// Whether this holds of it.
+fn is_track_bounded(alloc: Global) -> bool {
+    match track_cert(alloc) {
+        Some(cert) => are_pairs_bounded(&cert),
+        None => false,
+    }
+}
+
 #[test]
-fn bounds_pairs(rt: HostRuntime) -> Result<(), Fail> {
-    let cert = track_of(&rt, rt.alloc());
-    assert_eq!(rt; found_of_pair(&rt, &cert, 0, 0), Some((5, 3)));
-    assert_eq!(rt; found_of_pair(&rt, &cert, 1, 0), Some((9, 4)));
-    assert_eq!(rt; found_of_pair(&rt, &cert, 2, 0), Some((12, 6)));
-    assert_eq!(rt; found_of_pair(&rt, &cert, 3, 0), Some((13, 6)));
-    assert_eq!(rt; found_of_pair(&rt, &cert, 0, 1 << 28), None);
-    assert_eq!(rt; greatest_of(&rt, &cert), Some(6));
-    Ok(())
+fn bounds_pairs(rt: HostRuntime) {
+    assert!(rt; is_track_bounded(rt.alloc()));
 }

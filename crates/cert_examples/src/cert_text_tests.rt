@@ -1,8 +1,8 @@
 //! Certificates that are read and written again.
-use cert_text::{Version, read_as, read_cert, write_cert};
+use crate::texts::{cert_of, text_of, text_of_both};
+use cert_text::{Cert, Version, read_as, write_cert};
+use line_source::MAX_FILE;
 use std::alloc::{AllocError, Global};
-use std::process::Abort;
-use std::test::Fail;
 
 // The head, the arcs and the pairs of a small certificate of two satellites in one pair.
 const SMALL: [&str; 14] = [
@@ -34,50 +34,37 @@ const NEAR: [&str; 5] = [
 
 const FIXED: [&str; 5] = ["z1 0 0", "z2 0 1", "move 0 0 0", "values 35 0 0 0", "fixed"];
 
-fn push_lines(text: &mut String, lines: &[&str]) -> Result<(), AllocError> {
-    for line in lines {
-        text.push_str(line)?;
-        text.push('\n')?;
-    }
-    Ok(())
-}
-
-fn text_of(alloc: Global, front: &[&str], back: &[&str]) -> Result<String, AllocError> {
-    let mut text = String::new(alloc);
-    push_lines(&mut text, front)?;
-    push_lines(&mut text, back)?;
-    Ok(text)
-}
-
-// The text, read and written again.
-fn again(rt: &impl Abort, alloc: Global, text: &str) -> Result<Vec<u8>, AllocError> {
-    assert!(rt; text.len() <= 67_108_864);
+// The text of a certificate, or none where there is none.
+fn written(alloc: Global, cert: Option<Cert>) -> Result<Vec<u8>, AllocError> {
     let mut out = Vec::new(alloc);
-    match read_cert(alloc, text.as_bytes()) {
-        Ok(cert) => write_cert(alloc, &mut out, &cert)?,
-        Err(_) => panic!(rt; "refused"),
+    if let Some(cert) = &cert {
+        write_cert(alloc, &mut out, cert)?;
     }
     Ok(out)
 }
 
-fn gives_back(rt: &impl Abort, alloc: Global, tail: &[&str]) -> Result<(), AllocError> {
-    let text = text_of(alloc, &SMALL, tail)?;
-    let out = again(rt, alloc, &text)?;
-    assert!(rt; out.as_slice() == text.as_bytes());
-    Ok(())
+// Whether the text of these lines is read and written again as it is.
+fn is_given_back(alloc: Global, front: &[&str], back: &[&str]) -> Result<bool, AllocError> {
+    let text = text_of_both(alloc, front, back)?;
+    let out = written(alloc, cert_of(alloc, &text))?;
+    Ok(out.as_slice() == text.as_bytes())
 }
 
+static TAILS: [&[&str]; 7] = [
+    &WEAK,
+    &FIXED,
+    &NEAR,
+    &["declined overwidth fine y"],
+    &["declined overwidth fine search"],
+    &["declined unsettled fine -70368744177663"],
+    &["declined spent 1000"],
+];
+
 #[test]
-fn gives_texts_back(rt: HostRuntime) -> Result<(), Fail> {
-    let alloc = rt.alloc();
-    gives_back(&rt, alloc, &WEAK)?;
-    gives_back(&rt, alloc, &FIXED)?;
-    gives_back(&rt, alloc, &NEAR)?;
-    gives_back(&rt, alloc, &["declined overwidth fine y"])?;
-    gives_back(&rt, alloc, &["declined overwidth fine search"])?;
-    gives_back(&rt, alloc, &["declined unsettled fine -70368744177663"])?;
-    gives_back(&rt, alloc, &["declined spent 1000"])?;
-    Ok(())
+fn gives_texts_back(rt: HostRuntime) {
+    for tail in TAILS.iter() {
+        assert!(rt; matches!(is_given_back(rt.alloc(), &SMALL, *tail), Ok(true)));
+    }
 }
 
 // A certificate of the bands L1 and L5 of Galileo.
@@ -123,15 +110,9 @@ const ALL_BANDS: [&str; 19] = [
 ];
 
 #[test]
-fn gives_other_bands_back(rt: HostRuntime) -> Result<(), Fail> {
-    let alloc = rt.alloc();
-    let two = text_of(alloc, &OTHER_BANDS, &[])?;
-    let out = again(&rt, alloc, &two)?;
-    assert!(rt; out.as_slice() == two.as_bytes());
-    let three = text_of(alloc, &ALL_BANDS, &[])?;
-    let out = again(&rt, alloc, &three)?;
-    assert!(rt; out.as_slice() == three.as_bytes());
-    Ok(())
+fn gives_other_bands_back(rt: HostRuntime) {
+    assert!(rt; matches!(is_given_back(rt.alloc(), &OTHER_BANDS, &[]), Ok(true)));
+    assert!(rt; matches!(is_given_back(rt.alloc(), &ALL_BANDS, &[]), Ok(true)));
 }
 
 // The same certificate in the form of the first version.
@@ -152,17 +133,23 @@ const OLD: [&str; 14] = [
     "declined weak fine 0 -6",
 ];
 
-#[test]
-fn reads_the_first_version(rt: HostRuntime) -> Result<(), Fail> {
-    let alloc = rt.alloc();
-    let old = text_of(alloc, &OLD, &[])?;
-    assert!(rt; old.len() <= 67_108_864);
-    let mut out = Vec::new(alloc);
-    match read_as(alloc, Version::One, old.as_bytes()) {
-        Ok(cert) => write_cert(alloc, &mut out, &cert)?,
-        Err(_) => panic!(rt; "refused"),
+// The certificate of a text of the first version, if it is one.
+fn old_cert_of(alloc: Global, text: &str) -> Option<Cert> {
+    if text.len() > MAX_FILE {
+        return None;
     }
-    let new = text_of(alloc, &SMALL, &WEAK)?;
-    assert!(rt; out.as_slice() == new.as_bytes());
-    Ok(())
+    read_as(alloc, Version::One, text.as_bytes()).ok()
+}
+
+// Whether it is written in the second form.
+fn is_renewed(alloc: Global) -> Result<bool, AllocError> {
+    let old = text_of(alloc, &[&OLD])?;
+    let new = text_of(alloc, &[&SMALL, &WEAK])?;
+    let out = written(alloc, old_cert_of(alloc, &old))?;
+    Ok(out.as_slice() == new.as_bytes())
+}
+
+#[test]
+fn reads_the_first_version(rt: HostRuntime) {
+    assert!(rt; matches!(is_renewed(rt.alloc()), Ok(true)));
 }

@@ -1,4 +1,44 @@
-//! Certificates, in parts.
+//! Certificates, in parts, and what is made of their lines.
+use cert_text::{Cert, read_cert};
+use line_source::MAX_FILE;
+use std::alloc::{AllocError, Global};
+
+fn push_lines(text: &mut String, lines: &[&str]) -> Result<(), AllocError> {
+    for line in lines {
+        text.push_str(line)?;
+        text.push('\n')?;
+    }
+    Ok(())
+}
+
+// The text of these lines.
+pub(crate) fn text_of(alloc: Global, parts: &[&[&str]]) -> Result<String, AllocError> {
+    let mut text = String::new(alloc);
+    for lines in parts {
+        push_lines(&mut text, *lines)?;
+    }
+    Ok(text)
+}
+
+// The text of the lines of two parts.
+pub(crate) fn text_of_both(
+    alloc: Global,
+    front: &[&str],
+    back: &[&str],
+) -> Result<String, AllocError> {
+    let mut text = String::new(alloc);
+    push_lines(&mut text, front)?;
+    push_lines(&mut text, back)?;
+    Ok(text)
+}
+
+// The certificate of a text, if it is one.
+pub(crate) fn cert_of(alloc: Global, text: &str) -> Option<Cert> {
+    if text.len() > MAX_FILE {
+        return None;
+    }
+    read_cert(alloc, text.as_bytes()).ok()
+}
 
 // Six epochs of five satellites, between the line of the budget and that of the values.
 pub(crate) const SESSION: [&str; 50] = [

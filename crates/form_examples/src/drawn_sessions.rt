@@ -1,11 +1,11 @@
 //! Sessions drawn by chance, which an independent model draws in the same way.
-ghost use Rattle.std.specs.Prelude.{◌<◌};
-
-use gps_time::Tick;
+use crate::row_numbers::{
+    L1_AND_L2, L1_AND_L5, NoSession, THREE_BANDS, arc, empty_pair, finished, push_pair, push_row,
+    session_with, with_rows,
+};
 use obs_rows::{
-    Arc, ArcList, COARSE_SIGNALS, PairBuilder, PairRows, ROW_EXPONENT, Row, SIGNALS, Session,
-    SessionBuilder, Signals, WAVELENGTHS, are_arcs, fine_signals, has_its_arcs, has_used_rows,
-    has_used_shifts, is_point, phase_count,
+    Arc, COARSE_SIGNALS, PairRows, ROW_EXPONENT, Row, SIGNALS, Session, SessionBuilder, Signals,
+    WAVELENGTHS, fine_signals, phase_count,
 };
 use std::alloc::{AllocError, Global};
 
@@ -39,33 +39,11 @@ fn draw(state: &mut u64, most: u32) -> i64 {
     ((*state >> 33) % (2 * most as u64 + 1)) as i64 - most as i64
 }
 
-pub(crate) fn arc(sat: u8, datum: bool, last: u32) -> Arc {
-    Arc {
-        sat,
-        first: 0,
-        last,
-        datum,
-        shift: [0; 3],
-    }
-}
-
 pub(crate) fn signals_of(bands: u16) -> Signals {
     match bands {
-        15 => Signals {
-            l1: b'C',
-            l2: 0,
-            l5: b'Q',
-        },
-        125 => Signals {
-            l1: b'C',
-            l2: b'W',
-            l5: b'Q',
-        },
-        _ => Signals {
-            l1: b'C',
-            l2: b'W',
-            l5: 0,
-        },
+        15 => L1_AND_L5,
+        125 => THREE_BANDS,
+        _ => L1_AND_L2,
     }
 }
 
@@ -112,6 +90,14 @@ fn drawn_row(
     Row::new(k as u16, y, case.ry, u, [32; 3])
 }
 
+fn drawn_clocks(state: &mut u64, signals: Signals) -> [i64; SIGNALS] {
+    let mut clocks = [0; SIGNALS];
+    for s in fine_signals(signals) {
+        clocks[*s] = draw(state, 1 << 20);
+    }
+    clocks
+}
+
 fn drawn_pair(
     alloc: Global,
     state: &mut u64,
@@ -119,135 +105,91 @@ fn drawn_pair(
     case: Case,
     z: &[i64],
     moved: &[i64; 3],
-) -> Result<Option<PairRows>, AllocError>
-    requires { number < 3600 }
-{
-    let mut clock = [0; SIGNALS];
-    for s in fine_signals(signals_of(case.bands)) {
-        clock[*s] = draw(state, 1 << 20);
-    }
-    let mut pair = PairBuilder::new(alloc, number, Tick(13_881_024_000_000_000), 0);
+) -> Result<PairRows, NoSession> {
+    let clocks = drawn_clocks(state, signals_of(case.bands));
+    let mut pair = empty_pair(alloc, number)?;
     for k in 0..case.arcs {
-        let Some(row) = drawn_row(state, k, case, &clock, z, moved) else {
-            return Ok(None);
-        };
-        if pair.rows.len() >= 15 || !pair.may_follow(row.arc) {
-            return Ok(None);
-        }
-        pair.push(row)?;
+        push_row(&mut pair, drawn_row(state, k, case, &clocks, z, moved))?;
     }
-    if pair.rows.is_empty() {
-        return Ok(None);
-    }
-    Ok(Some(pair.finish()))
+    with_rows(pair)
 }
 
-fn builder(alloc: Global, arcs: Vec<Arc>, signals: Signals) -> Option<SessionBuilder> {
-    let base = [63_781_370_000, 0, 0];
-    if !are_arcs(&arcs) || !is_point(&base) {
-        return None;
-    }
-    if !arcs.iter().all(|a| has_used_shifts(signals, a)) {
-        return None;
-    }
-    Some(SessionBuilder::new(alloc, 0, b'G', base, base, signals, ArcList::new(arcs)))
+fn later_row(row: &Row, by: i64) -> Option<Row> {
+    let mut y = row.y;
+    y[COARSE_SIGNALS[0]] = y[COARSE_SIGNALS[0]].wrapping_add(by);
+    Row::new(row.arc, y, row.ry, row.u, row.ru)
 }
 
 // The same rows with the L1 code's y greater by `by`, as by the receivers' clocks.
-fn later_pair(alloc: Global, pair: &PairRows, by: i64) -> Result<Option<PairRows>, AllocError> {
-    let mut later = PairBuilder::new(alloc, pair.number, pair.tag, 0);
+fn later_pair(alloc: Global, pair: &PairRows, by: i64) -> Result<PairRows, NoSession> {
+    let mut later = empty_pair(alloc, pair.number)?;
     for row in pair.rows.as_slice() {
-        let mut y = row.y;
-        y[COARSE_SIGNALS[0]] = y[COARSE_SIGNALS[0]].wrapping_add(by);
-        let Some(row) = Row::new(row.arc, y, row.ry, row.u, row.ru) else {
-            return Ok(None);
-        };
-        if later.rows.len() >= 15 || !later.may_follow(row.arc) {
-            return Ok(None);
-        }
-        later.push(row)?;
+        push_row(&mut later, later_row(row, by))?;
     }
-    if later.rows.is_empty() {
-        return Ok(None);
-    }
-    Ok(Some(later.finish()))
+    with_rows(later)
 }
 
 pub(crate) fn later_session(
     alloc: Global,
     session: &Session,
     by: i64,
-) -> Result<Option<Session>, AllocError> {
-    let mut arcs = Vec::new(alloc);
-    for arc in session.arcs.as_slice() {
-        arcs.push(*arc)?;
-    }
-    let Some(mut later) = builder(alloc, arcs, session.signals) else {
-        return Ok(None);
-    };
+) -> Result<Session, NoSession> {
+    let arcs = session.arcs.as_slice().to_vec(alloc)?;
+    let mut later = session_with(alloc, 0, session.signals, arcs)?;
     for pair in session.pairs.as_slice() {
-        let Some(pair) = later_pair(alloc, pair, by)? else {
-            return Ok(None);
-        };
-        if !push(&mut later, pair)? {
-            return Ok(None);
+        push_pair(&mut later, later_pair(alloc, pair, by)?)?;
+    }
+    finished(later)
+}
+
+fn drawn_arcs(alloc: Global, case: Case) -> Result<Vec<Arc>, AllocError> {
+    let mut arcs = Vec::new(alloc);
+    for k in 0..case.arcs {
+        arcs.push(arc(k.wrapping_add(1), k == 0, case.pairs.wrapping_sub(1)))?;
+    }
+    Ok(arcs)
+}
+
+// The integers of the arcs after the first, which is the datum.
+fn drawn_integers(alloc: Global, state: &mut u64, case: Case) -> Result<Vec<i64>, AllocError> {
+    let phases = phase_count(fine_signals(signals_of(case.bands)));
+    let mut z = Vec::new(alloc);
+    for _ in 1..case.arcs {
+        for _ in 0..phases {
+            z.push(draw(state, 9))?;
         }
     }
-    if later.pairs.is_empty() {
-        return Ok(None);
-    }
-    Ok(Some(later.finish()))
+    Ok(z)
 }
 
-fn push(session: &mut SessionBuilder, pair: PairRows) -> Result<bool, AllocError> {
-    if !session.may_follow(pair.number) || !has_its_arcs(session.arcs.as_slice(), &pair) {
-        return Ok(false);
+fn push_drawn(
+    alloc: Global,
+    state: &mut u64,
+    session: &mut SessionBuilder,
+    case: Case,
+    z: &[i64],
+    moved: &[i64; 3],
+) -> Result<(), NoSession> {
+    for number in 0..case.pairs {
+        push_pair(session, drawn_pair(alloc, state, number, case, z, moved)?)?;
     }
-    if !has_used_rows(fine_signals(session.signals), &pair) {
-        return Ok(false);
-    }
-    session.push(pair)?;
-    Ok(true)
+    Ok(())
 }
 
-pub(crate) fn drawn_session(alloc: Global, case: Case) -> Result<Option<Made>, AllocError> {
+pub(crate) fn drawn_session(alloc: Global, case: Case) -> Result<Made, NoSession> {
     let mut state = case.seed;
-    let signals = signals_of(case.bands);
     let moved = [
         draw(&mut state, 20_000),
         draw(&mut state, 20_000),
         draw(&mut state, 20_000),
     ];
-    let mut arcs = Vec::new(alloc);
-    let mut z = Vec::new(alloc);
-    for k in 0..case.arcs {
-        arcs.push(arc(k.wrapping_add(1), k == 0, case.pairs.wrapping_sub(1)))?;
-        if k > 0 {
-            for _ in 0..phase_count(fine_signals(signals)) {
-                z.push(draw(&mut state, 9))?;
-            }
-        }
-    }
-    let Some(mut session) = builder(alloc, arcs, signals) else {
-        return Ok(None);
-    };
-    for number in 0..case.pairs {
-        if number >= 3600 {
-            return Ok(None);
-        }
-        let Some(pair) = drawn_pair(alloc, &mut state, number, case, &z, &moved)? else {
-            return Ok(None);
-        };
-        if !push(&mut session, pair)? {
-            return Ok(None);
-        }
-    }
-    if session.pairs.is_empty() {
-        return Ok(None);
-    }
-    Ok(Some(Made {
-        session: session.finish(),
+    let z = drawn_integers(alloc, &mut state, case)?;
+    let arcs = drawn_arcs(alloc, case)?;
+    let mut session = session_with(alloc, 0, signals_of(case.bands), arcs)?;
+    push_drawn(alloc, &mut state, &mut session, case, &z, &moved)?;
+    Ok(Made {
+        session: finished(session)?,
         z,
         moved,
-    }))
+    })
 }

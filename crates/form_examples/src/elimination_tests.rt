@@ -13,9 +13,9 @@ fn eliminates_the_first_of_two_columns(rt: HostRuntime) {
     table.set(1, 1, 1 << 30);
     let mut factors = FactorTable::zeros();
     let mut kept = [0; MOST_FACTORS];
-    let is_taken = take_steps(&mut table, &mut factors, &mut kept, 0, 1, 2).is_ok();
-    let found = (is_taken, kept[0], factors.at(1, 0), table.at(1, 1));
-    assert_eq!(rt; found, (true, 1073740800, 536870912, 805306366));
+    assert!(rt; take_steps(&mut table, &mut factors, &mut kept, 0, 1, 2).is_ok());
+    assert!(rt; kept[0] == 1073740800 && factors.at(1, 0) == 536870912);
+    assert!(rt; table.at(1, 1) == 805306366);
 }
 
 // What is kept of one pivot, or where the steps stop.
@@ -35,8 +35,8 @@ fn kept_of(pivot: i128) -> Result<i64, (usize, i128, StepFault)>
 // A pivot below 2^20 is weak, and one at it is not.
 #[test]
 fn stops_at_a_weak_pivot(rt: HostRuntime) {
-    assert_eq!(rt; kept_of(-6), Err((0, -6, StepFault::Weak)));
-    assert_eq!(rt; kept_of(1 << 20), Ok((1 << 20) - 1));
+    assert!(rt; kept_of(-6) == Err((0, -6, StepFault::Weak)));
+    assert!(rt; kept_of(1 << 20) == Ok((1 << 20) - 1));
 }
 
 // Three columns, the last two beside each other over a pivot of 2^20: what p · q / a is to the nearest.
@@ -52,13 +52,13 @@ fn other_entry(p: i128, q: i128) -> Option<i128> {
     table.set(2, 2, 1 << 51);
     let mut factors = FactorTable::zeros();
     let mut kept = [0; MOST_FACTORS];
-    let taken = take_steps(&mut table, &mut factors, &mut kept, 0, 1, 3);
-    taken.ok().map(|()| table.at(1, 2).wrapping_neg())
+    take_steps(&mut table, &mut factors, &mut kept, 0, 1, 3).ok()?;
+    Some(table.at(1, 2).wrapping_neg())
 }
 
 const HALF: i128 = 1 << 19;
 
-// Two entries, and the quotient. The share of the first entry in the pivot is below 1024 or not, and the quotient lies on either side
+// Two entries, and the quotient. The first entry is at most twice the pivot or not, and the quotient lies on either side
 // of a half or at it.
 static QUOTIENTS: [(i128, i128, i128); 9] = [
     (1, HALF, 1),
@@ -73,9 +73,9 @@ static QUOTIENTS: [(i128, i128, i128); 9] = [
 ];
 
 #[test]
-fn rounds_to_the_nearest_by_any_share(rt: HostRuntime) {
+fn rounds_to_the_nearest_by_any_quotient(rt: HostRuntime) {
     for row in QUOTIENTS.iter() {
         let (p, q, want) = *row;
-        assert_eq!(rt; other_entry(p, q), Some(want), "of {p} and {q}");
+        assert!(rt; other_entry(p, q) == Some(want));
     }
 }

@@ -2,21 +2,19 @@
 ghost use Rattle.std.specs.Prelude.{◌↔◌, IsTrue, All};
 ghost use Rattle.obs_rows.specs.Ranges.{IsBelow};
 
-use crate::drawn_sessions::{Case, arc, drawn_session, later_session, signals_of};
+use crate::drawn_sessions::{Case, Made, drawn_session, later_session, signals_of};
+use crate::row_numbers::{NoSession, arc, empty_pair, push_row, with_rows};
 use elimination::finish;
 use fix_decide::{Decision, decide, integer_of, is_separated, pair_upper, upper_sum};
 use form_tables::FormTable;
-use gps_time::Tick;
 use int_search::two_best;
 use integer_form::{Form, FrontForm, Overwidth, Place};
 use lower_form::lower;
 use normal_sum::sum;
 use obs_rows::{
-    Arc, PairBuilder, PairRows, Row, SIGNALS, Session, fine_signals, free_arcs, has_its_arcs,
-    integer_count,
+    Arc, PairRows, Row, SIGNALS, Session, fine_signals, free_arcs, has_its_arcs, integer_count,
 };
 use std::alloc::{AllocError, Global};
-use std::test::Fail;
 
 // Whether all are below the limit in size.
 fn are_below(numbers: &[i64], limit: u64) -> bool
@@ -169,39 +167,32 @@ static KNOWN: [Known; 7] = [
     },
 ];
 
-// What of the sums of a known session isn't as wanted.
-fn upper_fault(alloc: Global, known: &Known) -> Result<Option<&'static str>, AllocError> {
-    let Some(mut made) = drawn_session(alloc, known.case)? else {
-        return Ok(Some("the session"));
-    };
+// What of the sums of a known session isn't as wanted. The first integer is left one greater.
+fn upper_fault(made: &mut Made, known: &Known) -> Option<&'static str> {
     let Ok(form) = lower(&sum(&made.session)) else {
-        return Ok(Some("no form"));
+        return Some("no form");
     };
     if form.h != known.h {
-        return Ok(Some("the exponent"));
+        return Some("the exponent");
     }
     if upper_of(&made.session, &form, &made.z, &made.moved) != Some(Ok(known.upper)) {
-        return Ok(Some("the upper sum"));
+        return Some("the upper sum");
     }
     let Some(first) = made.z.first_mut() else {
-        return Ok(Some("no integer"));
+        return Some("no integer");
     };
     *first = first.wrapping_add(1);
     if upper_of(&made.session, &form, &made.z, &made.moved) != Some(Ok(known.other)) {
-        return Ok(Some("the sum of one more"));
+        return Some("the sum of one more");
     }
-    Ok(None)
+    None
 }
 
 #[test]
-fn upper_sums_of_seven_sessions(rt: HostRuntime) -> Result<(), AllocError> {
+fn upper_sums_of_seven_sessions(rt: HostRuntime) -> Result<(), NoSession> {
     for known in KNOWN.iter() {
-        assert_eq!(rt;
-            upper_fault(rt.alloc(), known)?,
-            None,
-            "of seed {}",
-            known.case.seed
-        );
+        let mut made = drawn_session(rt.alloc(), known.case)?;
+        assert!(rt; upper_fault(&mut made, known).is_none());
     }
     Ok(())
 }
@@ -225,31 +216,24 @@ fn decision_of(session: &Session, ratio: u32) -> Option<Result<Decision, Overwid
 }
 
 // What of the decision of a known session isn't as wanted. The least integers are those that it was made with.
-fn decision_fault(alloc: Global, known: &Known) -> Result<Option<&'static str>, AllocError> {
-    let Some(made) = drawn_session(alloc, known.case)? else {
-        return Ok(Some("the session"));
-    };
+fn decision_fault(made: &Made, known: &Known) -> Option<&'static str> {
     let Some(Ok(decision)) = decision_of(&made.session, 2000) else {
-        return Ok(Some("no decision"));
+        return Some("no decision");
     };
     if (decision.fixed, decision.moved, decision.top) != (known.fixed, known.moved, known.top) {
-        Ok(Some("the decision"))
+        Some("the decision")
     } else if decision.best.first.get(..decision.best.size) != Some(made.z.as_slice()) {
-        Ok(Some("the integers"))
+        Some("the integers")
     } else {
-        Ok(None)
+        None
     }
 }
 
 #[test]
-fn decides_seven_sessions(rt: HostRuntime) -> Result<(), AllocError> {
+fn decides_seven_sessions(rt: HostRuntime) -> Result<(), NoSession> {
     for known in KNOWN.iter() {
-        assert_eq!(rt;
-            decision_fault(rt.alloc(), known)?,
-            None,
-            "of seed {}",
-            known.case.seed
-        );
+        let made = drawn_session(rt.alloc(), known.case)?;
+        assert!(rt; decision_fault(&made, known).is_none());
     }
     Ok(())
 }
@@ -264,10 +248,10 @@ fn is_fixed_by(session: &Session, ratio: u32) -> Option<bool> {
 
 // The values of the last session are 1.40663 apart.
 #[test]
-fn a_ratio_decides(rt: HostRuntime) -> Result<(), Fail> {
-    let made = drawn_session(rt.alloc(), KNOWN[6].case)?.ok_or("no session")?;
+fn a_ratio_decides(rt: HostRuntime) -> Result<(), NoSession> {
+    let made = drawn_session(rt.alloc(), KNOWN[6].case)?;
     for (ratio, fixed) in [(1000, true), (1406, true), (1407, false), (100_000, false)] {
-        assert_eq!(rt; is_fixed_by(&made.session, ratio), Some(fixed));
+        assert!(rt; is_fixed_by(&made.session, ratio) == Some(fixed));
     }
     Ok(())
 }
@@ -275,56 +259,54 @@ fn a_ratio_decides(rt: HostRuntime) -> Result<(), Fail> {
 // 64 · 2000 · 23 is 2,944,000.
 #[test]
 fn a_tie_is_not_separated(rt: HostRuntime) {
-    assert_eq!(rt; is_separated(2000, 23, 3000), true);
-    assert_eq!(rt; is_separated(2000, 23, 2944), false);
+    assert!(rt; is_separated(2000, 23, 3000) && !is_separated(2000, 23, 2944));
 }
 
-// The place at which the decision of a session is too wide with a clock of `by` units that all rows share, if it is.
-fn wide_with(alloc: Global, session: &Session, by: i64) -> Result<Option<Place>, Fail> {
-    let later = later_session(alloc, session, by)?.ok_or("no session")?;
-    let answer = decision_of(&later, 2000).ok_or("no two least vectors")?;
-    Ok(answer.err().map(|e| e.place))
+// Whether there are two least vectors, and the decision of a session is too wide, and where.
+fn width_of(session: &Session) -> Option<Result<(), Place>> {
+    match decision_of(session, 2000)? {
+        Ok(_) => Some(Ok(())),
+        Err(e) => Some(Err(e.place)),
+    }
+}
+
+// The same with a clock of `by` units that all rows share.
+fn width_with(
+    alloc: Global,
+    session: &Session,
+    by: i64,
+) -> Result<Option<Result<(), Place>>, NoSession> {
+    Ok(width_of(&later_session(alloc, session, by)?))
 }
 
 // A clock that all rows share doesn't change the form. 2^33 units of it leave the upper sum no room.
 #[test]
-fn a_great_clock_is_too_wide(rt: HostRuntime) -> Result<(), Fail> {
-    let made = drawn_session(rt.alloc(), KNOWN[0].case)?.ok_or("no session")?;
-    assert_eq!(rt; wide_with(rt.alloc(), &made.session, 1 << 32)?, None);
-    assert_eq!(rt;
-        wide_with(rt.alloc(), &made.session, 1 << 33)?,
-        Some(Place::Sum)
-    );
+fn a_great_clock_is_too_wide(rt: HostRuntime) -> Result<(), NoSession> {
+    let made = drawn_session(rt.alloc(), KNOWN[0].case)?;
+    assert!(rt; width_with(rt.alloc(), &made.session, 1 << 32)? == Some(Ok(())));
+    assert!(rt; width_with(rt.alloc(), &made.session, 1 << 33)? == Some(Err(Place::Sum)));
     Ok(())
 }
 
 // Fifteen rows whose residuals may lie as far from 0 as any, on both sides in turn.
-fn widest_pair(alloc: Global) -> Result<Option<PairRows>, AllocError> {
-    let mut pair = PairBuilder::new(alloc, 0, Tick(13_881_024_000_000_000), 0);
+fn widest_pair(alloc: Global) -> Result<PairRows, NoSession> {
+    let mut pair = empty_pair(alloc, 0)?;
     for k in 0..15u16 {
         let y = (1 << 33) - 2;
         let y = if k % 2 == 0 { y } else { -y };
-        let Some(row) = Row::new(k, [y; SIGNALS], 0, [1 << 24; 3], [1 << 20; 3]) else {
-            return Ok(None);
-        };
-        if pair.rows.len() >= 15 || !pair.may_follow(k) {
-            return Ok(None);
-        }
-        pair.push(row)?;
+        push_row(
+            &mut pair,
+            Row::new(k, [y; SIGNALS], 0, [1 << 24; 3], [1 << 20; 3]),
+        )?;
     }
-    if pair.rows.is_empty() {
-        return Ok(None);
-    }
-    Ok(Some(pair.finish()))
+    with_rows(pair)
 }
 
-fn one_row(alloc: Global, y: i64, ry: i64) -> Result<Option<PairRows>, AllocError> {
-    let mut pair = PairBuilder::new(alloc, 0, Tick(13_881_024_000_000_000), 0);
-    let Some(row) = Row::new(1, [0, 0, 0, 0, 0, y], ry, [-(1 << 24); 3], [1 << 20; 3]) else {
-        return Ok(None);
-    };
-    pair.push(row)?;
-    Ok(Some(pair.finish()))
+fn one_row(alloc: Global, y: i64, ry: i64) -> Result<PairRows, NoSession> {
+    let mut pair = empty_pair(alloc, 0)?;
+    let row = Row::new(1, [0, 0, 0, 0, 0, y], ry, [-(1 << 24); 3], [1 << 20; 3]);
+    push_row(&mut pair, row)?;
+    with_rows(pair)
 }
 
 fn arcs_of(alloc: Global, count: u8) -> Result<Vec<Arc>, AllocError> {
@@ -379,12 +361,12 @@ static OF_THE_WIDEST: [([i64; 3], i64, Option<Result<i128, Overwidth>>); 7] = [
 ];
 
 #[test]
-fn widest_pair_has_a_sum(rt: HostRuntime) -> Result<(), Fail> {
+fn widest_pair_has_a_sum(rt: HostRuntime) -> Result<(), NoSession> {
     let arcs = arcs_of(rt.alloc(), 15)?;
-    let pair = widest_pair(rt.alloc())?.ok_or("no pair")?;
+    let pair = widest_pair(rt.alloc())?;
     for row in OF_THE_WIDEST.iter() {
         let (z, moved, want) = *row;
-        assert_eq!(rt; pair_of(&arcs, &pair, &z, &[moved; 3]), want, "at {z:?}");
+        assert!(rt; pair_of(&arcs, &pair, &z, &[moved; 3]) == want);
     }
     Ok(())
 }
@@ -401,35 +383,27 @@ static ONE_ROW: [(i64, i64, Option<Result<i128, Overwidth>>); 7] = [
 ];
 
 #[test]
-fn one_row_may_be_too_wide(rt: HostRuntime) -> Result<(), Fail> {
+fn one_row_may_be_too_wide(rt: HostRuntime) -> Result<(), NoSession> {
     let arcs = arcs_of(rt.alloc(), 2)?;
     for row in ONE_ROW.iter() {
         let (y, ry, want) = *row;
-        let pair = one_row(rt.alloc(), y, ry)?.ok_or("no row")?;
-        assert_eq!(rt;
-            pair_of(&arcs, &pair, &[0; 3], &[0; 3]),
-            want,
-            "at {y} and {ry}"
-        );
+        let pair = one_row(rt.alloc(), y, ry)?;
+        assert!(rt; pair_of(&arcs, &pair, &[0; 3], &[0; 3]) == want);
     }
     Ok(())
 }
 
-// In the greatest unit the sum is rounded up to 1.
+// The sum of a session in the greatest unit.
+fn in_greatest_unit(made: &Made) -> Option<Result<i128, Overwidth>> {
+    let form = finish(&FrontForm::of(4, 127, &FormTable::zeros())).ok()?;
+    upper_of(&made.session, &form, &made.z, &made.moved)
+}
+
+// It is rounded up to 1.
 #[test]
-fn greatest_unit(rt: HostRuntime) -> Result<(), AllocError> {
-    let Some(made) = drawn_session(rt.alloc(), KNOWN[0].case)? else {
-        assert!(rt; false, "the session is in range");
-        return Ok(());
-    };
-    let Ok(form) = finish(&FrontForm::of(4, 127, &FormTable::zeros())) else {
-        assert!(rt; false, "the form is well");
-        return Ok(());
-    };
-    assert_eq!(rt;
-        upper_of(&made.session, &form, &made.z, &made.moved),
-        Some(Ok(1))
-    );
+fn greatest_unit(rt: HostRuntime) -> Result<(), NoSession> {
+    let made = drawn_session(rt.alloc(), KNOWN[0].case)?;
+    assert!(rt; in_greatest_unit(&made) == Some(Ok(1)));
     Ok(())
 }
 
@@ -457,10 +431,7 @@ fn integers_by_bands(rt: HostRuntime) -> Result<(), AllocError> {
         (125, [5, 7, 0, 0, 9, 0]),
     ];
     for (bands, want) in rows {
-        assert_eq!(rt;
-            integers_on(&arcs, bands, &[5, 7, 9]),
-            Some([[0; SIGNALS], want])
-        );
+        assert!(rt; integers_on(&arcs, bands, &[5, 7, 9]) == Some([[0; SIGNALS], want]));
     }
     Ok(())
 }

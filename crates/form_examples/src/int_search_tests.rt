@@ -11,7 +11,6 @@ use form_tables::{FormTable, MOST_FORM_COLUMNS, MOST_INTEGERS};
 use int_search::{SearchFault, TwoBest, plain_best, two_best};
 use integer_form::{Form, FrontForm};
 use lower_form::finish;
-use std::test::Fail;
 
 // Writes an entry of a form of n columns at its place and across the diagonal.
 fn set_both(p: &mut FormTable, r: usize, c: usize, n: usize, value: i64)
@@ -88,12 +87,14 @@ fn case_form(case: &Case) -> Option<Form>
 
 // Whether these are the two best of a case.
 fn is_answer(case: &Case, best: &TwoBest) -> bool {
-    let first = best.first;
-    let second = best.second;
     best.size == case.integers
-        && first.iter().zip(case.first).all(|(a, b)| a == b)
-        && second.iter().zip(case.second).all(|(a, b)| a == b)
+        && best.first.get(..best.size) == Some(case.first)
+        && best.second.get(..best.size) == Some(case.second)
         && (best.p1, best.p2) == case.values
+}
+
+fn is_spent(found: &Result<TwoBest, SearchFault>) -> bool {
+    matches!(found, Err(SearchFault::Spent))
 }
 
 // Whether the plain search gives this answer with this budget and none with one visit less, and the other search the same
@@ -108,9 +109,9 @@ fn answers(case: &Case) -> bool {
     let Ok(best) = two_best(&form, case.reduced_count) else {
         return false;
     };
-    let spent = plain_best(&form, case.visits.saturating_sub(1)).is_err_and(|e| e
-        == SearchFault::Spent);
-    spent && is_answer(case, &plain) && is_answer(case, &best)
+    is_spent(&plain_best(&form, case.visits.saturating_sub(1)))
+        && is_answer(case, &plain)
+        && is_answer(case, &best)
 }
 
 // Whether the search gives this answer with this budget and none with one visit less, and the plain search none with the
@@ -122,30 +123,27 @@ fn answers_decorrelated(case: &Case, greater: u64) -> bool {
     let Ok(best) = two_best(&form, case.visits) else {
         return false;
     };
-    let spent = two_best(&form, case.visits.saturating_sub(1)).is_err_and(|e| e
-        == SearchFault::Spent);
-    let plain = plain_best(&form, greater).is_err_and(|e| e == SearchFault::Spent);
-    spent && plain && is_answer(case, &best)
+    is_spent(&two_best(&form, case.visits.saturating_sub(1)))
+        && is_spent(&plain_best(&form, greater))
+        && is_answer(case, &best)
+}
+
+// The two best vectors of a form of two integers.
+fn best_of_two(entries: &[i64]) -> Option<TwoBest> {
+    let form = form(2, entries)?;
+    if form.columns != 6 {
+        return None;
+    }
+    two_best(&form, 1000).ok()
 }
 
 #[test]
-fn two_integers(rt: HostRuntime) -> Result<(), Fail> {
+fn two_integers(rt: HostRuntime) {
     let entries = [10000 << 30, -(9900 << 30), 0, 9802 << 30, 0, 0];
-    let form = form(2, &entries).ok_or("a form")?;
-    if form.columns != 6 {
-        return Err("two integers".into());
-    }
-    let best = two_best(&form, 1000)?;
-    let first = best.first;
-    let second = best.second;
-    let found = (
-        [first[0], first[1]],
-        [second[0], second[1]],
-        best.p1,
-        best.p2,
-    );
-    assert_eq!(rt; found, ([0, 0], [-1, -1], 0, 2_147_483_648));
-    Ok(())
+    let best = best_of_two(&entries).expect(&rt, "two vectors");
+    assert!(rt; [best.first[0], best.first[1]] == [0, 0]);
+    assert!(rt; [best.second[0], best.second[1]] == [-1, -1]);
+    assert!(rt; best.p1 == 0 && best.p2 == 2_147_483_648);
 }
 
 #[test]

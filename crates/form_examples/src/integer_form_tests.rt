@@ -6,16 +6,11 @@ use integer_form::{FrontForm, is_form_table};
 fn takes_a_given_form(rt: HostRuntime) {
     let mut p = FormTable::zeros();
     p.set(0, 1, 5);
-    let is_half = is_form_table(&p, 2);
+    assert!(rt; !is_form_table(&p, 2));
     p.set(1, 0, 5);
-    assert_eq!(rt; (is_half, is_form_table(&p, 1)), (false, false));
+    assert!(rt; !is_form_table(&p, 1));
     assert!(rt; is_form_table(&p, 2));
     let form = FrontForm::of(5, 3, &p);
-    let found = (
-        form.columns,
-        form.h,
-        form.p.at(0, 1),
-        form.baseline_of(&[7]).ok(),
-    );
-    assert_eq!(rt; found, (5, 3, 5, Some([0, 0, 0])));
+    assert!(rt; form.columns == 5 && form.h == 3 && form.p.at(0, 1) == 5);
+    assert!(rt; form.baseline_of(&[7]) == Ok([0, 0, 0]));
 }

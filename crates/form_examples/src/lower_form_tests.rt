@@ -1,173 +1,167 @@
 //! Forms of an independent model, and why there is none.
 ghost use Rattle.std.specs.Prelude.{◌≡◌, ◌⊎◌};
 
-use crate::row_numbers::{L1_AND_L2, Numbers, THREE_BANDS, arc, finished, push, session_with};
+use crate::row_numbers::{
+    L1_AND_L2, NoSession, THREE_BANDS, arc, empty_pair, finished, push_pair, push_row,
+    session_with, three_arcs, with_rows,
+};
 use form_tables::{FormTable, MOST_COLUMNS, MOST_FACTORS, MOST_FORM_COLUMNS};
 use integer_form::{Form, FrontForm, LowerFault, Place, is_form_table};
 use lower_form::{finish, front, lower};
 use normal_sum::sum;
-use obs_rows::{Arc, SIGNALS, Session, Signals};
+use obs_rows::{Arc, PairRows, Row, SIGNALS, Session, Signals};
 use std::alloc::{AllocError, Global};
-use std::test::Fail;
 
-// Pairs of three rows, of three arcs of which the first is the datum, each list of rows a pair.
+// An arc, and the observations and the direction of a row of it.
+type Sight = (u16, [i64; SIGNALS], [i64; 3]);
+
+// Pairs of such rows, with the radius of all observations and that of all directions.
+struct Sights {
+    ry: i64,
+    ru: i64,
+    pairs: &'static [&'static [Sight]],
+}
+
+fn pair_of(
+    alloc: Global,
+    number: u32,
+    sights: &Sights,
+    rows: &[Sight],
+) -> Result<PairRows, NoSession> {
+    let mut pair = empty_pair(alloc, number)?;
+    for (arc, y, u) in rows {
+        push_row(&mut pair, Row::new(*arc, *y, sights.ry, *u, [sights.ru; 3]))?;
+    }
+    with_rows(pair)
+}
+
+// Of these arcs, of which the first is the datum.
 fn session_of(
     alloc: Global,
     scale: u32,
     signals: Signals,
-    pairs: &[[Numbers; 3]],
-) -> Result<Option<Session>, AllocError>
-    requires { (scale ≡ 0) ⊎ (scale ≡ 14) }
-{
-    let arcs = vec![in alloc; arc(3, true, 9), arc(5, false, 9), arc(9, false, 9)]?;
-    session_over(alloc, scale, signals, arcs, pairs)
-}
-
-// Pairs of `N` rows, each list of rows a pair.
-fn session_over<const N: usize>(
-    alloc: Global,
-    scale: u32,
-    signals: Signals,
     arcs: Vec<Arc>,
-    pairs: &[[Numbers; N]],
-) -> Result<Option<Session>, AllocError>
+    sights: &Sights,
+) -> Result<Session, NoSession>
     requires { (scale ≡ 0) ⊎ (scale ≡ 14) }
 {
-    let Some(mut session) = session_with(alloc, scale, signals, arcs) else {
-        return Ok(None);
-    };
-    let mut number = 0;
-    for rows in pairs {
-        if number >= 3600 || !push(alloc, &mut session, number, rows)? {
-            return Ok(None);
-        }
-        number += 1;
+    let mut session = session_with(alloc, scale, signals, arcs)?;
+    let mut number = 0u32;
+    for rows in sights.pairs {
+        push_pair(&mut session, pair_of(alloc, number, sights, rows)?)?;
+        number = number.wrapping_add(1);
     }
-    Ok(finished(session))
+    finished(session)
 }
 
-fn radii_of(ry: i64, ru: i64, rows: &[(u16, [i64; SIGNALS], [i64; 3]); 3]) -> [Numbers; 3] {
-    let [(a, ya, ua), (b, yb, ub), (c, yc, uc)] = *rows;
-    [
-        (a, ya, ry, ua, [ru; 3]),
-        (b, yb, ry, ub, [ru; 3]),
-        (c, yc, ry, uc, [ru; 3]),
-    ]
+fn two_arcs(alloc: Global) -> Result<Vec<Arc>, AllocError> {
+    Ok(vec![in alloc; arc(3, true, 9), arc(5, false, 9)]?)
 }
 
-fn two_pairs() -> [[Numbers; 3]; 2] {
-    [
-        radii_of(
-            700,
-            32,
-            &[
-                (
-                    0,
-                    [586400, 766580, -1039743, 819513, 0, 0],
-                    [-3880093, -6271095, 170088],
-                ),
-                (
-                    1,
-                    [282820, -920273, -954951, -941849, 0, 0],
-                    [-4431913, 8235434, 6693809],
-                ),
-                (
-                    2,
-                    [721909, -926771, -118734, 788057, 0, 0],
-                    [7457312, 4349165, -1343694],
-                ),
-            ],
-        ),
-        radii_of(
-            700,
-            32,
-            &[
-                (
-                    0,
-                    [-80252, -130942, 879140, 166856, 0, 0],
-                    [-3622341, -6288833, 270437],
-                ),
-                (
-                    1,
-                    [-268829, 194575, -541527, 346848, 0, 0],
-                    [-4671524, 8409686, 6536522],
-                ),
-                (
-                    2,
-                    [143274, 1045900, 601268, -903765, 0, 0],
-                    [7637779, 4286092, -1287734],
-                ),
-            ],
-        ),
-    ]
-}
+static TWO_PAIRS: Sights = Sights {
+    ry: 700,
+    ru: 32,
+    pairs: &[
+        &[
+            (
+                0,
+                [586400, 766580, -1039743, 819513, 0, 0],
+                [-3880093, -6271095, 170088],
+            ),
+            (
+                1,
+                [282820, -920273, -954951, -941849, 0, 0],
+                [-4431913, 8235434, 6693809],
+            ),
+            (
+                2,
+                [721909, -926771, -118734, 788057, 0, 0],
+                [7457312, 4349165, -1343694],
+            ),
+        ],
+        &[
+            (
+                0,
+                [-80252, -130942, 879140, 166856, 0, 0],
+                [-3622341, -6288833, 270437],
+            ),
+            (
+                1,
+                [-268829, 194575, -541527, 346848, 0, 0],
+                [-4671524, 8409686, 6536522],
+            ),
+            (
+                2,
+                [143274, 1045900, 601268, -903765, 0, 0],
+                [7637779, 4286092, -1287734],
+            ),
+        ],
+    ],
+};
 
-fn three_pairs() -> [[Numbers; 3]; 3] {
-    [
-        radii_of(
-            2047,
-            24,
-            &[
-                (
-                    0,
-                    [-620865, -2808, -993572, -139546, 411205, -96],
-                    [182704, 3641847, -7415355],
-                ),
-                (
-                    1,
-                    [584842, -379148, -746873, -466544, -27183, 8281],
-                    [7235095, -31788, -6648702],
-                ),
-                (
-                    2,
-                    [-1041132, -1026292, -170053, -144783, 314159, -26535],
-                    [-3125551, -4590047, 4086706],
-                ),
-            ],
-        ),
-        radii_of(
-            2047,
-            24,
-            &[
-                (
-                    0,
-                    [266973, -214374, -189669, -286603, -57721, 56649],
-                    [94473, 3554274, -7374141],
-                ),
-                (
-                    1,
-                    [-958104, 466364, 691668, -352506, 141421, -35623],
-                    [7179393, 107906, -6597544],
-                ),
-                (
-                    2,
-                    [343322, 215415, -1034387, 368666, -173205, 80757],
-                    [-3234916, -4575565, 3892865],
-                ),
-            ],
-        ),
-        radii_of(
-            2047,
-            24,
-            &[
-                (
-                    0,
-                    [235150, 967815, 275956, -273581, 69314, -71805],
-                    [-203126, 3767587, -7194419],
-                ),
-                (
-                    1,
-                    [-809497, 25928, -952671, 451491, -223606, 79775],
-                    [7719995, 434908, -6803640],
-                ),
-                (
-                    2,
-                    [487313, 530014, -1010499, 850698, 264575, -13110],
-                    [-2801973, -5076445, 4440762],
-                ),
-            ],
-        ),
-    ]
+static THREE_PAIRS: Sights = Sights {
+    ry: 2047,
+    ru: 24,
+    pairs: &[
+        &[
+            (
+                0,
+                [-620865, -2808, -993572, -139546, 411205, -96],
+                [182704, 3641847, -7415355],
+            ),
+            (
+                1,
+                [584842, -379148, -746873, -466544, -27183, 8281],
+                [7235095, -31788, -6648702],
+            ),
+            (
+                2,
+                [-1041132, -1026292, -170053, -144783, 314159, -26535],
+                [-3125551, -4590047, 4086706],
+            ),
+        ],
+        &[
+            (
+                0,
+                [266973, -214374, -189669, -286603, -57721, 56649],
+                [94473, 3554274, -7374141],
+            ),
+            (
+                1,
+                [-958104, 466364, 691668, -352506, 141421, -35623],
+                [7179393, 107906, -6597544],
+            ),
+            (
+                2,
+                [343322, 215415, -1034387, 368666, -173205, 80757],
+                [-3234916, -4575565, 3892865],
+            ),
+        ],
+        &[
+            (
+                0,
+                [235150, 967815, 275956, -273581, 69314, -71805],
+                [-203126, 3767587, -7194419],
+            ),
+            (
+                1,
+                [-809497, 25928, -952671, 451491, -223606, 79775],
+                [7719995, 434908, -6803640],
+            ),
+            (
+                2,
+                [487313, 530014, -1010499, 850698, 264575, -13110],
+                [-2801973, -5076445, 4440762],
+            ),
+        ],
+    ],
+};
+
+fn number_at(numbers: &[i64], at: usize) -> i64 {
+    match numbers.get(at) {
+        Some(number) => *number,
+        None => 0,
+    }
 }
 
 // The factors row by row, each those of a column with the columns before it.
@@ -175,11 +169,11 @@ fn factors_agree(form: &Form, l: &[i64]) -> bool {
     for r in 1..MOST_COLUMNS {
         for c in 0..r {
             let expected = if r < form.columns {
-                l.get(r * (r - 1) / 2 + c)
+                number_at(l, r * (r - 1) / 2 + c)
             } else {
-                None
+                0
             };
-            if c < MOST_FACTORS && expected.map_or(0, |e| *e) != form.l.at(r, c) {
+            if c < MOST_FACTORS && expected != form.l.at(r, c) {
                 return false;
             }
         }
@@ -189,7 +183,7 @@ fn factors_agree(form: &Form, l: &[i64]) -> bool {
 
 fn agrees(form: &Form, h: u32, g: i64, d: &[i64], l: &[i64]) -> bool {
     for j in 0..MOST_FACTORS {
-        if form.d[j] != d.get(j).map_or(0, |e| *e) {
+        if form.d[j] != number_at(d, j) {
             return false;
         }
     }
@@ -201,7 +195,7 @@ fn float_agrees(form: &Form, point: &[i64]) -> bool {
         return false;
     };
     for j in 0..MOST_FACTORS {
-        if numbers[j] != point.get(j).map_or(0, |e| *e) {
+        if numbers[j] != number_at(point, j) {
             return false;
         }
     }
@@ -360,7 +354,7 @@ static THREE: WantedForm = WantedForm {
 };
 
 // The form of a session, where it has one that is as wanted.
-fn lowered(session: &Session, want: &WantedForm) -> Option<Form> {
+fn form_like(session: &Session, want: &WantedForm) -> Option<Form> {
     let form = lower(&sum(session)).ok()?;
     if agrees(&form, want.h, want.g, want.d, want.l) && float_agrees(&form, want.point) {
         Some(form)
@@ -369,100 +363,128 @@ fn lowered(session: &Session, want: &WantedForm) -> Option<Form> {
     }
 }
 
+// The same of a session of three arcs.
+fn lowered(
+    alloc: Global,
+    scale: u32,
+    signals: Signals,
+    sights: &Sights,
+    want: &WantedForm,
+) -> Result<Option<Form>, NoSession>
+    requires { (scale ≡ 0) ⊎ (scale ≡ 14) }
+{
+    let session = session_of(alloc, scale, signals, three_arcs(alloc, 9)?, sights)?;
+    Ok(form_like(&session, want))
+}
+
 // A fine session: the form, and its value at some integers and the baseline there, from an independent model.
 #[test]
-fn lowers_a_fine_session(rt: HostRuntime) -> Result<(), Fail> {
-    let session = session_of(rt.alloc(), 0, L1_AND_L2, &two_pairs())?.ok_or("no session")?;
-    let form = lowered(&session, &FINE).ok_or("another form")?;
-    if form.columns != 8 {
-        return Err("other columns".into());
-    }
+fn lowers_a_fine_session(rt: HostRuntime) -> Result<(), NoSession> {
+    let form = lowered(rt.alloc(), 0, L1_AND_L2, &TWO_PAIRS, &FINE)?.expect(&rt, "another form");
+    assert!(rt; form.columns == 8);
     let z: [i64; 4] = [-5, 2, 9, 16];
-    let found = (form.value(&z), form.baseline_of(&z).ok());
-    assert_eq!(rt;
-        found,
-        (14616769852822992, Some([-584900, -300359, 748825]))
-    );
+    assert!(rt; form.value(&z) == 14616769852822992);
+    assert!(rt; form.baseline_of(&z) == Ok([-584900, -300359, 748825]));
     Ok(())
 }
 
 // The same rows by the code on L1 alone.
 #[test]
-fn lowers_a_coarse_session(rt: HostRuntime) -> Result<(), Fail> {
-    let session = session_of(rt.alloc(), 14, L1_AND_L2, &two_pairs())?.ok_or("no session")?;
-    let form = lowered(&session, &COARSE).ok_or("another form")?;
-    if form.columns != 4 {
-        return Err("other columns".into());
-    }
+fn lowers_a_coarse_session(rt: HostRuntime) -> Result<(), NoSession> {
+    let form = lowered(rt.alloc(), 14, L1_AND_L2, &TWO_PAIRS, &COARSE)?.expect(&rt, "another form");
+    assert!(rt; form.columns == 4);
     let z: [i64; 0] = [];
-    let found = (form.value(&z), form.baseline_of(&z).ok());
-    assert_eq!(rt; found, (799130316951, Some([62752, -48657, 112129])));
+    assert!(rt; form.value(&z) == 799130316951);
+    assert!(rt; form.baseline_of(&z) == Ok([62752, -48657, 112129]));
     Ok(())
 }
 
 // A fine session of three bands with wider radii.
 #[test]
-fn lowers_a_session_of_three_bands(rt: HostRuntime) -> Result<(), Fail> {
-    let session = session_of(rt.alloc(), 0, THREE_BANDS, &three_pairs())?.ok_or("no session")?;
-    let form = lowered(&session, &THREE).ok_or("another form")?;
-    if form.columns != 10 {
-        return Err("other columns".into());
-    }
-    let z: [i64; 6] = [-5, 2, 9, 16, -23, 30];
-    let found = (form.value(&z), form.baseline_of(&z).ok());
-    assert_eq!(rt;
-        found,
-        (507725031356452889, Some([-481573, -534893, -1095346]))
+fn lowers_a_session_of_three_bands(rt: HostRuntime) -> Result<(), NoSession> {
+    let form = lowered(rt.alloc(), 0, THREE_BANDS, &THREE_PAIRS, &THREE)?.expect(
+        &rt,
+        "another form",
     );
+    assert!(rt; form.columns == 10);
+    let z: [i64; 6] = [-5, 2, 9, 16, -23, 30];
+    assert!(rt; form.value(&z) == 507725031356452889);
+    assert!(rt; form.baseline_of(&z) == Ok([-481573, -534893, -1095346]));
     Ok(())
 }
 
-// Rows that are all 0: no pivot of the baseline's columns is left, and the first is less by the number of columns.
+// Rows that are 0 but for one observation.
+static STILL: Sights = Sights {
+    ry: 0,
+    ru: 0,
+    pairs: &[&[
+        (0, [262_144, 0, 0, 0, 0, 0], [0; 3]),
+        (1, [0; SIGNALS], [0; 3]),
+        (2, [0; SIGNALS], [0; 3]),
+    ]],
+};
+
+// Why there is no form of a fine session on L1 and L2, by the whole elimination and by its steps up to the integers.
+fn faults_of(
+    alloc: Global,
+    arcs: Vec<Arc>,
+    sights: &Sights,
+) -> Result<[Option<LowerFault>; 2], NoSession> {
+    let normal = sum(&session_of(alloc, 0, L1_AND_L2, arcs, sights)?);
+    Ok([lower(&normal).err(), front(&normal).err()])
+}
+
+// No pivot of the baseline's columns is left, and the first is less by the number of columns.
 #[test]
-fn refuses_a_weak_session(rt: HostRuntime) -> Result<(), Fail> {
-    let rows = [
-        (0, [262_144, 0, 0, 0, 0, 0], 0, [0; 3], [0; 3]),
-        (1, [0; SIGNALS], 0, [0; 3], [0; 3]),
-        (2, [0; SIGNALS], 0, [0; 3], [0; 3]),
-    ];
-    let session = session_of(rt.alloc(), 0, L1_AND_L2, &[rows])?.ok_or("no session")?;
+fn refuses_a_weak_session(rt: HostRuntime) -> Result<(), NoSession> {
     let weak = LowerFault::Weak {
         column: 0,
         pivot: -8,
     };
-    let normal = sum(&session);
-    assert_eq!(rt;
-        (lower(&normal).err(), front(&normal).err()),
-        (Some(weak), Some(weak))
-    );
+    let found = faults_of(rt.alloc(), three_arcs(rt.alloc(), 9)?, &STILL)?;
+    assert!(rt; found == [Some(weak), Some(weak)]);
     Ok(())
 }
 
-// Two arcs of which nothing is known, as a certificate may have them: of six columns the first pivot is -6.
+// Two arcs of which nothing is known, as a certificate may have them.
+static NOTHING: Sights = Sights {
+    ry: 0,
+    ru: 0,
+    pairs: &[&[(0, [0; SIGNALS], [0; 3]), (1, [0; SIGNALS], [0; 3])]],
+};
+
+// Of six columns the first pivot is -6.
 #[test]
-fn refuses_the_weakest_session(rt: HostRuntime) -> Result<(), Fail> {
-    let nothing = |arc| (arc, [0; SIGNALS], 0, [0; 3], [0; 3]);
-    let arcs = vec![in rt.alloc(); arc(3, true, 9), arc(5, false, 9)]?;
-    let pairs = [[nothing(0), nothing(1)]];
-    let session = session_over(rt.alloc(), 0, L1_AND_L2, arcs, &pairs)?.ok_or("no session")?;
+fn refuses_the_weakest_session(rt: HostRuntime) -> Result<(), NoSession> {
     let weak = LowerFault::Weak {
         column: 0,
         pivot: -6,
     };
-    assert_eq!(rt; lower(&sum(&session)).err(), Some(weak));
+    let [whole, _] = faults_of(rt.alloc(), two_arcs(rt.alloc())?, &NOTHING)?;
+    assert!(rt; whole == Some(weak));
     Ok(())
 }
 
-// The greatest radii, one pair: the entry of the constant is past 2^52 in size before the first pivot, which is weak, is seen.
+fn too_wide(place: Place) -> LowerFault {
+    LowerFault::Overwidth { place }
+}
+
+// The greatest radii, one pair.
+static WIDE: Sights = Sights {
+    ry: 1 << 20,
+    ru: 0,
+    pairs: &[&[
+        (0, [0; SIGNALS], [0; 3]),
+        (1, [0; SIGNALS], [0; 3]),
+        (2, [0; SIGNALS], [0; 3]),
+    ]],
+};
+
+// The entry of the constant is past 2^52 in size before the first pivot, which is weak, is seen.
 #[test]
-fn refuses_the_greatest_radii(rt: HostRuntime) -> Result<(), Fail> {
-    let wide = |arc| (arc, [0; SIGNALS], 1 << 20, [0; 3], [0; 3]);
-    let pairs = [[wide(0), wide(1), wide(2)]];
-    let session = session_of(rt.alloc(), 0, L1_AND_L2, &pairs)?.ok_or("no session")?;
-    let entry = LowerFault::Overwidth {
-        place: Place::Entry,
-    };
-    assert_eq!(rt; lower(&sum(&session)).err(), Some(entry));
+fn refuses_the_greatest_radii(rt: HostRuntime) -> Result<(), NoSession> {
+    let [whole, _] = faults_of(rt.alloc(), three_arcs(rt.alloc(), 9)?, &WIDE)?;
+    assert!(rt; whole == Some(too_wide(Place::Entry)));
     Ok(())
 }
 
@@ -482,7 +504,7 @@ fn form_of(columns: usize, entries: &[(usize, usize, i64)]) -> Option<FrontForm>
 }
 
 fn fault_of(columns: usize, entries: &[(usize, usize, i64)]) -> Option<LowerFault> {
-    form_of(columns, entries).and_then(|f| finish(&f).err())
+    finish(&form_of(columns, entries)?).err()
 }
 
 #[test]
@@ -494,20 +516,16 @@ fn tells_why_a_form_is_refused(rt: HostRuntime) {
         column: 3,
         pivot: (1 << 20) - 1,
     };
-    assert_eq!(rt;
-        fault_of(5, &factor),
-        Some(LowerFault::Overwidth {
-            place: Place::Factor
-        })
-    );
-    assert_eq!(rt;
-        fault_of(5, &entry),
-        Some(LowerFault::Overwidth {
-            place: Place::Entry
-        })
-    );
-    assert_eq!(rt; fault_of(5, &weak), Some(least));
-    assert_eq!(rt; fault_of(4, &[(0, 0, -6)]), None);
+    assert!(rt; fault_of(5, &factor) == Some(too_wide(Place::Factor)));
+    assert!(rt; fault_of(5, &entry) == Some(too_wide(Place::Entry)));
+    assert!(rt; fault_of(5, &weak) == Some(least));
+    assert!(rt; fault_of(4, &[(0, 0, -6)]).is_none());
+}
+
+// The place at which the float point of a form is too wide.
+fn wide_place(columns: usize, entries: &[(usize, usize, i64)]) -> Option<Place> {
+    let form = finish(&form_of(columns, entries)?).ok()?;
+    Some(form.float_of().err()?.place)
 }
 
 // Two integers whose factors are so large that the number of the first is 2^46 or more in size.
@@ -521,7 +539,5 @@ fn refuses_a_wide_float_point(rt: HostRuntime) {
         (1, 2, -last),
         (2, 2, 1 << 51),
     ];
-    let form = form_of(6, &entries).and_then(|f| finish(&f).ok());
-    let place = form.and_then(|f| f.float_of().err()).map(|e| e.place);
-    assert_eq!(rt; place, Some(Place::Float));
+    assert!(rt; wide_place(6, &entries) == Some(Place::Float));
 }

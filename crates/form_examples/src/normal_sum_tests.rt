@@ -2,108 +2,88 @@
 ghost use Rattle.std.specs.Prelude.{◌<◌, ◌≡◌, ◌⊎◌};
 
 use crate::row_numbers::{
-    L1_AND_L2, L1_AND_L5, Numbers, THREE_BANDS, arc, finished, pair_of, push, session_with,
+    L1_AND_L2, L1_AND_L5, NoSession, Numbers, THREE_BANDS, arc, finished, pair_of, push,
+    session_with, three_arcs,
 };
 use form_tables::MOST_COLUMNS;
 use normal_sum::{Normal, sum, sum_pair};
-use obs_rows::{SIGNALS, Session, Signals, fine_signals, has_its_arcs};
+use obs_rows::{Arc, SIGNALS, Session, Signals, has_its_arcs};
 use std::alloc::{AllocError, Global};
 
-// Two satellites whose phases on L1 are 2^18 units apart: the columns, the constant's own entry and that of the first column.
-fn sum_of_two(alloc: Global) -> Result<Option<(usize, i128, i128)>, AllocError> {
+// Two satellites whose phases on L1 are 2^18 units apart.
+static TWO_ROWS: [Numbers; 2] = [
+    (0, [262_144, 0, 0, 0, 0, 0], 0, [0; 3], [0; 3]),
+    (1, [0; 6], 0, [0; 3], [0; 3]),
+];
+
+// Their columns, the constant's own entry and that of the first column.
+fn sum_of_two(alloc: Global) -> Result<(usize, i128, i128), NoSession> {
     let arcs = [arc(3, true, 1), arc(5, false, 1)];
-    let rows = [
-        (0, [262_144, 0, 0, 0, 0, 0], 0, [0; 3], [0; 3]),
-        (1, [0; 6], 0, [0; 3], [0; 3]),
-    ];
-    let Some(pair) = pair_of(alloc, 0, &rows)? else {
-        return Ok(None);
-    };
+    let pair = pair_of(alloc, 0, L1_AND_L2, &TWO_ROWS)?;
     if !has_its_arcs(&arcs, &pair) {
-        return Ok(None);
+        return Err(NoSession::OutOfRange);
     }
     let normal = sum_pair(&arcs, L1_AND_L2, 0, &pair);
-    Ok(Some((normal.columns, normal.c.at(5, 5), normal.c.at(0, 0))))
+    Ok((normal.columns, normal.c.at(5, 5), normal.c.at(0, 0)))
 }
 
 // F = 180180 · 10000 · 2^36.
 #[test]
-fn sums_two_satellites(rt: HostRuntime) -> Result<(), AllocError> {
-    let want = (6, 123_818_753_182_924_800_000, 0);
-    assert_eq!(rt; sum_of_two(rt.alloc())?, Some(want));
+fn sums_two_satellites(rt: HostRuntime) -> Result<(), NoSession> {
+    assert!(rt; sum_of_two(rt.alloc())? == (6, 123_818_753_182_924_800_000, 0));
     Ok(())
 }
 
-// A row with 0 in the place of each signal of a band that isn't used.
-fn used_of(row: &Numbers, signals: Signals) -> Numbers {
-    let (arc, y, ry, u, ru) = *row;
-    let mut used = [0; SIGNALS];
-    for s in fine_signals(signals) {
-        used[*s] = y[*s];
-    }
-    (arc, used, ry, u, ru)
-}
-
 // Two pairs of three and two satellites, with numbers at the ends of their ranges.
-fn session_at(alloc: Global, scale: u32, signals: Signals) -> Result<Option<Session>, AllocError>
+static FIRST: [Numbers; 3] = [
+    (
+        0,
+        [262_144, -77, 1_000_000, 5, -1_000_001, 7000],
+        1024,
+        [9_000_000, -8_000_000, 1000],
+        [32, 31, 30],
+    ),
+    (
+        1,
+        [-12_345_678, 98_765_432, -55, 44, 33, -2_222_222],
+        2048,
+        [-7_000_000, 3_000_000, 14_000_000],
+        [1, 2, 3],
+    ),
+    (
+        2,
+        [
+            17_179_869_184,
+            -17_179_869_184,
+            3,
+            -4,
+            17_179_869_184,
+            -17_179_869_184,
+        ],
+        1_048_576,
+        [16_777_216, -16_777_216, 5],
+        [1_048_576, 0, 7],
+    ),
+];
+
+static SECOND: [Numbers; 2] = [
+    (0, [1, 2, 3, 4, 5, 6], 5, [6, 7, 8], [9, 10, 11]),
+    (
+        2,
+        [-1, 20, -300, 4000, -50_000, 600_000],
+        50_000,
+        [600_000, -7_000_000, 8_000_000],
+        [0, 1, 2],
+    ),
+];
+
+fn session_at(alloc: Global, scale: u32, signals: Signals) -> Result<Session, NoSession>
     requires { (scale ≡ 0) ⊎ (scale ≡ 14) }
 {
-    let arcs = vec![in alloc; arc(3, true, 1), arc(5, false, 1), arc(9, false, 1)]?;
-    let first = [
-        (
-            0,
-            [262_144, -77, 1_000_000, 5, -1_000_001, 7000],
-            1024,
-            [9_000_000, -8_000_000, 1000],
-            [32, 31, 30],
-        ),
-        (
-            1,
-            [-12_345_678, 98_765_432, -55, 44, 33, -2_222_222],
-            2048,
-            [-7_000_000, 3_000_000, 14_000_000],
-            [1, 2, 3],
-        ),
-        (
-            2,
-            [
-                17_179_869_184,
-                -17_179_869_184,
-                3,
-                -4,
-                17_179_869_184,
-                -17_179_869_184,
-            ],
-            1_048_576,
-            [16_777_216, -16_777_216, 5],
-            [1_048_576, 0, 7],
-        ),
-    ];
-    let second = [
-        (0, [1, 2, 3, 4, 5, 6], 5, [6, 7, 8], [9, 10, 11]),
-        (
-            2,
-            [-1, 20, -300, 4000, -50_000, 600_000],
-            50_000,
-            [600_000, -7_000_000, 8_000_000],
-            [0, 1, 2],
-        ),
-    ];
-    let [a, b, c] = first;
-    let [d, e] = second;
-    let first = [
-        used_of(&a, signals),
-        used_of(&b, signals),
-        used_of(&c, signals),
-    ];
-    let second = [used_of(&d, signals), used_of(&e, signals)];
-    let Some(mut session) = session_with(alloc, scale, signals, arcs) else {
-        return Ok(None);
-    };
-    if !push(alloc, &mut session, 0, &first)? || !push(alloc, &mut session, 1, &second)? {
-        return Ok(None);
-    }
-    Ok(finished(session))
+    let mut session = session_with(alloc, scale, signals, three_arcs(alloc, 1)?)?;
+    push(alloc, &mut session, 0, &FIRST)?;
+    push(alloc, &mut session, 1, &SECOND)?;
+    finished(session)
 }
 
 // What an arc's row says where all numbers are at the ends of their ranges, with changing signs.
@@ -125,32 +105,42 @@ fn rows_at_ends(first: u16) -> [Numbers; 15]
     rows
 }
 
-// 3600 pairs of 15 rows, with one datum and 20 free arcs, of three bands.
-fn greatest_session(alloc: Global) -> Result<Option<Session>, AllocError> {
+fn greatest_arcs(alloc: Global) -> Result<Vec<Arc>, AllocError> {
     let mut arcs = Vec::new(alloc);
     for sat in 1..22u8 {
         arcs.push(arc(sat, sat == 1, 3599))?;
     }
-    let Some(mut session) = session_with(alloc, 0, THREE_BANDS, arcs) else {
-        return Ok(None);
-    };
+    Ok(arcs)
+}
+
+// 3600 pairs of 15 rows, with one datum and 20 free arcs, of three bands.
+fn greatest_session(alloc: Global) -> Result<Session, NoSession> {
+    let mut session = session_with(alloc, 0, THREE_BANDS, greatest_arcs(alloc)?)?;
     for number in 0..3600u32 {
-        let rows = rows_at_ends((number % 7) as u16);
-        if !push(alloc, &mut session, number, &rows)? {
-            return Ok(None);
+        push(
+            alloc,
+            &mut session,
+            number,
+            &rows_at_ends((number % 7) as u16),
+        )?;
+    }
+    finished(session)
+}
+
+fn entry_at(expected: &[(usize, usize, i128)], i: usize, j: usize) -> i128 {
+    for (row, column, entry) in expected {
+        if *row == i && *column == j {
+            return *entry;
         }
     }
-    Ok(finished(session))
+    0
 }
 
 // The entries on the diagonal and after it that are not 0; both halves are compared.
 fn agrees(normal: &Normal, expected: &[(usize, usize, i128)]) -> bool {
     for i in 0..normal.columns {
         for j in i..normal.columns {
-            let entry = expected
-                .iter()
-                .find(|e| e.0 == i && e.1 == j)
-                .map_or(0, |e| e.2);
+            let entry = entry_at(expected, i, j);
             if i < MOST_COLUMNS
                 && j < MOST_COLUMNS
                 && (normal.c.at(i, j) != entry || normal.c.at(j, i) != entry)
@@ -356,14 +346,11 @@ const SUMMED: [Summed; 4] = [
 ];
 
 // What of a sum isn't as wanted.
-fn sum_fault(alloc: Global, want: &Summed) -> Result<Option<&'static str>, AllocError> {
+fn sum_fault(alloc: Global, want: &Summed) -> Result<Option<&'static str>, NoSession> {
     if want.scale != 0 && want.scale != 14 {
-        return Ok(Some("the scale"));
+        return Err(NoSession::OutOfRange);
     }
-    let Some(session) = session_at(alloc, want.scale, want.signals)? else {
-        return Ok(Some("the session"));
-    };
-    let normal = sum(&session);
+    let normal = sum(&session_at(alloc, want.scale, want.signals)?);
     if normal.columns != want.columns {
         Ok(Some("the columns"))
     } else if !agrees(&normal, want.entries) {
@@ -376,19 +363,25 @@ fn sum_fault(alloc: Global, want: &Summed) -> Result<Option<&'static str>, Alloc
 }
 
 #[test]
-fn sums_sessions(rt: HostRuntime) -> Result<(), AllocError> {
-    for (at, want) in SUMMED.iter().enumerate() {
-        assert_eq!(rt; sum_fault(rt.alloc(), want)?, None, "of session {at}");
+fn sums_sessions(rt: HostRuntime) -> Result<(), NoSession> {
+    for want in SUMMED.iter() {
+        assert!(rt; sum_fault(rt.alloc(), want)?.is_none());
     }
     Ok(())
 }
 
 // Whether these entries, and those mirrored on the diagonal, stand in the matrix.
 fn has_entries(normal: &Normal, expected: &[(usize, usize, i128)]) -> bool {
-    expected.iter().all(|e| e.0 < MOST_COLUMNS
-        && e.1 < MOST_COLUMNS
-        && normal.c.at(e.0, e.1) == e.2
-        && normal.c.at(e.1, e.0) == e.2)
+    for (i, j, entry) in expected {
+        if *i >= MOST_COLUMNS
+            || *j >= MOST_COLUMNS
+            || normal.c.at(*i, *j) != *entry
+            || normal.c.at(*j, *i) != *entry
+        {
+            return false;
+        }
+    }
+    true
 }
 
 static GREATEST_ENTRIES: [(usize, usize, i128); 13] = [
@@ -408,11 +401,8 @@ static GREATEST_ENTRIES: [(usize, usize, i128); 13] = [
 ];
 
 // What of the sum of the greatest session isn't as wanted.
-fn greatest_fault(alloc: Global) -> Result<Option<&'static str>, AllocError> {
-    let Some(session) = greatest_session(alloc)? else {
-        return Ok(Some("the session"));
-    };
-    let normal = sum(&session);
+fn greatest_fault(alloc: Global) -> Result<Option<&'static str>, NoSession> {
+    let normal = sum(&greatest_session(alloc)?);
     if normal.columns != 64 {
         Ok(Some("the columns"))
     } else if !has_entries(&normal, &GREATEST_ENTRIES) {
@@ -426,7 +416,7 @@ fn greatest_fault(alloc: Global) -> Result<Option<&'static str>, AllocError> {
 
 // Some entries of the greatest session.
 #[test]
-fn sums_the_greatest_session(rt: HostRuntime) -> Result<(), AllocError> {
-    assert_eq!(rt; greatest_fault(rt.alloc())?, None);
+fn sums_the_greatest_session(rt: HostRuntime) -> Result<(), NoSession> {
+    assert!(rt; greatest_fault(rt.alloc())?.is_none());
     Ok(())
 }

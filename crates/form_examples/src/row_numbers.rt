@@ -1,12 +1,28 @@
 //! Sessions from the numbers of their rows.
-ghost use Rattle.std.specs.Prelude.{◌<◌, ◌≡◌, ◌⊎◌};
+ghost use Rattle.std.specs.Prelude.{◌≡◌, ◌⊎◌};
 
 use gps_time::Tick;
 use obs_rows::{
-    Arc, ArcList, PairBuilder, PairRows, Row, SIGNALS, Session, SessionBuilder, Signals, are_arcs,
-    fine_signals, has_its_arcs, has_used_rows, has_used_shifts, is_point,
+    Arc, ArcList, MOST_PAIRS, MOST_SATELLITES, PairBuilder, PairRows, Row, SIGNALS, Session,
+    SessionBuilder, Signals, are_arcs, fine_signals, has_its_arcs, has_used_rows, has_used_shifts,
+    is_point,
 };
 use std::alloc::{AllocError, Global};
+
+/// Why there is no session.
+#[derive(Clone, Copy, Debug)]
+pub(crate) enum NoSession {
+    /// An allocation failed.
+    NoMemory,
+    /// A number is out of its range, or there is no row or no pair.
+    OutOfRange,
+}
+
+impl From<AllocError> for NoSession {
+    fn from(_fault: AllocError) -> NoSession {
+        NoSession::NoMemory
+    }
+}
 
 /// The arc, and what its row says: the observations, their radius, the direction, its radii.
 pub(crate) type Numbers = (u16, [i64; SIGNALS], i64, [i64; 3], [i64; 3]);
@@ -40,28 +56,62 @@ pub(crate) fn arc(sat: u8, datum: bool, last: u32) -> Arc {
     }
 }
 
-/// A pair of these rows, where they are in range.
+/// Three arcs, of which the first is the datum.
+pub(crate) fn three_arcs(alloc: Global, last: u32) -> Result<Vec<Arc>, AllocError> {
+    Ok(vec![in alloc;
+        arc(3, true, last),
+        arc(5, false, last),
+        arc(9, false, last),
+    ]?)
+}
+
+/// A pair without rows.
+pub(crate) fn empty_pair(alloc: Global, number: u32) -> Result<PairBuilder, NoSession> {
+    if number >= MOST_PAIRS {
+        return Err(NoSession::OutOfRange);
+    }
+    Ok(PairBuilder::new(alloc, number, Tick(13_881_024_000_000_000), 0))
+}
+
+/// Adds a row, where there is one that may follow.
+pub(crate) fn push_row(pair: &mut PairBuilder, row: Option<Row>) -> Result<(), NoSession> {
+    let row = row.ok_or(NoSession::OutOfRange)?;
+    if pair.rows.len() >= MOST_SATELLITES || !pair.may_follow(row.arc) {
+        return Err(NoSession::OutOfRange);
+    }
+    pair.push(row)?;
+    Ok(())
+}
+
+/// The pair of these rows, where there is one at least.
+pub(crate) fn with_rows(pair: PairBuilder) -> Result<PairRows, NoSession> {
+    if pair.rows.is_empty() {
+        return Err(NoSession::OutOfRange);
+    }
+    Ok(pair.finish())
+}
+
+// The observations with 0 in the place of each signal of a band that isn't used.
+fn used_of(y: &[i64; SIGNALS], signals: Signals) -> [i64; SIGNALS] {
+    let mut used = [0; SIGNALS];
+    for s in fine_signals(signals) {
+        used[*s] = y[*s];
+    }
+    used
+}
+
+/// A pair of what these rows say of the signals.
 pub(crate) fn pair_of(
     alloc: Global,
     number: u32,
+    signals: Signals,
     rows: &[Numbers],
-) -> Result<Option<PairRows>, AllocError>
-    requires { number < 3600 }
-{
-    let mut pair = PairBuilder::new(alloc, number, Tick(13_881_024_000_000_000), 0);
+) -> Result<PairRows, NoSession> {
+    let mut pair = empty_pair(alloc, number)?;
     for (arc, y, ry, u, ru) in rows {
-        let Some(row) = Row::new(*arc, *y, *ry, *u, *ru) else {
-            return Ok(None);
-        };
-        if pair.rows.len() >= 15 || !pair.may_follow(*arc) {
-            return Ok(None);
-        }
-        pair.push(row)?;
+        push_row(&mut pair, Row::new(*arc, used_of(y, signals), *ry, *u, *ru))?;
     }
-    if pair.rows.is_empty() {
-        return Ok(None);
-    }
-    Ok(Some(pair.finish()))
+    with_rows(pair)
 }
 
 /// A session without pairs, where the arcs are in range.
@@ -70,45 +120,42 @@ pub(crate) fn session_with(
     scale: u32,
     signals: Signals,
     arcs: Vec<Arc>,
-) -> Option<SessionBuilder>
+) -> Result<SessionBuilder, NoSession>
     requires { (scale ≡ 0) ⊎ (scale ≡ 14) }
 {
     let base = [63_781_370_000, 0, 0];
-    if !are_arcs(&arcs) || !is_point(&base) {
-        return None;
+    if !are_arcs(&arcs) || !is_point(&base) || !arcs.iter().all(|a| has_used_shifts(signals, a)) {
+        return Err(NoSession::OutOfRange);
     }
-    if !arcs.iter().all(|a| has_used_shifts(signals, a)) {
-        return None;
-    }
-    Some(SessionBuilder::new(alloc, scale, b'G', base, base, signals, ArcList::new(arcs)))
+    Ok(SessionBuilder::new(alloc, scale, b'G', base, base, signals, ArcList::new(arcs)))
 }
 
-/// Adds the pair of these rows; false where they are out of range.
+/// Adds a pair that may follow.
+pub(crate) fn push_pair(session: &mut SessionBuilder, pair: PairRows) -> Result<(), NoSession> {
+    if !session.may_follow(pair.number)
+        || !has_its_arcs(session.arcs.as_slice(), &pair)
+        || !has_used_rows(fine_signals(session.signals), &pair)
+    {
+        return Err(NoSession::OutOfRange);
+    }
+    session.push(pair)?;
+    Ok(())
+}
+
+/// Adds the pair of these rows.
 pub(crate) fn push(
     alloc: Global,
     session: &mut SessionBuilder,
     number: u32,
     rows: &[Numbers],
-) -> Result<bool, AllocError>
-    requires { number < 3600 }
-{
-    let Some(pair) = pair_of(alloc, number, rows)? else {
-        return Ok(false);
-    };
-    if !session.may_follow(pair.number) || !has_its_arcs(session.arcs.as_slice(), &pair) {
-        return Ok(false);
-    }
-    if !has_used_rows(fine_signals(session.signals), &pair) {
-        return Ok(false);
-    }
-    session.push(pair)?;
-    Ok(true)
+) -> Result<(), NoSession> {
+    push_pair(session, pair_of(alloc, number, session.signals, rows)?)
 }
 
 /// The session of these pairs, where there is one at least.
-pub(crate) fn finished(session: SessionBuilder) -> Option<Session> {
+pub(crate) fn finished(session: SessionBuilder) -> Result<Session, NoSession> {
     if session.pairs.is_empty() {
-        return None;
+        return Err(NoSession::OutOfRange);
     }
-    Some(session.finish())
+    Ok(session.finish())
 }

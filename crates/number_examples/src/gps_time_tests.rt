@@ -21,8 +21,7 @@ const TICKS: [((u16, u8, u8), (u8, u8, u32), u64); 9] = [
 fn counts_ticks(rt: HostRuntime) {
     for row in TICKS.iter() {
         let ((year, month, day), (hour, minute, part), want) = *row;
-        let found = tick_of(year, month, day, hour, minute, part);
-        assert_eq!(rt; found, Ok(Tick(want)), "at {year} {month} {day}");
+        assert!(rt; tick_of(year, month, day, hour, minute, part) == Ok(Tick(want)));
     }
 }
 
@@ -46,17 +45,13 @@ const NO_DATES: [((u16, u8, u8), (u8, u8, u32)); 13] = [
 fn refuses_dates(rt: HostRuntime) {
     for row in NO_DATES.iter() {
         let ((year, month, day), (hour, minute, part)) = *row;
-        let found = tick_of(year, month, day, hour, minute, part);
-        assert_eq!(rt; found, Err(DateFault), "at {year} {month} {day}");
+        assert!(rt; tick_of(year, month, day, hour, minute, part) == Err(DateFault));
     }
 }
 
 #[test]
 fn counts_weeks(rt: HostRuntime) {
-    assert_eq!(rt; week_tick(0, 0), Tick(0));
-    assert_eq!(rt; week_tick(2304, 5), Tick(13_934_592_050_000_000));
-    assert_eq!(rt;
-        tick_of(2024, 3, 3, 0, 0, 50_000_000),
-        Ok(week_tick(2304, 5))
-    );
+    assert!(rt; week_tick(0, 0) == Tick(0));
+    assert!(rt; week_tick(2304, 5) == Tick(13_934_592_050_000_000));
+    assert!(rt; tick_of(2024, 3, 3, 0, 0, 50_000_000) == Ok(week_tick(2304, 5)));
 }

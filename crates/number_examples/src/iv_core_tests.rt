@@ -1,6 +1,5 @@
 //! Boxes on a grid, at the ends of their range and between.
 use iv_core::{DivFault, Iv, Overwidth};
-use std::test::Fail;
 
 const MOST: i64 = 1 << 62;
 
@@ -20,28 +19,22 @@ fn ends_of<const K: u32>(found: Result<Iv<K>, Overwidth>) -> Option<Ends> {
 
 #[test]
 fn rounds_ratios_outward(rt: HostRuntime) {
-    let thirds = (
-        ends_of(Iv::<2>::ratio(1, 3)),
-        ends_of(Iv::<2>::ratio(-1, 3)),
-    );
-    assert_eq!(rt; thirds, (Some((1, 2)), Some((-2, -1))));
+    assert!(rt; ends_of(Iv::<2>::ratio(1, 3)) == Some((1, 2)));
+    assert!(rt; ends_of(Iv::<2>::ratio(-1, 3)) == Some((-2, -1)));
     let close = Iv::<60>::ratio((1 << 66) - 1, (1 << 64) + 1);
-    assert_eq!(rt; ends_of(close), Some((MOST - 1, MOST)));
+    assert!(rt; ends_of(close) == Some((MOST - 1, MOST)));
 }
 
 // Ratios at a scale of 1, at the ends of the range.
 #[test]
 fn refuses_great_ratios(rt: HostRuntime) {
-    let found = (
-        ends_of(Iv::<0>::ratio(1 << 62, 1)),
-        ends_of(Iv::<0>::ratio((1 << 62) + 1, 1)),
-        ends_of(Iv::<0>::ratio(-(3 << 62) - 1, 3)),
-    );
-    assert_eq!(rt; found, (Some((MOST, MOST)), None, None));
-    assert_eq!(rt; ends_of(Iv::<0>::point(MOST + 1)), None);
+    assert!(rt; ends_of(Iv::<0>::ratio(1 << 62, 1)) == Some((MOST, MOST)));
+    assert!(rt; Iv::<0>::ratio((1 << 62) + 1, 1).is_err());
+    assert!(rt; Iv::<0>::ratio(-(3 << 62) - 1, 3).is_err());
+    assert!(rt; Iv::<0>::point(MOST + 1).is_err());
 }
 
-#[derive(Clone, Copy, Debug)]
+#[derive(Clone, Copy)]
 enum Call {
     Plus,
     Minus,
@@ -78,23 +71,23 @@ static OF_TWO: [(Call, Ends, Ends, Option<Ends>); 19] = [
     (Call::Meet, (1, 2), (2, 4), Some((2, 2))),
 ];
 
-fn of_two(call: Call, a: &Iv<0>, b: &Iv<0>) -> Option<Ends> {
-    match call {
-        Call::Plus => ends_of(a.add(b)),
-        Call::Minus => ends_of(a.sub(b)),
-        Call::Times => ends_of(a.mul_to::<0, 0>(b)),
-        Call::Join => ends_of(Ok(a.join(b))),
-        Call::Meet => a.meet(b).map(|found| (found.lo, found.hi)),
-    }
+fn of_two(call: Call, a: Ends, b: Ends) -> Result<Option<Ends>, Overwidth> {
+    let (a, b) = (between(a)?, between(b)?);
+    Ok(match call {
+        Call::Plus => ends_of(a.add(&b)),
+        Call::Minus => ends_of(a.sub(&b)),
+        Call::Times => ends_of(a.mul_to::<0, 0>(&b)),
+        Call::Join => ends_of(Ok(a.join(&b))),
+        Call::Meet => a.meet(&b).map(|found| (found.lo, found.hi)),
+    })
 }
 
 #[test]
-fn bounds_what_two_boxes_give(rt: HostRuntime) -> Result<(), Fail> {
+fn bounds_what_two_boxes_give(rt: HostRuntime) {
     for row in OF_TWO.iter() {
         let (call, a, b, want) = *row;
-        assert_eq!(rt; of_two(call, &between(a)?, &between(b)?), want, "{row:?}");
+        assert!(rt; of_two(call, a, b) == Ok(want));
     }
-    Ok(())
 }
 
 #[test]
@@ -102,12 +95,9 @@ fn bounds_products_of_other_scales(rt: HostRuntime) {
     let half = Iv::<1>::from_ends(1, 2);
     let three_halves = Iv::<1>::from_ends(1, 3);
     let wide = Iv::<60>::from_ends(-MOST, MOST);
-    let found = (
-        ends_of(half.mul_to::<1, 0>(&three_halves)),
-        ends_of(half.mul_to::<1, 1>(&three_halves)),
-        ends_of(wide.mul_to::<60, 58>(&wide)),
-    );
-    assert_eq!(rt; found, (Some((0, 2)), Some((0, 3)), Some((-MOST, MOST))));
+    assert!(rt; ends_of(half.mul_to::<1, 0>(&three_halves)) == Some((0, 2)));
+    assert!(rt; ends_of(half.mul_to::<1, 1>(&three_halves)) == Some((0, 3)));
+    assert!(rt; ends_of(wide.mul_to::<60, 58>(&wide)) == Some((-MOST, MOST)));
 }
 
 static SQUARES: [(Ends, Option<Ends>); 5] = [
@@ -118,15 +108,17 @@ static SQUARES: [(Ends, Option<Ends>); 5] = [
     ((1, (1 << 31) + 1), None),
 ];
 
+fn square_of(ends: Ends) -> Result<Option<Ends>, Overwidth> {
+    Ok(ends_of(between(ends)?.square_to::<0>()))
+}
+
 #[test]
-fn bounds_squares(rt: HostRuntime) -> Result<(), Fail> {
+fn bounds_squares(rt: HostRuntime) {
     for row in SQUARES.iter() {
-        let found = between(row.0)?.square_to::<0>();
-        assert_eq!(rt; ends_of(found), row.1, "{:?}", row.0);
+        assert!(rt; square_of(row.0) == Ok(row.1));
     }
     let half = Iv::<1>::from_ends(3, 5);
-    assert_eq!(rt; ends_of(half.square_to::<0>()), Some((2, 7)));
-    Ok(())
+    assert!(rt; ends_of(half.square_to::<0>()) == Some((2, 7)));
 }
 
 static QUOTIENTS: [(Ends, Ends, Result<Ends, DivFault>); 9] = [
@@ -141,34 +133,34 @@ static QUOTIENTS: [(Ends, Ends, Result<Ends, DivFault>); 9] = [
     ((1, 2), (-1, 0), Err(DivFault::ZeroInside)),
 ];
 
+fn quotient_ends(found: Result<Iv<2>, DivFault>) -> Result<Ends, DivFault> {
+    found.map(|found| (found.lo, found.hi))
+}
+
+fn quotient_of(a: Ends, b: Ends) -> Result<Result<Ends, DivFault>, Overwidth> {
+    Ok(quotient_ends(between(a)?.div_to::<0, 2>(&between(b)?)))
+}
+
 #[test]
-fn bounds_quotients(rt: HostRuntime) -> Result<(), Fail> {
+fn bounds_quotients(rt: HostRuntime) {
     for row in QUOTIENTS.iter() {
         let (a, b, want) = *row;
-        let found = between(a)?.div_to::<0, 2>(&between(b)?);
-        assert_eq!(rt;
-            found.map(|found| (found.lo, found.hi)),
-            want,
-            "{a:?} over {b:?}"
-        );
+        assert!(rt; quotient_of(a, b) == Ok(want));
     }
-    Ok(())
+}
+
+fn poor_quotient_of(a: Ends, b: Ends) -> Result<Result<Ends, DivFault>, Overwidth> {
+    let poor = between((1_000_003, 1_000_033))?.inverses();
+    Ok(quotient_ends(between(a)?.div_by::<0, 2>(&between(b)?, &poor)))
 }
 
 // From inverses of other numbers each quotient is divided out, to the same ends.
 #[test]
-fn bounds_quotients_by_poor_inverses(rt: HostRuntime) -> Result<(), Fail> {
-    let poor = between((1_000_003, 1_000_033))?.inverses();
+fn bounds_quotients_by_poor_inverses(rt: HostRuntime) {
     for row in QUOTIENTS.iter() {
         let (a, b, want) = *row;
-        let found = between(a)?.div_by::<0, 2>(&between(b)?, &poor);
-        assert_eq!(rt;
-            found.map(|found| (found.lo, found.hi)),
-            want,
-            "{a:?} over {b:?}"
-        );
+        assert!(rt; poor_quotient_of(a, b) == Ok(want));
     }
-    Ok(())
 }
 
 // The scale of the root, the ends of a box and those of its root. A guess that is far off would not end in the time of a test.
@@ -223,16 +215,16 @@ fn root_of(scale: u32, ends: Ends) -> Option<Ends> {
 fn bounds_roots(rt: HostRuntime) {
     for row in ROOTS.iter() {
         let (scale, ends, want) = *row;
-        assert_eq!(rt; root_of(scale, ends), Some(want), "{row:?}");
+        assert!(rt; root_of(scale, ends) == Some(want));
     }
     let largest = Iv::<60>::from_ends(MOST, MOST).root_to::<60>();
-    assert_eq!(rt; (largest.lo, largest.hi), ((1 << 61) - 2, (1 << 61) + 1));
+    assert!(rt; (largest.lo, largest.hi) == ((1 << 61) - 2, (1 << 61) + 1));
 }
 
 #[test]
 fn measures_the_widest(rt: HostRuntime) {
     let all = Iv::<0>::from_ends(-MOST, MOST);
-    assert_eq!(rt; all.width(), 1 << 63);
+    assert!(rt; all.width() == 1 << 63);
 }
 
 // The first is of no use, nor are the last two; the others lie near 2^30 times 10^9.
@@ -251,10 +243,6 @@ fn finds_roots_from_guesses(rt: HostRuntime) {
     let squares = Iv::<0>::from_ends(1_000_000_000_000_000_000, 1_000_000_000_000_000_000);
     for guess in GUESSES.iter() {
         let found = squares.root_by::<30>(*guess);
-        assert_eq!(rt;
-            (found.lo, found.hi),
-            (1_073_741_823_999_999_999, 1_073_741_824_000_000_001),
-            "from {guess}"
-        );
+        assert!(rt; (found.lo, found.hi) == (1_073_741_823_999_999_999, 1_073_741_824_000_000_001));
     }
 }

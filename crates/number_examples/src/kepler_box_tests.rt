@@ -205,7 +205,7 @@ fn box_fault(row: &Solution) -> Option<&'static str> {
 #[test]
 fn solutions(rt: HostRuntime) {
     for row in SOLUTIONS.iter() {
-        assert_eq!(rt; box_fault(row), None, "at {} and {}", row.0, row.1);
+        assert!(rt; box_fault(row).is_none());
     }
 }
 
@@ -224,7 +224,7 @@ fn perigee_fault(e: i64) -> Option<&'static str> {
 #[test]
 fn at_perigee(rt: HostRuntime) {
     for e in [0, 1 << 55] {
-        assert_eq!(rt; perigee_fault(e), None, "at {e}");
+        assert!(rt; perigee_fault(e).is_none());
     }
 }
 
@@ -247,9 +247,9 @@ fn widest(rt: HostRuntime) {
         hi: 1 << 55,
     };
     let found = anomaly_box(&m, &e);
-    for (at, row) in CORNERS.iter().enumerate() {
+    for row in CORNERS.iter() {
         let (angle, cos, sin) = *row;
-        assert_eq!(rt; held_fault(&found, angle, cos, sin), None, "corner {at}");
+        assert!(rt; held_fault(&found, angle, cos, sin).is_none());
     }
 }
 
@@ -270,6 +270,6 @@ fn steps_fault(row: &Solution) -> Option<&'static str> {
 #[test]
 fn by_steps(rt: HostRuntime) {
     for row in SOLUTIONS.iter() {
-        assert_eq!(rt; steps_fault(row), None, "at {} and {}", row.0, row.1);
+        assert!(rt; steps_fault(row).is_none());
     }
 }

@@ -303,7 +303,7 @@ fn is_placed(rt: &impl Abort, case: &Case) -> bool {
 
 #[test]
 fn places(rt: HostRuntime) {
-    for (at, case) in CASES.iter().enumerate() {
-        assert_eq!(rt; is_placed(&rt, case), true, "case {at}");
+    for case in CASES.iter() {
+        assert!(rt; is_placed(&rt, case));
     }
 }

@@ -146,7 +146,7 @@ fn sum_fault(row: &Sums) -> Option<&'static str> {
 #[test]
 fn sums_and_doubles(rt: HostRuntime) {
     for row in SUMS.iter() {
-        assert_eq!(rt; sum_fault(row), None, "of {} and {}", row.0, row.1);
+        assert!(rt; sum_fault(row).is_none());
     }
 }
 
@@ -173,6 +173,6 @@ fn ellipse_fault(row: &Ellipse) -> Option<&'static str> {
 #[test]
 fn true_anomalies(rt: HostRuntime) {
     for row in ELLIPSES.iter() {
-        assert_eq!(rt; ellipse_fault(row), None, "at {} and {}", row.0, row.1);
+        assert!(rt; ellipse_fault(row).is_none());
     }
 }

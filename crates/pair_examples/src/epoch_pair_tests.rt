@@ -1,4 +1,6 @@
 //! Pairs of epochs by their tags, and the signals that both files have.
+ghost use Rattle.std.specs.Prelude.{◌≤◌};
+
 use epoch_pair::{PairFault, PairOf, pair, signals, take};
 use gps_time::Tick;
 use obs_rows::{BANDS_L1_L2, BANDS_L1_L2_L5, BANDS_L1_L5, is_bands_number};
@@ -41,48 +43,50 @@ const fn of(base: u32, rover: u32) -> PairOf {
     PairOf { base, rover }
 }
 
+// The pairs of two files with these tags.
+fn pairs_of(alloc: Global, base: &[u64], rover: &[u64], gap: u64) -> Result<Vec<PairOf>, PairFault>
+    requires { gap ≤ 5_000_000 }
+{
+    let Ok(base) = file_of(alloc, base) else {
+        return Err(PairFault::NoMemory);
+    };
+    let Ok(rover) = file_of(alloc, rover) else {
+        return Err(PairFault::NoMemory);
+    };
+    pair(alloc, &base, &rover, gap)
+}
+
 #[test]
 fn pairs_by_tags(rt: HostRuntime) -> Result<(), Fail> {
-    let base = file_of(rt.alloc(), &[100, 200, 300, 400])?;
-    let rover = file_of(rt.alloc(), &[99, 205, 290, 420])?;
-    let pairs = pair(rt.alloc(), &base, &rover, 10)?;
-    assert_eq!(rt; pairs.as_slice(), [of(0, 0), of(1, 1), of(2, 2)].as_slice());
+    let pairs = pairs_of(rt.alloc(), &[100, 200, 300, 400], &[99, 205, 290, 420], 10)?;
+    assert!(rt; pairs.as_slice() == [of(0, 0), of(1, 1), of(2, 2)].as_slice());
     let taken = take(rt.alloc(), &pairs, 1, 1, 5)?;
-    assert_eq!(rt; taken.as_slice(), [of(1, 1), of(2, 2)].as_slice());
+    assert!(rt; taken.as_slice() == [of(1, 1), of(2, 2)].as_slice());
     Ok(())
 }
 
 // With no gap only equal tags are pairs, and tags that rise by one are not too dense.
 #[test]
 fn pairs_equal_tags(rt: HostRuntime) -> Result<(), Fail> {
-    let base = file_of(rt.alloc(), &[1, 2, 4])?;
-    let rover = file_of(rt.alloc(), &[2, 3, 4])?;
-    let pairs = pair(rt.alloc(), &base, &rover, 0)?;
-    assert_eq!(rt; pairs.as_slice(), [of(1, 0), of(2, 2)].as_slice());
+    let pairs = pairs_of(rt.alloc(), &[1, 2, 4], &[2, 3, 4], 0)?;
+    assert!(rt; pairs.as_slice() == [of(1, 0), of(2, 2)].as_slice());
     Ok(())
+}
+
+// Whether the tags are too dense at the rover or at the base, and at which epoch.
+fn dense(alloc: Global, base: &[u64], rover: &[u64]) -> Option<(bool, u32)> {
+    match pairs_of(alloc, base, rover, 10) {
+        Err(PairFault::Dense { rover, epoch }) => Some((rover, epoch)),
+        _ => None,
+    }
 }
 
 // A tag at 2·gap after the one before is too dense; the base is looked at first.
 #[test]
-fn refuses_dense_files(rt: HostRuntime) -> Result<(), Fail> {
-    let wide = file_of(rt.alloc(), &[100, 121])?;
-    let dense = file_of(rt.alloc(), &[50, 100, 120])?;
-    let at_rover = pair(rt.alloc(), &wide, &dense, 10).err();
-    let at_base = pair(rt.alloc(), &dense, &dense, 10).err();
-    let found = |rover: bool| Some(PairFault::Dense { rover, epoch: 2 });
-    assert_eq!(rt; (at_rover, at_base), (found(true), found(false)));
-    Ok(())
-}
-
-// The largest files are paired in one pass.
-#[test]
-fn pairs_the_largest_files(rt: HostRuntime) -> Result<(), Fail> {
-    let base = steady(rt.alloc(), 0)?;
-    let rover = steady(rt.alloc(), 7)?;
-    let pairs = pair(rt.alloc(), &base, &rover, 100_000)?;
-    let last = pairs.as_slice().last().copied();
-    assert_eq!(rt; (pairs.len(), last), (20_000, Some(of(19_999, 19_999))));
-    Ok(())
+fn refuses_dense_files(rt: HostRuntime) {
+    let (wide, close) = ([100, 121], [50, 100, 120]);
+    assert!(rt; dense(rt.alloc(), &wide, &close) == Some((true, 2)));
+    assert!(rt; dense(rt.alloc(), &close, &close) == Some((false, 2)));
 }
 
 // 20,000 epochs, a second apart.
@@ -96,6 +100,21 @@ fn steady(alloc: Global, begin: u64) -> Result<ObsFile, AllocError> {
         )?;
     }
     Ok(file)
+}
+
+// How many pairs the largest files have, and the last of them.
+fn largest_pairs(alloc: Global) -> Option<(usize, Option<PairOf>)> {
+    let base = steady(alloc, 0).ok()?;
+    let rover = steady(alloc, 7).ok()?;
+    let pairs = pair(alloc, &base, &rover, 100_000).ok()?;
+    Some((pairs.len(), pairs.as_slice().last().copied()))
+}
+
+// The largest files are paired in one pass.
+#[test]
+fn pairs_the_largest_files(rt: HostRuntime) {
+    let last = Some(of(19_999, 19_999));
+    assert!(rt; largest_pairs(rt.alloc()) == Some((20_000, last)));
 }
 
 fn listing(alloc: Global, names: &[&str]) -> Result<ObsFile, AllocError> {
@@ -120,26 +139,22 @@ static LETTERS: [(u16, (u8, u8, u8)); 3] = [
     (125, (b'W', b'X', b'X')),
 ];
 
-fn letters_of(base: &ObsFile, rover: &ObsFile, bands: u16) -> Option<(u8, u8, u8)> {
+// The letters on these bands of a file with all these types and one with those from the third on.
+fn letters_of(alloc: Global, bands: u16) -> Result<Option<(u8, u8, u8)>, AllocError> {
     if !is_bands_number(bands) {
-        return None;
+        return Ok(None);
     }
-    signals(base, rover, bands).map(|s| (s.l1, s.l2, s.l5))
+    let base = listing(alloc, &NAMES)?;
+    let rover = listing(alloc, &NAMES[2..])?;
+    Ok(signals(&base, &rover, bands).map(|s| (s.l1, s.l2, s.l5)))
 }
 
 // L1 C is listed first but without a phase at the rover, and L2 X comes before L2 L and L5 X before L5 I whatever the order
 // of listing. A band that isn't used has no letter.
 #[test]
 fn takes_the_first_common_letters(rt: HostRuntime) -> Result<(), Fail> {
-    let base = listing(rt.alloc(), &NAMES)?;
-    let rover = listing(rt.alloc(), &NAMES[2..])?;
     for row in LETTERS.iter() {
-        assert_eq!(rt;
-            letters_of(&base, &rover, row.0),
-            Some(row.1),
-            "bands {}",
-            row.0
-        );
+        assert!(rt; letters_of(rt.alloc(), row.0)? == Some(row.1));
     }
     Ok(())
 }
@@ -161,15 +176,20 @@ static ON_L5: [(&[&str], Option<u8>); 7] = [
     (&["C1C", "L1C"], None),
 ];
 
+// The letter on L5 of files with these types, and whether there are letters on L2 and on all bands.
+fn letters_with(alloc: Global, names: &[&str]) -> Result<(Option<u8>, bool, bool), AllocError> {
+    let file = listing(alloc, names)?;
+    let on_l5 = signals(&file, &file, BANDS_L1_L5).map(|s| s.l5);
+    let on_l2 = signals(&file, &file, BANDS_L1_L2).is_some();
+    let on_all = signals(&file, &file, BANDS_L1_L2_L5).is_some();
+    Ok((on_l5, on_l2, on_all))
+}
+
 // On L5 the letters are tried in the order Q, X, I, and each band that is used needs one.
 #[test]
 fn each_band_needs_a_letter(rt: HostRuntime) -> Result<(), Fail> {
     for row in ON_L5.iter() {
-        let file = listing(rt.alloc(), row.0)?;
-        let on_l5 = signals(&file, &file, BANDS_L1_L5).map(|s| s.l5);
-        let on_l2 = signals(&file, &file, BANDS_L1_L2).is_some();
-        let on_all = signals(&file, &file, BANDS_L1_L2_L5).is_some();
-        assert_eq!(rt; (on_l5, on_l2, on_all), (row.1, false, false));
+        assert!(rt; letters_with(rt.alloc(), row.0)? == (row.1, false, false));
     }
     Ok(())
 }

@@ -6,7 +6,7 @@ use decimal_text::Dec;
 use eph_store::{NavFile, Raw};
 use epoch_pair::{PairOf, pair, take};
 use gps_time::Tick;
-use obs_rows::{BANDS_L1_L2, Signals};
+use obs_rows::{Arc, BANDS_L1_L2, Signals};
 use obs_store::{Epoch, Epochs, ObsFile, ObsType, SLOTS, SatObs, Satellites, Value};
 use screening::{Screened, screen};
 use slip_arcs::cut;
@@ -126,16 +126,35 @@ fn alone(alloc: Global, sat: SatObs) -> Result<ObsFile, AllocError>
     Ok(receiver(epochs))
 }
 
-// Twenty epochs of two satellites, half a minute apart; in one the first satellite's phase on L2 lost lock, and before one power
-// failed.
-fn series(alloc: Global, lost: u64, failed: u64) -> Result<ObsFile, AllocError>
+// In which of twenty epochs the first satellite's phase on L2 lost lock, and before which power failed.
+#[derive(Clone, Copy)]
+struct Events {
+    lost: u64,
+    failed: u64,
+}
+
+const NEVER: u64 = 20;
+
+const NONE: Events = Events {
+    lost: NEVER,
+    failed: NEVER,
+};
+
+// Twenty epochs of two satellites, half a minute apart.
+fn series(alloc: Global, events: Events) -> Result<ObsFile, AllocError>
     ensures { IfOk result (λ file. HasPosition file.position) }
 {
     let mut epochs = Epochs::new(alloc);
     for k in 0..20u64 {
-        let lock = if k == lost { 1 } else { 0 };
+        let lock = if k == events.lost { 1 } else { 0 };
         let all = [observed(1, 0, lock, CODE), observed(2, 0, 0, CODE)];
-        add(alloc, &mut epochs, 300_000_000 * k, k == failed, &all)?;
+        add(
+            alloc,
+            &mut epochs,
+            300_000_000 * k,
+            k == events.failed,
+            &all,
+        )?;
     }
     Ok(receiver(epochs))
 }
@@ -177,19 +196,38 @@ fn screened(
 // Each how many pairs one is taken, the least pairs of an arc, and the kept arcs: the satellite, the first and the last pair.
 type Cut = (u32, u32, &'static [(u8, u32, u32)]);
 
-// Whether these arcs are kept of two satellites.
-fn has_arcs(alloc: Global, base: &ObsFile, rover: &ObsFile, want: &Cut) -> Result<bool, AllocError>
-    requires { HasPosition base.now.position }
+fn screened_series(
+    alloc: Global,
+    base: Events,
+    rover: Events,
+    step: u32,
+) -> Result<Screened, AllocError>
+    requires { 0 < step }
 {
+    let base = series(alloc, base)?;
+    let rover = series(alloc, rover)?;
+    let nav = records(alloc, 2)?;
+    screened(alloc, &base, &rover, &nav, step)
+}
+
+fn are_arcs(kept: &[Arc], want: &[(u8, u32, u32)]) -> bool {
+    for (arc, want) in kept.iter().zip(want.iter()) {
+        if (arc.sat, arc.first, arc.last) != *want {
+            return false;
+        }
+    }
+    kept.len() == want.len()
+}
+
+// Whether these arcs are kept of two satellites.
+fn has_arcs(alloc: Global, base: Events, rover: Events, want: &Cut) -> Result<bool, AllocError> {
     let (step, least, arcs) = *want;
     if step == 0 {
         return Ok(false);
     }
-    let nav = records(alloc, 2)?;
-    let found = screened(alloc, base, rover, &nav, step)?;
-    let kept = cut(alloc, found.used.as_slice(), BANDS_L1_L2, 12, least)?.kept;
-    let mut pairs = kept.as_slice().iter().zip(arcs);
-    Ok(kept.len() == arcs.len() && pairs.all(|(arc, want)| (arc.sat, arc.first, arc.last) == *want))
+    let found = screened_series(alloc, base, rover, step)?;
+    let found = cut(alloc, found.used.as_slice(), BANDS_L1_L2, 12, least)?;
+    Ok(are_arcs(found.kept.as_slice(), arcs))
 }
 
 // Lock is lost in epoch 6, which with each fourth pair isn't taken.
@@ -200,15 +238,9 @@ static LOCK_LOST: [Cut; 2] = [
 
 #[test]
 fn lost_lock_cuts_one_satellite(rt: HostRuntime) -> Result<(), Fail> {
-    let base = series(rt.alloc(), 6, 20)?;
-    let rover = series(rt.alloc(), 20, 20)?;
+    let base = Events { lost: 6, ..NONE };
     for row in LOCK_LOST.iter() {
-        assert_eq!(rt;
-            has_arcs(rt.alloc(), &base, &rover, row)?,
-            true,
-            "step {}",
-            row.0
-        );
+        assert!(rt; has_arcs(rt.alloc(), base, NONE, row)?);
     }
     Ok(())
 }
@@ -221,30 +253,25 @@ static POWER_FAILED: [Cut; 2] = [
 
 #[test]
 fn power_failure_cuts_every_satellite(rt: HostRuntime) -> Result<(), Fail> {
-    let base = series(rt.alloc(), 20, 20)?;
-    let rover = series(rt.alloc(), 20, 6)?;
+    let rover = Events { failed: 6, ..NONE };
     for row in POWER_FAILED.iter() {
-        assert_eq!(rt;
-            has_arcs(rt.alloc(), &base, &rover, row)?,
-            true,
-            "step {}",
-            row.0
-        );
+        assert!(rt; has_arcs(rt.alloc(), NONE, rover, row)?);
     }
     Ok(())
 }
 
-// How many satellites are used of one that the first receiver and then the second observes so.
-fn used_with(alloc: Global, nav: &NavFile, odd: SatObs) -> Result<(usize, usize), AllocError> {
-    let plain = alone(alloc, observed(1, 0, 0, CODE))?;
-    let odd = alone(alloc, odd)?;
-    let at_base = screened(alloc, &odd, &plain, nav, 1)?;
-    let at_rover = screened(alloc, &plain, &odd, nav, 1)?;
-    Ok((at_base.boxes.len(), at_rover.boxes.len()))
+// How many satellites are used of one that the receivers observe so.
+fn used_of(alloc: Global, base: SatObs, rover: SatObs) -> Result<usize, AllocError> {
+    let base = alone(alloc, base)?;
+    let rover = alone(alloc, rover)?;
+    let nav = records(alloc, 1)?;
+    Ok(screened(alloc, &base, &rover, &nav, 1)?.boxes.len())
 }
 
 // A phase, its lock, the codes, and how many satellites are used.
-static RANGES: [(i64, u8, i64, usize); 12] = [
+type Range = (i64, u8, i64, usize);
+
+static RANGES: [Range; 12] = [
     (100_000_000_000_000, 0, CODE, 1),
     (100_000_000_000_001, 0, CODE, 0),
     (-100_000_000_000_000, 0, CODE, 1),
@@ -259,13 +286,18 @@ static RANGES: [(i64, u8, i64, usize); 12] = [
     (0, 0, 100_000_000_001, 0),
 ];
 
+// Whether so many satellites are used where the first receiver observes that, and where the second does.
+fn are_used(alloc: Global, row: &Range) -> Result<bool, AllocError> {
+    let (phase, lock, code, used) = *row;
+    let plain = observed(1, 0, 0, CODE);
+    let odd = observed(1, phase, lock, code);
+    Ok(used_of(alloc, odd, plain)? == used && used_of(alloc, plain, odd)? == used)
+}
+
 #[test]
 fn ends_of_the_ranges(rt: HostRuntime) -> Result<(), Fail> {
-    let nav = records(rt.alloc(), 1)?;
     for row in RANGES.iter() {
-        let (phase, lock, code, used) = *row;
-        let found = used_with(rt.alloc(), &nav, observed(1, phase, lock, code))?;
-        assert_eq!(rt; found, (used, used), "{row:?}");
+        assert!(rt; are_used(rt.alloc(), row)?);
     }
     Ok(())
 }
@@ -283,25 +315,38 @@ fn sixteen(alloc: Global) -> Result<ObsFile, AllocError>
     Ok(receiver(epochs))
 }
 
+// How many of the sixteen are used with these records, and the last of them with what was observed of it.
+type Used = (usize, Option<(u8, [i64; 6])>);
+
+fn used_of_sixteen(alloc: Global, nav: &NavFile) -> Result<Used, AllocError> {
+    let file = sixteen(alloc)?;
+    let found = screened(alloc, &file, &file, nav, 1)?;
+    let last = found.boxes.as_slice().last().map(|b| (b.sat, b.observed));
+    Ok((found.boxes.len(), last))
+}
+
 // Of sixteen satellites the last isn't used.
 #[test]
 fn fifteen_above_the_mask(rt: HostRuntime) -> Result<(), Fail> {
-    let file = sixteen(rt.alloc())?;
-    let high = screened(rt.alloc(), &file, &file, &records(rt.alloc(), 16)?, 1)?;
-    let last = high.boxes.as_slice().last().map(|b| b.sat);
-    assert_eq!(rt; (high.boxes.len(), last), (15, Some(15)));
+    let nav = records(rt.alloc(), 16)?;
+    let found = used_of_sixteen(rt.alloc(), &nav)?;
+    assert!(rt; found == (15, Some((15, [0; 6]))));
     Ok(())
+}
+
+// Two satellites on both sides of the Earth, the first behind it.
+fn two_sides(alloc: Global) -> Result<NavFile, AllocError> {
+    let mut nav = NavFile::new(alloc);
+    nav.push(record(1, 314))?;
+    nav.push(record(2, 0))?;
+    Ok(nav)
 }
 
 // Of two satellites on both sides of the Earth the one behind it isn't used.
 #[test]
 fn none_behind_the_earth(rt: HostRuntime) -> Result<(), Fail> {
-    let file = sixteen(rt.alloc())?;
-    let mut nav = NavFile::new(rt.alloc());
-    nav.push(record(1, 314))?;
-    nav.push(record(2, 0))?;
-    let found = screened(rt.alloc(), &file, &file, &nav, 1)?;
-    let last = found.boxes.as_slice().last().map(|b| (b.sat, b.observed));
-    assert_eq!(rt; (found.boxes.len(), last), (1, Some((2, [0; 6]))));
+    let nav = two_sides(rt.alloc())?;
+    let found = used_of_sixteen(rt.alloc(), &nav)?;
+    assert!(rt; found == (1, Some((2, [0; 6]))));
     Ok(())
 }

@@ -108,18 +108,22 @@ fn long_file(alloc: Global, fails: Vec<u64>) -> Result<MemFiles, AllocError> {
     Ok(MemFiles::new(vec![in alloc; file]?, fails))
 }
 
+fn kept_of(alloc: Global, files: &mut MemFiles) -> Result<Kept, LoadFault> {
+    let mut kept = Kept {
+        bytes: Vec::new(alloc),
+        pieces: 0,
+    };
+    load_into(files, "a", &mut kept)?;
+    Ok(kept)
+}
+
 #[test]
 fn takes_a_file_in_pieces(rt: HostRuntime) -> Result<(), Fail> {
     let alloc = rt.alloc();
     let mut files = long_file(alloc, Vec::new(alloc))?;
     let text = load(alloc, &mut files, "a")?;
-    let mut kept = Kept {
-        bytes: Vec::new(alloc),
-        pieces: 0,
-    };
-    let answer = load_into(&mut files, "a", &mut kept);
-    assert_eq!(rt; (answer, kept.pieces), (Ok(()), 2));
-    assert!(rt; kept.bytes == text);
+    let kept = kept_of(alloc, &mut files)?;
+    assert!(rt; kept.pieces == 2 && kept.bytes == text);
     Ok(())
 }
 
@@ -134,18 +138,19 @@ fn answer_at(alloc: Global, call: u64) -> Result<Result<(), LoadFault>, AllocErr
 }
 
 #[test]
-fn tells_read_faults(rt: HostRuntime) -> Result<(), Fail> {
+fn tells_read_faults(rt: HostRuntime) -> Result<(), AllocError> {
     // the file is opened, read twice, and read to its end: four calls
     for call in 0..4 {
-        let found = answer_at(rt.alloc(), call)?;
-        assert_eq!(rt; found, Err(LoadFault::ReadFault), "at {call}");
+        assert!(rt; answer_at(rt.alloc(), call)? == Err(LoadFault::ReadFault));
     }
-    assert_eq!(rt; answer_at(rt.alloc(), 4)?, Ok(()));
+    assert!(rt; answer_at(rt.alloc(), 4)?.is_ok());
     Ok(())
 }
 
 // The bytes of the file and those that the taker has room for; then what is answered and how many bytes it has taken.
-const LIMITS: [(usize, usize, Result<(), LoadFault>, usize); 3] = [
+type Limit = (usize, usize, Result<(), LoadFault>, usize);
+
+const LIMITS: [Limit; 3] = [
     (MAX_FILE, MAX_FILE, Ok(()), MAX_FILE),
     (MAX_FILE + 1, MAX_FILE, Err(LoadFault::BigFile), MAX_FILE),
     (
@@ -156,13 +161,15 @@ const LIMITS: [(usize, usize, Result<(), LoadFault>, usize); 3] = [
     ),
 ];
 
+fn is_limited(row: &Limit) -> bool {
+    let (long, limit, want, taken) = *row;
+    let mut counted = Counted { taken: 0, limit };
+    load_into(&mut LongFile::new(long), "a", &mut counted) == want && counted.taken == taken
+}
+
 #[test]
 fn limits_the_file_and_the_memory(rt: HostRuntime) {
     for row in LIMITS.iter() {
-        let (long, limit, want, taken) = *row;
-        let mut files = LongFile::new(long);
-        let mut counted = Counted { taken: 0, limit };
-        let found = load_into(&mut files, "a", &mut counted);
-        assert_eq!(rt; (found, counted.taken), (want, taken), "of {long}");
+        assert!(rt; is_limited(row));
     }
 }

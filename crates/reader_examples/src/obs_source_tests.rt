@@ -51,29 +51,39 @@ fn whole(alloc: Global, first: &str, text: &str) -> Result<ObsFile, TextFault> {
     }
 }
 
+// Whether pieces of that length give this file.
+fn gives(alloc: Global, text: &str, most: usize, file: &str) -> Result<bool, Fail> {
+    let found = taken(alloc, text.as_bytes(), most)??;
+    Ok(format!(in alloc; "{found:?}")?.as_str() == file)
+}
+
 // The number of epochs of a text, and the first length of pieces in which it isn't read as it is whole.
 fn other_length(alloc: Global, first: &str, text: &str) -> Result<(usize, Option<usize>), Fail> {
-    let file = whole(alloc, first, text)?;
-    let want = format!(in alloc; "{file:?}")?;
+    let whole = whole(alloc, first, text)?;
+    let file = format!(in alloc; "{whole:?}")?;
     // 81 bytes end after the CR of the first line
     for most in [1, 7, 80, 81, 65_536] {
-        let other = taken(alloc, text.as_bytes(), most)??;
-        let found = format!(in alloc; "{other:?}")?;
-        if found.as_str() != want.as_str() {
-            return Ok((file.epochs.len(), Some(most)));
+        if !gives(alloc, text, most, &file)? {
+            return Ok((whole.epochs.len(), Some(most)));
         }
     }
-    Ok((file.epochs.len(), None))
+    Ok((whole.epochs.len(), None))
+}
+
+// Whether the one epoch of a text is read in pieces, and of the text with CR before each LF.
+fn is_read_in_pieces(alloc: Global, first: &str, rest: &str) -> Result<bool, Fail> {
+    let text = joined(alloc, &[first, rest])?;
+    let returns = with_returns(alloc, &text)?;
+    Ok(
+        other_length(alloc, first, &text)? == (1, None)
+            && other_length(alloc, first, &returns)? == (1, None),
+    )
 }
 
 #[test]
 fn reads_either_format_in_pieces(rt: HostRuntime) -> Result<(), Fail> {
-    let alloc = rt.alloc();
     for (first, rest) in [(LINE_3, REST_3), (LINE_2, REST_2)] {
-        let text = joined(alloc, &[first, rest])?;
-        let returns = with_returns(alloc, &text)?;
-        assert_eq!(rt; other_length(alloc, first, &text)?, (1, None));
-        assert_eq!(rt; other_length(alloc, first, &returns)?, (1, None));
+        assert!(rt; is_read_in_pieces(rt.alloc(), first, rest)?);
     }
     Ok(())
 }
@@ -107,18 +117,19 @@ const FIRST_LINES: [(&str, (u32, u32, What)); 6] = [
 
 #[test]
 fn tells_the_format_by_the_first_line(rt: HostRuntime) -> Result<(), Fail> {
-    let alloc = rt.alloc();
     for row in FIRST_LINES.iter() {
         let (text, want) = *row;
-        let found = place_of(alloc, text.as_bytes(), 1)?;
-        assert_eq!(rt; found, Some(want));
+        assert!(rt; place_of(rt.alloc(), text.as_bytes(), 1)? == Some(want));
     }
     Ok(())
 }
 
 const LONG: Option<(u32, u32, What)> = Some((1, 1, What::LongLine));
 
-const LENGTHS: [(&str, &str, usize, Option<(u32, u32, What)>); 8] = [
+// A first line, what follows it, the length to which blanks fill it, and where the text is refused.
+type Length = (&'static str, &'static str, usize, Option<(u32, u32, What)>);
+
+const LENGTHS: [Length; 8] = [
     (LINE_3, REST_3, 4_096, None),
     (LINE_2, REST_2, 4_096, None),
     (LINE_3, REST_3, 4_097, LONG),
@@ -129,17 +140,20 @@ const LENGTHS: [(&str, &str, usize, Option<(u32, u32, What)>); 8] = [
     (LINE_2, "", 4_098, LONG),
 ];
 
+// Whether a text is refused there in short and in long pieces.
+fn is_refused_at(alloc: Global, row: &Length) -> Result<bool, Fail> {
+    let (line, rest, length, want) = *row;
+    let text = format!(in alloc; "{line:<length$}{rest}")?;
+    Ok(
+        place_of(alloc, text.as_bytes(), 1)? == want
+            && place_of(alloc, text.as_bytes(), 4_096)? == want,
+    )
+}
+
 #[test]
 fn keeps_the_length_of_the_first_line(rt: HostRuntime) -> Result<(), Fail> {
-    let alloc = rt.alloc();
     for row in LENGTHS.iter() {
-        let (line, rest, length, want) = *row;
-        let text = format!(in alloc; "{line:<length$}{rest}")?;
-        let found = (
-            place_of(alloc, text.as_bytes(), 1)?,
-            place_of(alloc, text.as_bytes(), 4_096)?,
-        );
-        assert_eq!(rt; found, (want, want));
+        assert!(rt; is_refused_at(rt.alloc(), row)?);
     }
     Ok(())
 }

@@ -2,7 +2,6 @@
 use gps_time::Tick;
 use obs_store::{Epoch, Epochs, ObsFile, ObsType, SLOTS, SatObs, Satellites};
 use std::alloc::{AllocError, Global};
-use std::test::Fail;
 
 const SLOTS_BY_NAME: [(&str, usize); 8] = [
     ("C1C", 0),
@@ -17,33 +16,53 @@ const SLOTS_BY_NAME: [(&str, usize); 8] = [
 
 const NO_NAMES: [&str; 5] = ["C1P", "L5P", "c1c", "C1C ", ""];
 
+fn slot_of(name: &str) -> Option<usize> {
+    Some(ObsType::named(name.as_bytes())?.slot())
+}
+
 #[test]
 fn names_and_slots(rt: HostRuntime) {
     for row in SLOTS_BY_NAME.iter() {
         let (name, slot) = *row;
-        let found = ObsType::named(name.as_bytes()).map(|kind| kind.slot());
-        assert_eq!(rt; found, Some(slot), "at {name}");
+        assert!(rt; slot_of(name) == Some(slot));
     }
     for name in NO_NAMES.iter() {
-        assert_eq!(rt; ObsType::named(name.as_bytes()), None, "at {name}");
+        assert!(rt; ObsType::named(name.as_bytes()).is_none());
     }
 }
 
-#[test]
-fn holds_epochs(rt: HostRuntime) -> Result<(), Fail> {
-    let tag = Tick(13_881_024_000_000_000);
-    let mut sats = Satellites::new(rt.alloc());
+fn only_5(alloc: Global) -> Result<Satellites, AllocError> {
+    let mut sats = Satellites::new(alloc);
     sats.push(SatObs::missing(5))?;
-    assert_eq!(rt; (sats.has(5), sats.has(6)), (true, false));
-    let mut epochs = Epochs::new(rt.alloc());
-    assert_eq!(rt; (epochs.len(), epochs.last_tag()), (0, None));
+    Ok(sats)
+}
+
+fn one_epoch(alloc: Global, tag: Tick, sats: Satellites) -> Result<Epochs, AllocError> {
+    let mut epochs = Epochs::new(alloc);
     epochs.push(Epoch {
         tag,
         power: false,
         sats,
     })?;
-    let found = (epochs.len(), epochs.tag_at(0), epochs.last_tag());
-    assert_eq!(rt; found, (1, tag, Some(tag)));
+    Ok(epochs)
+}
+
+fn are_none(epochs: &Epochs) -> bool {
+    epochs.len() == 0 && epochs.last_tag().is_none()
+}
+
+fn are_one(epochs: &Epochs, tag: Tick) -> bool {
+    epochs.len() == 1 && epochs.tag_at(0) == tag && epochs.last_tag() == Some(tag)
+}
+
+#[test]
+fn holds_epochs(rt: HostRuntime) -> Result<(), AllocError> {
+    let tag = Tick(13_881_024_000_000_000);
+    assert!(rt; are_none(&Epochs::new(rt.alloc())));
+    let sats = only_5(rt.alloc())?;
+    assert!(rt; sats.has(5) && !sats.has(6));
+    let epochs = one_epoch(rt.alloc(), tag, sats)?;
+    assert!(rt; are_one(&epochs, tag));
     Ok(())
 }
 
@@ -69,17 +88,23 @@ fn two_epochs(alloc: Global) -> Result<Epochs, AllocError> {
     Ok(epochs)
 }
 
-#[test]
-fn counts_satellites(rt: HostRuntime) -> Result<(), Fail> {
-    let file = ObsFile {
+fn file_of(epochs: Epochs) -> ObsFile {
+    ObsFile {
         hundredths: 304,
         position: None,
         delta: [0, 0, 0],
         listed: [false; SLOTS],
-        epochs: two_epochs(rt.alloc())?,
-    };
+        epochs,
+    }
+}
+
+#[test]
+fn counts_satellites(rt: HostRuntime) -> Result<(), AllocError> {
+    let file = file_of(two_epochs(rt.alloc())?);
     let seen = file.seen(rt.alloc())?;
-    let found = [0, 1, 2, 3].map(|at| seen.get_index(at).map(|(n, c)| (*n, *c)));
-    assert_eq!(rt; found, [Some((5, 2)), Some((32, 1)), Some((12, 1)), None]);
+    for (at, (number, count)) in [(5, 2), (32, 1), (12, 1)].iter().enumerate() {
+        assert!(rt; seen.get_index(at) == Some((number, count)));
+    }
+    assert!(rt; seen.get_index(3).is_none());
     Ok(())
 }

@@ -1,7 +1,8 @@
 //! Files of RINEX 2 that are read, and what they give.
 use crate::rinex2_sample::{END, FILE, FIRST, LATER, read, text_of};
 use gps_time::Tick;
-use obs_store::{ObsFile, ObsType, SatObs, Value};
+use obs_store::{Epoch, ObsFile, ObsType, SatObs, Value};
+use std::alloc::Global;
 use std::test::Fail;
 
 // The tag of the first epoch, and how many satellites it has.
@@ -52,23 +53,40 @@ const VALUES: [(ObsType, Option<Value>); 5] = [
     (ObsType::C5X, None),
 ];
 
+// The first row of the values that isn't so of the first satellite, or whose type isn't listed as it should be.
+fn other_value(file: &ObsFile) -> Option<usize> {
+    for (at, row) in VALUES.iter().enumerate() {
+        let (kind, want) = *row;
+        let value = sat_at(file, 0).map(|sat| sat.values[kind.slot()]);
+        if value != Some(want) || file.listed[kind.slot()] != want.is_some() {
+            return Some(at);
+        }
+    }
+    None
+}
+
+fn has_number(file: &ObsFile, place: usize, number: u8) -> bool {
+    match sat_at(file, place) {
+        Some(sat) => sat.number == number,
+        None => false,
+    }
+}
+
+// The file without the line feed at its end, which it doesn't need.
+fn unended_file(alloc: Global) -> Result<ObsFile, Fail> {
+    let mut text = text_of(alloc, &FILE[..12])?;
+    text.push_str(LATER)?;
+    Ok(read(alloc, &text)?)
+}
+
 #[test]
 fn reads_two_lines_for_each_satellite(rt: HostRuntime) -> Result<(), Fail> {
-    let mut text = text_of(rt.alloc(), &FILE[..12])?;
-    // the last line needs no line feed
-    text.push_str(LATER)?;
-    let file = read(rt.alloc(), &text)?;
-    let head = (file.hundredths, file.position, file.delta);
-    assert_eq!(rt; head, (211, Some([63_781_370_000, 0, 0]), [15_000, 0, 0]));
-    let found = (file.epochs.len(), tag_and_sats(&file));
-    assert_eq!(rt; found, (2, Some((Tick(13_881_024_300_000_000), 2))));
-    let numbers = [0, 1].map(|place| sat_at(&file, place).map(|sat| sat.number));
-    assert_eq!(rt; numbers, [Some(5), Some(12)]);
-    for (kind, want) in VALUES.iter() {
-        let value = sat_at(&file, 0).map(|sat| sat.values[kind.slot()]);
-        let found = (value, file.listed[kind.slot()]);
-        assert_eq!(rt; found, (Some(*want), want.is_some()), "of {kind:?}");
-    }
+    let file = unended_file(rt.alloc())?;
+    assert!(rt; file.hundredths == 211 && file.position == Some([63_781_370_000, 0, 0]));
+    assert!(rt; file.delta == [15_000, 0, 0] && file.epochs.len() == 2);
+    assert!(rt; tag_and_sats(&file) == Some((Tick(13_881_024_300_000_000), 2)));
+    assert!(rt; has_number(&file, 0, 5) && has_number(&file, 1, 12));
+    assert!(rt; other_value(&file).is_none());
     Ok(())
 }
 
@@ -106,19 +124,32 @@ const OF_GPS: [(u8, u8); 8] = [
     (13, 0),
 ];
 
+// The first satellite of the table that doesn't stand in its place with its phase.
+fn other_sat(file: &ObsFile) -> Option<usize> {
+    for (place, row) in OF_GPS.iter().enumerate() {
+        let (number, lock) = *row;
+        let amount = number as i64 * 1001;
+        let found = sat_at(file, place).map(|sat| (sat.number, sat.values[ObsType::L1C.slot()]));
+        if found != Some((number, Some(Value { amount, lock }))) {
+            return Some(place);
+        }
+    }
+    None
+}
+
+// Whether the only epoch of a file has eight satellites, and power failed before it.
+fn has_one_epoch_of_eight(epochs: &[Epoch]) -> bool {
+    match epochs {
+        [only] => only.power && only.sats.len() == 8,
+        _ => false,
+    }
+}
+
 #[test]
 fn reads_thirteen_satellites(rt: HostRuntime) -> Result<(), Fail> {
     let text = text_of(rt.alloc(), &THIRTEEN)?;
     let file = read(rt.alloc(), &text)?;
-    let power = file.epochs.as_slice().first().map(|epoch| epoch.power);
-    assert_eq!(rt; (file.epochs.len(), power), (1, Some(true)));
-    assert_eq!(rt; tag_and_sats(&file).map(|(_, sats)| sats), Some(8));
-    for (place, row) in OF_GPS.iter().enumerate() {
-        let (number, lock) = *row;
-        let amount = number as i64 * 1001;
-        let found = sat_at(&file, place).map(|sat| (sat.number, sat.values[ObsType::L1C.slot()]));
-        let want = Some(Value { amount, lock });
-        assert_eq!(rt; found, Some((number, want)), "at {place}");
-    }
+    assert!(rt; has_one_epoch_of_eight(file.epochs.as_slice()));
+    assert!(rt; other_sat(&file).is_none());
     Ok(())
 }

@@ -1,5 +1,5 @@
 //! A file of RINEX 2 with seven types and two epochs, and the same with other lines in the place of some.
-use crate::texts::MOST;
+use crate::texts::{MOST, push_lines};
 use obs_store::ObsFile;
 use rinex2_obs::{ObsFault, read_obs2};
 use std::alloc::{AllocError, Global};
@@ -52,14 +52,6 @@ pub const FILE: [&str; 13] = [
     SAT_12_REST,
     LATER,
 ];
-
-fn push_lines(text: &mut String, lines: &[&str]) -> Result<(), AllocError> {
-    for line in lines {
-        text.push_str(line)?;
-        text.push('\n')?;
-    }
-    Ok(())
-}
 
 /// The text of these lines.
 pub fn text_of(alloc: Global, lines: &[&str]) -> Result<String, AllocError> {

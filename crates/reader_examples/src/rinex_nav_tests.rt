@@ -1,5 +1,5 @@
 //! A file with a record of GPS and one of another system, and one with as many as there may be.
-use crate::texts::{MOST, with_returns};
+use crate::texts::{MOST, push_lines, with_returns};
 use decimal_text::Dec;
 use eph_store::{Eph, NavFile, Raw, Unfit};
 use gps_time::Tick;
@@ -32,14 +32,6 @@ const NUMBERED: [&str; 8] = [
     "    not read           72                 not read           not read",
     " not read",
 ];
-
-fn push_lines(text: &mut String, lines: &[&str]) -> Result<(), AllocError> {
-    for line in lines {
-        text.push_str(line)?;
-        text.push('\n')?;
-    }
-    Ok(())
-}
 
 // The first `count` lines, with another one at the place `at` from 0.
 fn text_of(alloc: Global, count: usize, at: usize, other: &str) -> Result<String, AllocError> {
@@ -75,23 +67,44 @@ const OTHER_SYSTEM: [&str; 3] = [
     "     and anything behind it",
 ];
 
-#[test]
-fn reads_a_record(rt: HostRuntime) -> Result<(), Fail> {
-    let mut text = with_header(rt.alloc(), &OTHER_SYSTEM)?;
+// The record after one of another system.
+fn two_systems(alloc: Global) -> Result<NavFile, NavFault> {
+    let mut text = with_header(alloc, &OTHER_SYSTEM)?;
     push_lines(&mut text, &LINES[2..])?;
-    let file = read(rt.alloc(), &text)?;
-    assert_eq!(rt; (file.all().len(), file.fit().len()), (1, 1));
-    let found = file.choose(5, Tick(13_881_024_000_000_000));
-    let seen = found.map(|e| (e.toc, e.toe_second, [e.af0, e.crs, e.root_a, e.node_rate]));
+    read(alloc, &text)
+}
+
+fn is_the_record(eph: &Eph) -> bool {
     let numbers = [
         dec(-1_000_000_000_000, -17),
         dec(2_500_000_000_000, -11),
         dec(5_153_600_000_000, -9),
         dec(-8_000_000_000_000, -21),
     ];
-    let want = (Tick(13_881_024_000_000_000), 86_400, numbers);
-    assert_eq!(rt; seen, Some(want));
+    eph.toc == Tick(13_881_024_000_000_000)
+        && eph.toe_second == 86_400
+        && [eph.af0, eph.crs, eph.root_a, eph.node_rate] == numbers
+}
+
+// Whether the record is chosen at its own time.
+fn chooses_the_record(file: &NavFile) -> bool {
+    match file.choose(5, Tick(13_881_024_000_000_000)) {
+        Some(eph) => is_the_record(eph),
+        None => false,
+    }
+}
+
+#[test]
+fn reads_a_record(rt: HostRuntime) -> Result<(), Fail> {
+    let file = two_systems(rt.alloc())?;
+    assert!(rt; file.all().len() == 1 && file.fit().len() == 1);
+    assert!(rt; chooses_the_record(&file));
     Ok(())
+}
+
+// What is said of the first record.
+fn fault_of(file: &NavFile) -> Option<Unfit> {
+    Eph::of(file.all().first()?).err()
 }
 
 #[test]
@@ -99,9 +112,7 @@ fn keeps_a_record_out_of_range(rt: HostRuntime) -> Result<(), Fail> {
     let line = "     1.000000000000D-06 5.000000000000D-03 0.000000000000D+00  6000.000000001    ";
     let text = text_of(rt.alloc(), 10, 4, line)?;
     let file = read(rt.alloc(), &text)?;
-    assert_eq!(rt; file.fit().len(), 0);
-    let faults = file.all().first().map(|raw| Eph::of(raw).err());
-    assert_eq!(rt; faults, Some(Some(Unfit::Range { field: 4 })));
+    assert!(rt; file.fit().is_empty() && fault_of(&file) == Some(Unfit::Range { field: 4 }));
     Ok(())
 }
 
@@ -157,18 +168,29 @@ const NUMBERS: [(i64, i32); 21] = [
     (72, 0),
 ];
 
+// The first of the numbers that the record doesn't have.
+fn missing_number(raw: &Raw) -> Option<Dec> {
+    for (found, (mant, exp)) in numbers_of(raw).iter().zip(NUMBERS.iter()) {
+        if *found != dec(*mant, *exp) {
+            return Some(dec(*mant, *exp));
+        }
+    }
+    None
+}
+
+// Whether there is one record, of satellite 7, with these numbers.
+fn has_the_numbers(records: &[Raw]) -> bool {
+    match records {
+        [raw] => raw.sat == 7 && missing_number(raw).is_none(),
+        _ => false,
+    }
+}
+
 #[test]
 fn reads_each_number(rt: HostRuntime) -> Result<(), Fail> {
     let text = with_header(rt.alloc(), &NUMBERED)?;
     let file = read(rt.alloc(), &text)?;
-    let [raw] = file.all() else {
-        panic!(&rt; "no record");
-    };
-    assert_eq!(rt; (raw.sat, file.fit().len()), (7, 0));
-    for (found, row) in numbers_of(raw).iter().zip(NUMBERS.iter()) {
-        let (mant, exp) = *row;
-        assert_eq!(rt; *found, dec(mant, exp), "at {mant}");
-    }
+    assert!(rt; has_the_numbers(file.all()) && file.fit().is_empty());
     Ok(())
 }
 
@@ -186,7 +208,7 @@ fn text_of_4096_records(alloc: Global) -> Result<String, AllocError> {
 fn reads_4096_records(rt: HostRuntime) -> Result<(), Fail> {
     let text = text_of_4096_records(rt.alloc())?;
     let file = read(rt.alloc(), &text)?;
-    assert_eq!(rt; (file.all().len(), file.fit().len()), (4_096, 4_096));
+    assert!(rt; file.all().len() == 4_096 && file.fit().len() == 4_096);
     Ok(())
 }
 
@@ -195,6 +217,6 @@ fn reads_lines_with_returns(rt: HostRuntime) -> Result<(), Fail> {
     let text = text_of(rt.alloc(), 10, 10, "")?;
     let returns = with_returns(rt.alloc(), &text)?;
     let file = read(rt.alloc(), &returns)?;
-    assert_eq!(rt; file.fit().len(), 1);
+    assert!(rt; file.fit().len() == 1);
     Ok(())
 }

@@ -42,16 +42,22 @@ fn only_sat(file: &ObsFile) -> Option<SatObs> {
     }
 }
 
-// The value of a type of the only satellite of the first epoch.
-fn value_of(file: &ObsFile, kind: ObsType) -> Option<Option<Value>> {
-    only_sat(file).map(|sat| sat.values[kind.slot()])
+// Whether the only satellite of the first epoch has this value of a type.
+fn has_value(file: &ObsFile, kind: ObsType, want: Option<Value>) -> bool {
+    match only_sat(file) {
+        Some(sat) => sat.values[kind.slot()] == want,
+        None => false,
+    }
 }
 
-// The number of epochs; then the tag of the first one, whether power failed before it, and how many satellites it has.
-fn epochs_of(file: &ObsFile) -> (usize, Option<(Tick, bool, usize)>) {
-    let first = file.epochs.as_slice().first();
-    let summary = first.map(|epoch| (epoch.tag, epoch.power, epoch.sats.len()));
-    (file.epochs.len(), summary)
+// Whether there is one epoch of one satellite, half a minute after the hour, and power failed before it or not.
+fn has_one_epoch(file: &ObsFile, power: bool) -> bool {
+    match file.epochs.as_slice() {
+        [only] => {
+            only.tag == Tick(13_881_024_300_000_000) && only.power == power && only.sats.len() == 1
+        }
+        _ => false,
+    }
 }
 
 const CODE: Value = Value {
@@ -76,15 +82,12 @@ const VALUES: [(ObsType, Option<Value>); 5] = [
 fn reads_values(rt: HostRuntime) -> Result<(), Fail> {
     let line = "G05  22123456.789 7 116260123.45617                         0.000\n";
     let file = read(rt.alloc(), &[FIRST, PLACE, TYPES, END, LATER, line])?;
-    let head = (file.hundredths, file.position, file.delta);
-    assert_eq!(rt; head, (304, Some([63_781_370_000, 0, 0]), [0, 0, 0]));
-    let first = (Tick(13_881_024_300_000_000), true, 1);
-    assert_eq!(rt; epochs_of(&file), (1, Some(first)));
+    assert!(rt; file.hundredths == 304 && file.position == Some([63_781_370_000, 0, 0]));
+    assert!(rt; file.delta == [0, 0, 0] && has_one_epoch(&file, true));
     for (kind, want) in VALUES.iter() {
-        assert_eq!(rt; value_of(&file, *kind), Some(*want), "of {kind:?}");
+        assert!(rt; has_value(&file, *kind, *want));
     }
-    let listed = file.listed[ObsType::C2W.slot()] && !file.listed[ObsType::C2X.slot()];
-    assert!(rt; listed);
+    assert!(rt; file.listed[ObsType::C2W.slot()] && !file.listed[ObsType::C2X.slot()]);
     Ok(())
 }
 
@@ -93,18 +96,20 @@ fn reads_values(rt: HostRuntime) -> Result<(), Fail> {
 fn reads_an_epoch_line(rt: HostRuntime) -> Result<(), Fail> {
     let line = "> 2024 01 01 00 00 30.0000000  0  1\n";
     let file = read(rt.alloc(), &[FIRST, TYPES, END, line, "G05\n"])?;
-    let first = (Tick(13_881_024_300_000_000), false, 1);
-    assert_eq!(rt; epochs_of(&file), (1, Some(first)));
+    assert!(rt; has_one_epoch(&file, false));
     Ok(())
+}
+
+fn read_with_returns(alloc: Global, parts: &[&str]) -> Result<ObsFile, ObsFault> {
+    let text = joined(alloc, parts)?;
+    let returns = with_returns(alloc, &text)?;
+    read(alloc, &[returns.as_str()])
 }
 
 #[test]
 fn reads_lines_with_returns(rt: HostRuntime) -> Result<(), Fail> {
-    let alloc = rt.alloc();
     let line = "G05  22123456.789\n";
-    let text = joined(alloc, &[FIRST, TYPES, COMMENT, END, EPOCH, line])?;
-    let returns = with_returns(alloc, &text)?;
-    let file = read(alloc, &[returns.as_str()])?;
-    assert_eq!(rt; value_of(&file, ObsType::C1C), Some(Some(CODE)));
+    let file = read_with_returns(rt.alloc(), &[FIRST, TYPES, COMMENT, END, EPOCH, line])?;
+    assert!(rt; has_value(&file, ObsType::C1C, Some(CODE)));
     Ok(())
 }

@@ -14,6 +14,15 @@ pub fn joined(alloc: Global, parts: &[&str]) -> Result<String, AllocError> {
     Ok(text)
 }
 
+/// Adds these lines, each with its line feed.
+pub fn push_lines(text: &mut String, lines: &[&str]) -> Result<(), AllocError> {
+    for line in lines {
+        text.push_str(line)?;
+        text.push('\n')?;
+    }
+    Ok(())
+}
+
 /// The text with CR before each LF.
 pub fn with_returns(alloc: Global, text: &str) -> Result<String, AllocError> {
     let mut returns = String::new(alloc);

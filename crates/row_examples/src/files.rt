@@ -21,8 +21,9 @@ use session::{FileRounds, FileRun, screened};
 use signal_travel::is_receiver_point;
 use sim_session::{Made, make};
 use std::alloc::{AllocError, Global};
-use std::process::Abort;
-use std::test::Fail;
+
+/// The most bytes of a file.
+pub const MOST_BYTES: usize = 67_108_864;
 
 /// What was screened of two files, with the arcs that are kept.
 #[derive(Debug, Drop)]
@@ -37,7 +38,8 @@ fn checked(rounds: FileRounds) -> Option<Files>
     requires cut { IsCutOf rounds.screened.used rounds.kept }
     requires halves { AreBaseHalves rounds.screened.boxes rounds.position rounds.halves.items }
     ensures cut { IfSome result (λ f. IsCutOf f.rounds.screened.used f.rounds.kept) }
-    ensures halves { IfSome result (λ f. AreBaseHalves f.rounds.screened.boxes f.rounds.position f.rounds.halves.items) }
+    ensures halves { IfSome result (λ f.
+        AreBaseHalves f.rounds.screened.boxes f.rounds.position f.rounds.halves.items) }
 {
     if !are_arcs(rounds.kept.as_slice()) {
         return None;
@@ -79,68 +81,91 @@ fn renumbered(alloc: Global, text: &[u8]) -> Result<Vec<u8>, AllocError> {
     Ok(out)
 }
 
-fn texts_of_gps(rt: &impl Abort, alloc: Global, made: &Made) -> Result<Texts, Fail> {
-    assert!(rt; made.base.len() <= 67_108_864);
-    assert!(rt; made.rover.len() <= 67_108_864);
-    assert!(rt; made.nav.len() <= 67_108_864);
-    Ok(Texts {
-        base: read_obs(alloc, &made.base)?,
-        rover: read_obs(alloc, &made.rover)?,
-        nav: read_nav(alloc, &made.nav)?,
-    })
+// Lines of GPS begin with no E, so there nothing is renumbered.
+fn observations(alloc: Global, system: u8, text: &[u8]) -> Option<ObsFile> {
+    let text = renumbered(alloc, text).ok()?;
+    if text.len() > MOST_BYTES {
+        return None;
+    }
+    match system {
+        b'E' => read_gal_obs(alloc, &text).ok(),
+        _ => read_obs(alloc, &text).ok(),
+    }
 }
 
-fn texts_of_galileo(rt: &impl Abort, alloc: Global, made: &Made) -> Result<Texts, Fail> {
-    let base = renumbered(alloc, &made.base)?;
-    let rover = renumbered(alloc, &made.rover)?;
-    let nav = renumbered(alloc, &made.nav)?;
-    assert!(rt; base.len() <= 67_108_864);
-    assert!(rt; rover.len() <= 67_108_864);
-    assert!(rt; nav.len() <= 67_108_864);
-    Ok(Texts {
-        base: read_gal_obs(alloc, &base)?,
-        rover: read_gal_obs(alloc, &rover)?,
-        nav: read_gal_nav(alloc, &nav)?,
-    })
+fn ephemerides(alloc: Global, system: u8, text: &[u8]) -> Option<NavFile> {
+    let text = renumbered(alloc, text).ok()?;
+    if text.len() > MOST_BYTES {
+        return None;
+    }
+    match system {
+        b'E' => read_gal_nav(alloc, &text).ok(),
+        _ => read_nav(alloc, &text).ok(),
+    }
 }
 
-/// The files of a session of `epochs` epochs and `sats` satellites, which is made from a seed.
-pub fn files_of(
-    rt: &impl Abort,
-    alloc: Global,
-    seed: u32,
-    epochs: u32,
-    sats: u32,
-    options: &Options,
-) -> Result<Files, Fail>
+fn texts_of(alloc: Global, system: u8, made: &Made) -> Option<Texts> {
+    let base = observations(alloc, system, &made.base)?;
+    let rover = observations(alloc, system, &made.rover)?;
+    let nav = ephemerides(alloc, system, &made.nav)?;
+    Some(Texts { base, rover, nav })
+}
+
+// Galileo is simulated on E1 and E5a alone.
+fn simulated(alloc: Global, seed: u32, epochs: u32, sats: u32, options: &Options) -> Option<Texts>
     requires epochs { epochs ≤ 3600 }
     requires sats { sats ≤ 15 }
-    ensures cut { IfOk result (λ f. IsCutOf f.rounds.screened.used f.rounds.kept) }
-    ensures halves { IfOk result (λ f. AreBaseHalves f.rounds.screened.boxes f.rounds.position f.rounds.halves.items) }
 {
-    // Galileo is simulated on E1 and E5a alone.
-    assert!(rt; options.system != b'E' || options.bands == 15);
-    let made = make(alloc, seed, epochs, sats, options.bands, options.system)?;
-    let texts = match options.system {
-        b'E' => texts_of_galileo(rt, alloc, &made)?,
-        _ => texts_of_gps(rt, alloc, &made)?,
+    if options.system == b'E' && options.bands != 15 {
+        return None;
+    }
+    let made = make(alloc, seed, epochs, sats, options.bands, options.system).ok()?;
+    texts_of(alloc, options.system, &made)
+}
+
+fn rounds_of(alloc: Global, texts: &Texts, options: &Options) -> Option<FileRounds>
+    ensures cut { IfSome result (λ r. IsCutOf r.screened.used r.kept) }
+    ensures halves { IfSome result (λ r. AreBaseHalves r.screened.boxes r.position r.halves.items) }
+{
+    let Ok(begun) = begin(alloc, &texts.base, &texts.rover, options) else {
+        return None;
     };
-    let begun = begin(alloc, &texts.base, &texts.rover, options)?;
-    let rounds = screened(
+    match screened(
         alloc,
         &texts.base,
         &texts.rover,
         &texts.nav,
         &begun,
         options,
-    )?;
-    Ok(checked(rounds).expect(rt, "arcs, base or system out of range"))
+    ) {
+        Ok(rounds) => Some(rounds),
+        Err(_) => None,
+    }
+}
+
+/// The files of a session of `epochs` epochs and `sats` satellites, which is made from a seed.
+pub fn files_of(
+    alloc: Global,
+    seed: u32,
+    epochs: u32,
+    sats: u32,
+    options: &Options,
+) -> Option<Files>
+    requires epochs { epochs ≤ 3600 }
+    requires sats { sats ≤ 15 }
+    ensures cut { IfSome result (λ f. IsCutOf f.rounds.screened.used f.rounds.kept) }
+    ensures halves { IfSome result (λ f.
+        AreBaseHalves f.rounds.screened.boxes f.rounds.position f.rounds.halves.items) }
+{
+    let texts = simulated(alloc, seed, epochs, sats, options)?;
+    checked(rounds_of(alloc, &texts, options)?)
 }
 
 /// The kept arcs with the shifts of their first pairs.
 pub fn with_shifts(alloc: Global, files: &Files, point: &[i64; 3]) -> Result<Vec<Arc>, AllocError>
     requires cut { IsCutOf files.now.rounds.screened.used files.now.rounds.kept }
-    requires halves { AreBaseHalves files.now.rounds.screened.boxes files.now.rounds.position files.now.rounds.halves.items }
+    requires halves { AreBaseHalves files.now.rounds.screened.boxes files.now.rounds.position
+        files.now.rounds.halves.items }
     requires point { IsReceiverPoint point.now }
     ensures { IfOk result (λ arcs. IsCutOf files.now.rounds.screened.used arcs.items) }
 {

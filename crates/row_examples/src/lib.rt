@@ -10,6 +10,8 @@ mod expected_bands;
 #[cfg(test)]
 mod files;
 #[cfg(test)]
+mod rows;
+#[cfg(test)]
 mod tests;
 #[cfg(test)]
 mod track_tests;

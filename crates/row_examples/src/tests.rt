@@ -1,21 +1,17 @@
 //! The boxes of the rows hold the values of the independent model, whatever groups and shifts are chosen.
-ghost use Rattle.std.specs.Prelude.{◌<◌, ◌≤◌, ◌^◌, unsigned_abs, All, IsTrue, IfOk};
-ghost use Rattle.obs_rows.specs.Signals.{fine_signals};
-ghost use Rattle.obs_rows.specs.Unused.{HasUsedShifts};
+ghost use Rattle.std.specs.Prelude.{◌<◌, ◌≤◌, ◌^◌, unsigned_abs};
 ghost use Rattle.row_build.specs.Halves.{AreBaseHalves};
 ghost use Rattle.obs_rows.specs.ReceiverPoints.{IsReceiverPoint};
 ghost use Rattle.slip_arcs.specs.Linked.{IsCutOf};
 
 use crate::expected::{Expected, ExpectedPair, ExpectedRow, HIGH, PLAIN};
 use crate::expected_bands::{ALL_BANDS, GALILEO};
-use crate::files::{Files, files_of, with_shifts};
-use obs_rows::{Arc, PairRows, Row, Session, Signals, are_arcs, has_used_shifts};
-use row_build::{pair_rows, rows_at, shift_at};
+use crate::files::{Files, files_of};
+use crate::rows::{fine_rows, rows_of};
+use obs_rows::{Arc, PairRows, Row, Session};
+use row_build::{pair_rows, shift_at};
 use run_options::Options;
-use signal_travel::is_receiver_point;
 use std::alloc::Global;
-use std::process::Abort;
-use std::test::Fail;
 
 /// How many units of a fine row are one ι.
 const FINE: i128 = 8192;
@@ -28,65 +24,29 @@ const FINE_RADIUS: i64 = 470;
 
 const COARSE_RADIUS: i64 = 1;
 
-// Seed 1, with the options that a run has by itself.
-fn plain(rt: &impl Abort, alloc: Global) -> Result<Files, Fail>
-    ensures cut { IfOk result (λ f. IsCutOf f.rounds.screened.used f.rounds.kept) }
-    ensures halves { IfOk result (λ f. AreBaseHalves f.rounds.screened.boxes f.rounds.position f.rounds.halves.items) }
-{
-    files_of(rt, alloc, 1, 6, 4, &Options::defaults())
+// Whether this is the arc, without shifts.
+fn is_arc(arc: &Arc, want: (u8, u32, u32, bool)) -> bool {
+    (arc.sat, arc.first, arc.last, arc.datum) == want && arc.shift == [0; 3]
 }
 
-// Seed 77, with a higher mask and shorter arcs.
-fn high(rt: &impl Abort, alloc: Global) -> Result<Files, Fail>
-    ensures cut { IfOk result (λ f. IsCutOf f.rounds.screened.used f.rounds.kept) }
-    ensures halves { IfOk result (λ f. AreBaseHalves f.rounds.screened.boxes f.rounds.position f.rounds.halves.items) }
-{
-    let mut options = Options::defaults();
-    options.mask = 500;
-    options.arc = 2;
-    files_of(rt, alloc, 77, 3, 6, &options)
-}
-
-// Seed 8, with the phases and codes of all three bands.
-fn all_bands(rt: &impl Abort, alloc: Global) -> Result<Files, Fail>
-    ensures cut { IfOk result (λ f. IsCutOf f.rounds.screened.used f.rounds.kept) }
-    ensures halves { IfOk result (λ f. AreBaseHalves f.rounds.screened.boxes f.rounds.position f.rounds.halves.items) }
-{
-    let mut options = Options::defaults();
-    options.bands = 125;
-    options.arc = 2;
-    files_of(rt, alloc, 8, 3, 4, &options)
-}
-
-// Seed 21 of Galileo, with its last four satellites.
-fn galileo(rt: &impl Abort, alloc: Global) -> Result<Files, Fail>
-    ensures cut { IfOk result (λ f. IsCutOf f.rounds.screened.used f.rounds.kept) }
-    ensures halves { IfOk result (λ f. AreBaseHalves f.rounds.screened.boxes f.rounds.position f.rounds.halves.items) }
-{
-    let mut options = Options::defaults();
-    options.bands = 15;
-    options.system = b'E';
-    options.arc = 2;
-    files_of(rt, alloc, 21, 3, 4, &options)
-}
-
-fn arcs_agree(rt: &impl Abort, files: &Files, want: &Expected) {
-    let rounds = &files.rounds;
-    assert_eq!(rt; rounds.position, want.base);
-    assert_eq!(rt; rounds.screened.used.len(), want.taken);
-    // Each arc holds every pair, so no run was too short to be kept.
-    for pair in rounds.screened.used.as_slice() {
-        assert_eq!(rt; pair.sats.len(), want.arcs.len());
+fn are_arcs_held(kept: &[Arc], want: &Expected) -> bool {
+    for (arc, want) in kept.iter().zip(want.arcs.iter()) {
+        if !is_arc(arc, *want) {
+            return false;
+        }
     }
-    let kept = rounds.kept.as_slice();
-    assert_eq!(rt; kept.len(), want.arcs.len());
-    for (arc, (sat, first, last, datum)) in kept.iter().zip(want.arcs) {
-        assert_eq!(rt;
-            (arc.sat, arc.first, arc.last, arc.datum),
-            (sat, first, last, datum)
-        );
-        assert_eq!(rt; arc.shift, [0; 3]);
+    kept.len() == want.arcs.len()
+}
+
+// Whether each pair uses every satellite, so that no run was too short to be kept.
+fn are_pairs_full(files: &Files, want: &Expected) -> bool {
+    let used = files.rounds.screened.used.as_slice();
+    for pair in used.iter() {
+        if pair.sats.len() != want.arcs.len() {
+            return false;
+        }
     }
+    used.len() == want.taken
 }
 
 // Whether the box around y holds the value, once what was taken off is back.
@@ -190,75 +150,75 @@ fn are_shifts(shift: [i64; 3], ry: i64, group: i64, exact: [i64; 6]) -> bool {
     true
 }
 
-fn fine_pair_agrees(rt: &impl Abort, pair: &PairRows, arcs: &[Arc], want: &ExpectedPair) {
-    let (number, tag, rows) = *want;
-    assert_eq!(rt; (pair.number as usize, pair.tag.0), (number, tag));
-    assert_eq!(rt; pair.rows.len(), rows.len());
-    let found = pair.rows.as_slice();
-    assert!(rt;
-        is_near(found[0].y[2], found[0].ry, 8192),
-        "the group of pair {number}"
-    );
-    for (row, want) in found.iter().zip(rows) {
-        let arc = row.arc as usize;
-        assert!(rt; arc < arcs.len());
-        assert!(rt;
-            is_fine_row(row, pair.group, arcs[arc].shift, want),
-            "row {arc} of pair {number}"
-        );
-    }
+// Whether the pair has this head and as many rows.
+fn is_pair(pair: &PairRows, want: &ExpectedPair) -> bool {
+    let (number, tag, rows) = want;
+    (pair.number as usize, pair.tag.0, pair.rows.len()) == (*number, *tag, rows.len())
 }
 
-fn coarse_pair_agrees(rt: &impl Abort, pair: &PairRows, want: &ExpectedPair) {
-    let (number, tag, rows) = *want;
-    assert_eq!(rt; (pair.number as usize, pair.tag.0), (number, tag));
-    assert_eq!(rt; pair.rows.len(), rows.len());
-    let found = pair.rows.as_slice();
-    let (code, radius) = (found[0].y[2], found[0].ry);
-    assert!(rt;
-        is_near(COARSE * code, COARSE * radius, 1),
-        "the group of pair {number}"
-    );
-    for (row, want) in found.iter().zip(rows) {
-        let arc = row.arc;
-        assert!(rt;
-            is_coarse_row(row, pair.group, want),
-            "row {arc} of pair {number}"
-        );
-    }
+// Whether the group takes off all of the first row's code but one ι.
+fn is_fine_group(pair: &PairRows) -> bool {
+    let first = &pair.rows.as_slice()[0];
+    is_near(first.y[2], first.ry, 8192)
 }
 
-// The shifts of every arc in that pair.
-fn shifts_agree(
-    rt: &impl Abort,
-    files: &Files,
-    pair: &PairRows,
-    point: &[i64; 3],
-    want: &ExpectedPair,
-)
+fn are_fine_rows(pair: &PairRows, arcs: &[Arc], want: &ExpectedPair) -> bool {
+    for (row, want) in pair.rows.as_slice().iter().zip(want.2.iter()) {
+        let Some(arc) = arcs.get(row.arc as usize) else {
+            return false;
+        };
+        if !is_fine_row(row, pair.group, arc.shift, *want) {
+            return false;
+        }
+    }
+    true
+}
+
+// Whether the group takes off all of the first row's code but one unit.
+fn is_coarse_group(pair: &PairRows) -> bool {
+    let first = &pair.rows.as_slice()[0];
+    is_near(COARSE * first.y[2], COARSE * first.ry, 1)
+}
+
+fn are_coarse_rows(pair: &PairRows, want: &ExpectedPair) -> bool {
+    for (row, want) in pair.rows.as_slice().iter().zip(want.2.iter()) {
+        if !is_coarse_row(row, pair.group, *want) {
+            return false;
+        }
+    }
+    true
+}
+
+// Whether the shifts of the arcs in a pair, at a point, leave less than a cycle.
+fn are_shifts_held(files: &Files, pair: &PairRows, point: &[i64; 3], want: &ExpectedPair) -> bool
     requires cut { IsCutOf files.now.rounds.screened.used files.now.rounds.kept }
     requires point { IsReceiverPoint point.now }
 {
-    let (number, _tag, rows) = *want;
-    assert!(rt; number < files.rounds.screened.used.len());
+    let (number, _tag, rows) = want;
+    if *number >= files.rounds.screened.used.len() {
+        return false;
+    }
     let kept = files.rounds.kept.as_slice();
-    for (arc, exact, _coarse, _direction) in rows {
-        assert!(rt; (arc as usize) < kept.len());
-        let found = shift_at(
+    for (arc, exact, _coarse, _direction) in rows.iter() {
+        if *arc as usize >= kept.len() {
+            return false;
+        }
+        let Some(shift) = shift_at(
             &files.rounds.screened,
             kept,
-            arc,
-            number as u32,
+            *arc,
+            *number as u32,
             &files.rounds.position,
             point,
             files.rounds.signals,
-        );
-        let shift = found.expect(rt, "the arc doesn't hold the pair");
-        assert!(rt;
-            are_shifts(shift, FINE_RADIUS, pair.group, exact),
-            "arc {arc} in pair {number}"
-        );
+        ) else {
+            return false;
+        };
+        if !are_shifts(shift, FINE_RADIUS, pair.group, *exact) {
+            return false;
+        }
     }
+    true
 }
 
 fn is_same_pair(one: &PairRows, other: &PairRows) -> bool {
@@ -266,20 +226,16 @@ fn is_same_pair(one: &PairRows, other: &PairRows) -> bool {
         && one.rows.as_slice() == other.rows.as_slice()
 }
 
-// The session's pair is that of `pair_rows`.
-fn alone_agrees(
-    rt: &impl Abort,
-    alloc: Global,
-    files: &Files,
-    session: &Session,
-    number: usize,
-) -> Result<(), Fail>
+// Whether the session's pair is that of `pair_rows`.
+fn is_pair_alone(alloc: Global, files: &Files, session: &Session, number: usize) -> bool
     requires cut { IsCutOf files.now.rounds.screened.used session.now.arcs }
     requires base { IsReceiverPoint session.now.base }
     requires point { IsReceiverPoint session.now.point }
 {
-    assert!(rt; number < session.pairs.len() && number < files.rounds.screened.used.len());
-    let alone = pair_rows(
+    if number >= session.pairs.len() || number >= files.rounds.screened.used.len() {
+        return false;
+    }
+    match pair_rows(
         alloc,
         &files.rounds.screened,
         session.arcs.as_slice(),
@@ -288,129 +244,190 @@ fn alone_agrees(
         &session.point,
         session.signals,
         session.scale,
-    )?;
-    let alone = alone.expect(rt, "no arc holds the pair");
-    assert!(rt; is_same_pair(&alone, &session.pairs.as_slice()[number]));
-    Ok(())
-}
-
-fn copy_agrees(rt: &impl Abort, alloc: Global, session: &Session) -> Result<(), Fail> {
-    let copied = session.copy(alloc)?;
-    assert_eq!(rt;
-        (copied.scale, copied.system),
-        (session.scale, session.system)
-    );
-    assert_eq!(rt; (copied.base, copied.point), (session.base, session.point));
-    assert!(rt; copied.arcs.as_slice() == session.arcs.as_slice());
-    assert_eq!(rt; copied.pairs.len(), session.pairs.len());
-    for (one, other) in copied.pairs.as_slice().iter().zip(session.pairs.as_slice()) {
-        assert!(rt; is_same_pair(one, other));
+    ) {
+        Ok(Some(alone)) => is_same_pair(&alone, &session.pairs.as_slice()[number]),
+        _ => false,
     }
-    Ok(())
 }
 
-// Whether the shifts of bands that aren't used are 0.
-pub(crate) fn are_used(signals: Signals, arcs: &[Arc]) -> bool
-    ensures { IsTrue result → All (HasUsedShifts (fine_signals signals)) arcs.now }
+fn are_same_pairs(one: &[PairRows], other: &[PairRows]) -> bool {
+    for (one, other) in one.iter().zip(other.iter()) {
+        if !is_same_pair(one, other) {
+            return false;
+        }
+    }
+    one.len() == other.len()
+}
+
+fn is_same_session(one: &Session, other: &Session) -> bool {
+    (one.scale, one.system, one.base, one.point)
+        == (other.scale, other.system, other.base, other.point)
+        && one.arcs.as_slice() == other.arcs.as_slice()
+        && are_same_pairs(one.pairs.as_slice(), other.pairs.as_slice())
+}
+
+fn is_copied(alloc: Global, session: &Session) -> bool {
+    match session.copy(alloc) {
+        Ok(copied) => is_same_session(&copied, session),
+        Err(_) => false,
+    }
+}
+
+fn fine_pair_fault(files: &Files, session: &Session, want: &ExpectedPair) -> Option<&'static str>
+    requires cut { IsCutOf files.now.rounds.screened.used files.now.rounds.kept }
+    requires point { IsReceiverPoint session.now.point }
 {
-    arcs.iter().all(|a| has_used_shifts(signals, a))
+    let Some(pair) = session.pairs.as_slice().get(want.0) else {
+        return Some("no such fine pair");
+    };
+    if !is_pair(pair, want) || !is_fine_group(pair) {
+        Some("a fine pair")
+    } else if !are_fine_rows(pair, session.arcs.as_slice(), want) {
+        Some("a fine row")
+    } else if !are_shifts_held(files, pair, &session.point, want) {
+        Some("a shift")
+    } else {
+        None
+    }
 }
 
-fn fine_rows_agree(
-    rt: &impl Abort,
+fn coarse_pair_fault(session: &Session, want: &ExpectedPair) -> Option<&'static str> {
+    let Some(pair) = session.pairs.as_slice().get(want.0) else {
+        return Some("no such coarse pair");
+    };
+    if !is_pair(pair, want) || !is_coarse_group(pair) {
+        Some("a coarse pair")
+    } else if !are_coarse_rows(pair, want) {
+        Some("a coarse row")
+    } else {
+        None
+    }
+}
+
+// What isn't so of a session whose pairs are as expected, fine or coarse.
+fn session_fault(
     alloc: Global,
     files: &Files,
+    session: &Session,
     want: &Expected,
-) -> Result<(), Fail>
-    requires cut { IsCutOf files.now.rounds.screened.used files.now.rounds.kept }
-    requires halves { AreBaseHalves files.now.rounds.screened.boxes files.now.rounds.position files.now.rounds.halves.items }
+) -> Option<&'static str>
+    requires cut { IsCutOf files.now.rounds.screened.used session.now.arcs }
+    requires base { IsReceiverPoint session.now.base }
+    requires point { IsReceiverPoint session.now.point }
 {
-    let point = want.point;
-    assert!(rt; is_receiver_point(&point));
-    let arcs = with_shifts(alloc, files, &point)?;
-    assert!(rt; are_arcs(&arcs));
-    assert!(rt; are_used(files.rounds.signals, &arcs));
-    let session = rows_at(
-        alloc,
-        &files.rounds.screened,
-        &arcs,
-        &files.rounds.position,
-        &point,
-        files.rounds.signals,
-        0,
-        files.rounds.system,
-    )?;
-    assert_eq!(rt; session.system, files.rounds.system);
-    assert_eq!(rt; session.pairs.len(), want.taken);
-    for pair in &want.pairs {
-        let number = pair.0;
-        assert!(rt; number < session.pairs.len());
-        let found = &session.pairs.as_slice()[number];
-        fine_pair_agrees(rt, found, &arcs, pair);
-        shifts_agree(rt, files, found, &point, pair);
-        alone_agrees(rt, alloc, files, &session, number)?;
+    if session.system != files.rounds.system || session.pairs.len() != want.taken {
+        return Some("the system or the number of pairs");
     }
-    copy_agrees(rt, alloc, &session)
+    for pair in want.pairs.iter() {
+        if !is_pair_alone(alloc, files, session, pair.0) {
+            return Some("the rows of one pair alone");
+        }
+    }
+    if is_copied(alloc, session) {
+        None
+    } else {
+        Some("the copy")
+    }
 }
 
-fn coarse_rows_agree(
-    rt: &impl Abort,
+fn fine_fault(alloc: Global, files: &Files, want: &Expected) -> Option<&'static str>
+    requires cut { IsCutOf files.now.rounds.screened.used files.now.rounds.kept }
+    requires halves { AreBaseHalves files.now.rounds.screened.boxes files.now.rounds.position
+        files.now.rounds.halves.items }
+{
+    let Some(session) = fine_rows(alloc, files, &want.point) else {
+        return Some("no fine rows");
+    };
+    for pair in want.pairs.iter() {
+        if let Some(fault) = fine_pair_fault(files, &session, pair) {
+            return Some(fault);
+        }
+    }
+    session_fault(alloc, files, &session, want)
+}
+
+fn coarse_fault(alloc: Global, files: &Files, want: &Expected) -> Option<&'static str>
+    requires cut { IsCutOf files.now.rounds.screened.used files.now.rounds.kept }
+{
+    let Some(session) = rows_of(alloc, files, files.rounds.kept.as_slice(), &want.point, 14) else {
+        return Some("no coarse rows");
+    };
+    for pair in want.pairs.iter() {
+        if let Some(fault) = coarse_pair_fault(&session, pair) {
+            return Some(fault);
+        }
+    }
+    session_fault(alloc, files, &session, want)
+}
+
+fn files_fault(alloc: Global, files: &Files, want: &Expected) -> Option<&'static str>
+    requires cut { IsCutOf files.now.rounds.screened.used files.now.rounds.kept }
+    requires halves { AreBaseHalves files.now.rounds.screened.boxes files.now.rounds.position
+        files.now.rounds.halves.items }
+{
+    if files.rounds.position != want.base {
+        return Some("the base");
+    }
+    if !are_pairs_full(files, want) {
+        return Some("the pairs of epochs");
+    }
+    if !are_arcs_held(files.rounds.kept.as_slice(), want) {
+        return Some("the arcs");
+    }
+    if let Some(fault) = fine_fault(alloc, files, want) {
+        return Some(fault);
+    }
+    coarse_fault(alloc, files, want)
+}
+
+// What isn't as expected of a session that is simulated.
+fn fault(
     alloc: Global,
-    files: &Files,
+    seed: u32,
+    epochs: u32,
+    sats: u32,
+    options: &Options,
     want: &Expected,
-) -> Result<(), Fail>
-    requires cut { IsCutOf files.now.rounds.screened.used files.now.rounds.kept }
+) -> Option<&'static str>
+    requires epochs { epochs ≤ 3600 }
+    requires sats { sats ≤ 15 }
 {
-    let point = want.point;
-    assert!(rt; is_receiver_point(&point));
-    let arcs = files.rounds.kept.as_slice();
-    assert!(rt; are_used(files.rounds.signals, arcs));
-    let session = rows_at(
-        alloc,
-        &files.rounds.screened,
-        arcs,
-        &files.rounds.position,
-        &point,
-        files.rounds.signals,
-        14,
-        files.rounds.system,
-    )?;
-    assert_eq!(rt; session.system, files.rounds.system);
-    assert_eq!(rt; session.pairs.len(), want.taken);
-    for pair in &want.pairs {
-        let number = pair.0;
-        assert!(rt; number < session.pairs.len());
-        coarse_pair_agrees(rt, &session.pairs.as_slice()[number], pair);
-        alone_agrees(rt, alloc, files, &session, number)?;
-    }
-    copy_agrees(rt, alloc, &session)
-}
-
-fn rows_agree(rt: &impl Abort, alloc: Global, files: &Files, want: &Expected) -> Result<(), Fail>
-    requires cut { IsCutOf files.now.rounds.screened.used files.now.rounds.kept }
-    requires halves { AreBaseHalves files.now.rounds.screened.boxes files.now.rounds.position files.now.rounds.halves.items }
-{
-    arcs_agree(rt, files, want);
-    fine_rows_agree(rt, alloc, files, want)?;
-    coarse_rows_agree(rt, alloc, files, want)
+    let Some(files) = files_of(alloc, seed, epochs, sats, options) else {
+        return Some("no files");
+    };
+    files_fault(alloc, &files, want)
 }
 
 #[test]
-fn rows_where_the_rover_stands(rt: HostRuntime) -> Result<(), Fail> {
-    rows_agree(&rt, rt.alloc(), &plain(&rt, rt.alloc())?, &PLAIN)
+fn rows_where_the_rover_stands(rt: HostRuntime) {
+    let found = fault(rt.alloc(), 1, 6, 4, &Options::defaults(), &PLAIN);
+    assert_eq!(rt; found, None);
 }
 
+// With a higher mask and shorter arcs.
 #[test]
-fn rows_beside_the_rover(rt: HostRuntime) -> Result<(), Fail> {
-    rows_agree(&rt, rt.alloc(), &high(&rt, rt.alloc())?, &HIGH)
+fn rows_beside_the_rover(rt: HostRuntime) {
+    let mut options = Options::defaults();
+    options.mask = 500;
+    options.arc = 2;
+    assert_eq!(rt; fault(rt.alloc(), 77, 3, 6, &options, &HIGH), None);
 }
 
+// With the phases and codes of all three bands.
 #[test]
-fn rows_of_all_bands(rt: HostRuntime) -> Result<(), Fail> {
-    rows_agree(&rt, rt.alloc(), &all_bands(&rt, rt.alloc())?, &ALL_BANDS)
+fn rows_of_all_bands(rt: HostRuntime) {
+    let mut options = Options::defaults();
+    options.bands = 125;
+    options.arc = 2;
+    assert_eq!(rt; fault(rt.alloc(), 8, 3, 4, &options, &ALL_BANDS), None);
 }
 
+// With the last four satellites of Galileo.
 #[test]
-fn rows_of_galileo(rt: HostRuntime) -> Result<(), Fail> {
-    rows_agree(&rt, rt.alloc(), &galileo(&rt, rt.alloc())?, &GALILEO)
+fn rows_of_galileo(rt: HostRuntime) {
+    let mut options = Options::defaults();
+    options.bands = 15;
+    options.system = b'E';
+    options.arc = 2;
+    assert_eq!(rt; fault(rt.alloc(), 21, 3, 4, &options, &GALILEO), None);
 }

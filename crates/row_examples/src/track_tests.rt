@@ -2,9 +2,7 @@
 use crate::files::files_of;
 use cert_data::Verdict;
 use run_options::Options;
-use std::alloc::{AllocError, Global};
-use std::process::Abort;
-use std::test::Fail;
+use std::alloc::Global;
 use track_data::{Track, TrackCert, TrackTail, Tracked};
 use track_form::{check_track, decide_track};
 use track_rows::track_at;
@@ -20,17 +18,17 @@ const RATIO: u32 = 2000;
 const BUDGET: u64 = 1_000_000;
 
 // The track of the session of seed 3 with six epochs and four satellites.
-fn track_of(rt: &impl Abort, alloc: Global) -> Result<Tracked, Fail> {
-    let files = files_of(rt, alloc, 3, 6, 4, &Options::defaults())?;
-    let tracked = track_at(
+fn track(alloc: Global) -> Option<Tracked> {
+    let files = files_of(alloc, 3, 6, 4, &Options::defaults())?;
+    track_at(
         alloc,
         &files.rounds.screened,
         files.rounds.kept.as_slice(),
         &files.rounds.position,
         files.rounds.signals,
         files.rounds.system,
-    )?;
-    Ok(tracked)
+    )
+    .ok()
 }
 
 fn is_near(point: &[i64; 3]) -> bool {
@@ -46,48 +44,46 @@ fn counts(tracked: &Tracked) -> (usize, usize, usize) {
 }
 
 #[test]
-fn tracks_each_pair(rt: HostRuntime) -> Result<(), Fail> {
-    let tracked = track_of(&rt, rt.alloc())?;
+fn tracks_each_pair(rt: HostRuntime) {
+    let tracked = track(rt.alloc()).expect(&rt, "no track");
     assert_eq!(rt; counts(&tracked), (6, 6, 0));
-    Ok(())
 }
 
 // Whether the rows are decided to say that the first integers are best by the ratio.
-fn is_fixed(alloc: Global, track: &Track) -> Result<bool, AllocError> {
+fn is_fixed(alloc: Global, track: &Track) -> bool {
     if track.pairs.len() == 0 {
-        return Ok(false);
+        return false;
     }
-    let tail = decide_track(alloc, track, RATIO, BUDGET)?;
-    Ok(matches!(&tail, TrackTail::Fixed { .. }))
+    let tail = decide_track(alloc, track, RATIO, BUDGET);
+    matches!(&tail, Ok(TrackTail::Fixed { .. }))
 }
 
 #[test]
-fn decides_a_track(rt: HostRuntime) -> Result<(), Fail> {
-    let tracked = track_of(&rt, rt.alloc())?;
-    assert!(rt; is_fixed(rt.alloc(), &tracked.track)?);
-    Ok(())
+fn decides_a_track(rt: HostRuntime) {
+    let tracked = track(rt.alloc()).expect(&rt, "no track");
+    assert!(rt; is_fixed(rt.alloc(), &tracked.track));
 }
 
 // What the check says of the track with what it was decided to say.
-fn verdict_on(alloc: Global, tracked: Tracked) -> Result<Option<Verdict>, AllocError> {
-    let Tracked { track, lost } = tracked;
-    drop(lost);
+fn verdict_on(alloc: Global, track: Track) -> Option<Verdict> {
     if track.pairs.len() == 0 {
-        return Ok(None);
+        return None;
     }
-    let tail = decide_track(alloc, &track, RATIO, BUDGET)?;
+    let tail = decide_track(alloc, &track, RATIO, BUDGET).ok()?;
     let cert = TrackCert {
         ratio: RATIO,
         budget: BUDGET,
         track,
         tail,
     };
-    Ok(Some(check_track(alloc, &cert)?))
+    check_track(alloc, &cert).ok()
 }
 
 #[test]
-fn certifies_a_track(rt: HostRuntime) -> Result<(), Fail> {
-    let tracked = track_of(&rt, rt.alloc())?;
-    assert_eq!(rt; verdict_on(rt.alloc(), tracked)?, Some(Verdict::Certified));
-    Ok(())
+fn certifies_a_track(rt: HostRuntime) {
+    let tracked = track(rt.alloc()).expect(&rt, "no track");
+    assert_eq!(rt;
+        verdict_on(rt.alloc(), tracked.track),
+        Some(Verdict::Certified)
+    );
 }

@@ -8,18 +8,20 @@ use obs_rows::{Arc, Signals, fine_signals, free_arcs};
 use round_steps::{are_few, are_many, grown, is_receiver_point};
 use std::alloc::{AllocError, Global};
 
+// A point, and whether it is one of a receiver.
+static POINTS: [([i64; 3], bool); 6] = [
+    ([60_000_000_000, 0, 0], true),
+    ([59_999_999_999, 0, 0], false),
+    ([0, -70_000_000_000, 0], true),
+    ([0, -70_000_000_000, 1], false),
+    ([36_000_000_000, 48_000_000_000, 0], true),
+    ([0, 0, i64::MIN], false),
+];
+
 #[test]
 fn receivers_are_near_the_ground(rt: HostRuntime) {
-    let cases = [
-        ([60_000_000_000, 0, 0], true),
-        ([59_999_999_999, 0, 0], false),
-        ([0, -70_000_000_000, 0], true),
-        ([0, -70_000_000_000, 1], false),
-        ([36_000_000_000, 48_000_000_000, 0], true),
-        ([0, 0, i64::MIN], false),
-    ];
-    for (point, expected) in cases {
-        assert_eq!(rt; is_receiver_point(&point), expected);
+    for row in POINTS.iter() {
+        assert!(rt; is_receiver_point(&row.0) == row.1);
     }
 }
 
@@ -37,6 +39,9 @@ fn arcs_of(alloc: Global, count: u8, datums: u8, last: u32) -> Result<Vec<Arc>, 
     Ok(arcs)
 }
 
+// How many pairs there are and how many arcs, one of them a datum, and whether those are few.
+static FEW: [(u32, u8, bool); 3] = [(5, 3, true), (5, 4, false), (0, 4, true)];
+
 // How many arcs there are, how many of them are datums, and whether those are many.
 static COUNTS: [(u8, u8, bool); 4] = [
     (21, 1, false),
@@ -45,15 +50,21 @@ static COUNTS: [(u8, u8, bool); 4] = [
     (201, 190, true),
 ];
 
+fn has_few(alloc: Global, pairs: u32, count: u8) -> Result<bool, AllocError> {
+    Ok(are_few(pairs, &arcs_of(alloc, count, 1, 4)?))
+}
+
+fn has_many(alloc: Global, count: u8, datums: u8) -> Result<bool, AllocError> {
+    Ok(are_many(&arcs_of(alloc, count, datums, 4)?))
+}
+
 #[test]
 fn counts_arcs(rt: HostRuntime) -> Result<(), AllocError> {
-    let three = arcs_of(rt.alloc(), 3, 1, 4)?;
-    let four = arcs_of(rt.alloc(), 4, 1, 4)?;
-    let found = (are_few(5, &three), are_few(5, &four), are_few(0, &four));
-    assert_eq!(rt; found, (true, false, true));
+    for row in FEW.iter() {
+        assert!(rt; has_few(rt.alloc(), row.0, row.1)? == row.2);
+    }
     for row in COUNTS.iter() {
-        let (count, datums, want) = *row;
-        assert_eq!(rt; are_many(&arcs_of(rt.alloc(), count, datums, 4)?), want);
+        assert!(rt; has_many(rt.alloc(), row.0, row.1)? == row.2);
     }
     Ok(())
 }
@@ -100,18 +111,23 @@ fn grown_by(
     Ok(Some([after[0].shift, after[1].shift]))
 }
 
-// Three quarters of a cycle leave a shift as it is, a 2^-16 of a cycle more makes it grow by one, and two cycles and a half down
-// by two. Each phase grows at its band: on L1 and L5 the second integer is that of L5. The first arc is a datum.
-#[test]
-fn shifts_grow_by_bands(rt: HostRuntime) -> Result<(), AllocError> {
-    let arcs = arcs_of(rt.alloc(), 2, 1, 4)?;
+// Bands, and the grown shift of the second arc. Three quarters of a cycle leave a shift as it is, a 2^-16 of a cycle more makes it
+// grow by one, and two cycles and a half down by two. Each phase grows at its band: on L1 and L5 the second integer is that of L5.
+static GROWN: [(u16, [i64; 3]); 3] = [(12, [0, 1, 0]), (15, [0, 0, 1]), (125, [0, 1, -2])];
+
+// Whether the shift of the second of two arcs becomes this one, while the first is a datum.
+fn is_grown(alloc: Global, bands: u16, shift: [i64; 3]) -> Result<bool, AllocError> {
+    let arcs = arcs_of(alloc, 2, 1, 4)?;
     let mut numbers = [0; MOST_FACTORS];
     numbers[3] = 49_152;
     numbers[4] = 49_153;
     numbers[5] = -163_840;
-    for (bands, shift) in [(12, [0, 1, 0]), (15, [0, 0, 1]), (125, [0, 1, -2])] {
-        let after = grown_by(rt.alloc(), &arcs, bands, &numbers)?;
-        assert_eq!(rt; after, Some([[0; 3], shift]));
+    Ok(grown_by(alloc, &arcs, bands, &numbers)? == Some([[0; 3], shift]))
+}
+
+#[test]
+fn shifts_grow_by_bands(rt: HostRuntime) {
+    for row in GROWN.iter() {
+        assert!(rt; matches!(is_grown(rt.alloc(), row.0, row.1), Ok(true)));
     }
-    Ok(())
 }

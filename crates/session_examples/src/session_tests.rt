@@ -3,9 +3,8 @@ use eph_store::NavFile;
 use gps_time::Tick;
 use obs_rows::is_bands_number;
 use obs_store::{Epoch, Epochs, ObsFile, ObsType, SLOTS, Satellites};
-use session::{Answer, Options, PairWhat, SessionFault, begin, process};
+use session::{Answer, Options, Outcome, PairWhat, SessionFault, SessionStart, begin, process};
 use std::alloc::{AllocError, Global};
-use std::test::Fail;
 
 const ON_GROUND: Option<[i64; 3]> = Some([63_781_370_000, 0, 0]);
 
@@ -98,13 +97,18 @@ static REFUSALS: [RefusedBase; 5] = [
     (ON_GROUND, &ALL, SPARSE, None),
 ];
 
-#[test]
-fn refuses_in_order(rt: HostRuntime) -> Result<(), Fail> {
-    for row in REFUSALS.iter() {
-        let (position, types, tags, want) = *row;
-        assert_eq!(rt; refusal(rt.alloc(), position, types, &tags)?, want);
+fn is_refused(alloc: Global, row: &RefusedBase) -> bool {
+    match refusal(alloc, row.0, row.1, &row.2) {
+        Ok(found) => found == row.3,
+        Err(_) => false,
     }
-    Ok(())
+}
+
+#[test]
+fn refuses_in_order(rt: HostRuntime) {
+    for row in REFUSALS.iter() {
+        assert!(rt; is_refused(rt.alloc(), row));
+    }
 }
 
 const L1_L5: [&str; 4] = ["C1C", "L1C", "C5Q", "L5Q"];
@@ -157,53 +161,90 @@ static LETTERS: [Letters; 12] = [
     (&THREE_BANDS, 125, Ok([b'C', b'W', b'X'])),
 ];
 
-#[test]
-fn each_band_of_the_options_needs_a_code(rt: HostRuntime) -> Result<(), Fail> {
-    for row in LETTERS.iter() {
-        let (types, bands, want) = *row;
-        assert_eq!(rt;
-            letters_on(rt.alloc(), bands, types)?,
-            want,
-            "{types:?} on {bands}"
-        );
+fn has_letters(alloc: Global, row: &Letters) -> bool {
+    match letters_on(alloc, row.1, row.0) {
+        Ok(found) => found == row.2,
+        Err(_) => false,
     }
-    Ok(())
 }
 
 #[test]
-fn begins_with_the_taken_pairs(rt: HostRuntime) -> Result<(), Fail> {
-    let tags = [0, 300_000_000, 600_000_000, 900_000_000, 1_200_000_000];
-    let base = file_of(rt.alloc(), ON_GROUND, &ALL, &tags)?;
-    let rover = file_of(rt.alloc(), None, &ALL, &tags)?;
+fn each_band_of_the_options_needs_a_code(rt: HostRuntime) {
+    for row in LETTERS.iter() {
+        assert!(rt; has_letters(rt.alloc(), row));
+    }
+}
+
+// A run over two files of these tags that takes every second pair, from the second on.
+fn begun_on(alloc: Global, tags: &[u64]) -> Result<Option<SessionStart>, AllocError> {
+    let base = file_of(alloc, ON_GROUND, &ALL, tags)?;
+    let rover = file_of(alloc, None, &ALL, tags)?;
     let mut options = Options::defaults();
     options.first = 1;
     options.step = 2;
-    let begun = begin(rt.alloc(), &base, &rover, &options)?;
-    let found = (
-        begun.position,
-        begun.signals.l1,
-        begun.signals.l2,
-        begun.all,
-    );
-    assert_eq!(rt; found, ([63_781_370_000, 0, 0], b'C', b'W', 5));
-    let taken = [0, 1, 2].map(|at| begun.taken.as_slice().get(at).map(|p| (p.base, p.rover)));
-    assert_eq!(rt; taken, [Some((1, 1)), Some((3, 3)), None]);
-    Ok(())
+    Ok(begin(alloc, &base, &rover, &options).ok())
 }
 
-// Without records no satellite is used.
+// Whether a run begins on the ground with five pairs, of which it takes the second and the fourth.
+fn takes_two_of_five(begun: &SessionStart) -> bool {
+    let signals = begun.signals;
+    if (signals.l1, signals.l2, begun.all) != (b'C', b'W', 5) {
+        return false;
+    }
+    match begun.taken.as_slice() {
+        [first, second] => {
+            let pairs = [first.base, first.rover, second.base, second.rover];
+            Some(begun.position) == ON_GROUND && pairs == [1, 1, 3, 3]
+        }
+        _ => false,
+    }
+}
+
+const FIVE_TAGS: [u64; 5] = [0, 300_000_000, 600_000_000, 900_000_000, 1_200_000_000];
+
+fn is_begun(alloc: Global) -> bool {
+    match begun_on(alloc, &FIVE_TAGS) {
+        Ok(Some(begun)) => takes_two_of_five(&begun),
+        _ => false,
+    }
+}
+
 #[test]
-fn few_without_records(rt: HostRuntime) -> Result<(), Fail> {
-    let tags = [0, 300_000_000, 600_000_000];
-    let base = file_of(rt.alloc(), ON_GROUND, &ALL, &tags)?;
-    let mut rover = file_of(rt.alloc(), None, &ALL, &tags)?;
+fn begins_with_the_taken_pairs(rt: HostRuntime) {
+    assert!(rt; is_begun(rt.alloc()));
+}
+
+const THREE_TAGS: [u64; 3] = [0, 300_000_000, 600_000_000];
+
+// What a run over these files without records ends with.
+fn without_records(
+    alloc: Global,
+    base: &ObsFile,
+    rover: &ObsFile,
+) -> Result<Outcome, SessionFault> {
+    let nav = NavFile::new(alloc);
+    process(alloc, base, rover, &nav, &Options::defaults())
+}
+
+// Whether no satellite is used of three pairs with an antenna off its mark.
+fn has_few(outcome: &Outcome) -> bool {
+    let counts = (outcome.taken, outcome.all, outcome.kept, outcome.delta);
+    counts == (3, 3, 0, true) && matches!(&outcome.answer, Answer::Few { pairs: 3 })
+}
+
+// Whether a run without records ends so, and is refused with its files exchanged, of which the second has no position.
+fn ends_without_records(alloc: Global) -> Result<bool, AllocError> {
+    let base = file_of(alloc, ON_GROUND, &ALL, &THREE_TAGS)?;
+    let mut rover = file_of(alloc, None, &ALL, &THREE_TAGS)?;
     rover.delta[0] = 1;
-    let nav = NavFile::new(rt.alloc());
-    let outcome = process(rt.alloc(), &base, &rover, &nav, &Options::defaults())?;
-    let few = matches!(&outcome.answer, Answer::Few { pairs: 3 });
-    let found = (outcome.taken, outcome.all, outcome.kept, outcome.delta, few);
-    assert_eq!(rt; found, (3, 3, 0, true, true));
-    let refused = process(rt.alloc(), &rover, &base, &nav, &Options::defaults()).err();
-    assert_eq!(rt; refused, NO_POSITION);
-    Ok(())
+    let is_few = match without_records(alloc, &base, &rover) {
+        Ok(outcome) => has_few(&outcome),
+        Err(_) => false,
+    };
+    Ok(is_few && without_records(alloc, &rover, &base).err() == NO_POSITION)
+}
+
+#[test]
+fn few_without_records(rt: HostRuntime) {
+    assert!(rt; matches!(ends_without_records(rt.alloc()), Ok(true)));
 }

@@ -1,7 +1,9 @@
 //! A place that is known without calculation.
+use crate::tests::{hold, holds};
 use decimal_text::Dec;
 use eph_store::{Eph, Raw};
 use gps_time::Tick;
+use iv_core::Iv;
 use std::test::Fail;
 use sv_orbit::sv_at;
 
@@ -42,22 +44,24 @@ fn axis_fault(eph: &Eph) -> Option<&'static str> {
         return Some("out of range");
     }
     let found = sv_at(eph, Tick(0), 0);
-    let want: [i64; 3] = [25_000_000 << 36, 0, 0];
-    let mut pairs = found.place.iter().zip(want);
-    let is_held = pairs.all(|(held, want)| held.lo() <= want && want <= held.hi());
-    if !is_held || !found.place.iter().all(|held| held.width() <= 1 << 18) {
+    if !hold(&found.place, [25_000_000 << 36, 0, 0]) || !are_narrow(&found.place) {
         return Some("the place");
     }
-    if found.clock.lo() <= 0 && 0 <= found.clock.hi() {
+    if holds(&found.clock, 0) {
         None
     } else {
         Some("the clock")
     }
 }
 
+fn are_narrow(place: &[Iv<36>; 3]) -> bool {
+    let [x, y, z] = place;
+    x.width() <= 1 << 18 && y.width() <= 1 << 18 && z.width() <= 1 << 18
+}
+
 #[test]
 fn on_the_axis(rt: HostRuntime) -> Result<(), Fail> {
     let eph = Eph::of(&plain())?;
-    assert_eq!(rt; axis_fault(&eph), None);
+    assert!(rt; axis_fault(&eph).is_none());
     Ok(())
 }

@@ -1,7 +1,6 @@
 //! Words and the jobs that they ask for, by the rules alone.
 use command_words::{File, Job, Part, read_words};
 use std::alloc::{AllocError, Global};
-use std::test::Fail;
 
 pub(crate) fn words_of(alloc: Global, words: &[&str]) -> Result<Vec<String>, AllocError> {
     let mut list = Vec::new(alloc);
@@ -40,7 +39,7 @@ fn asked(job: &Job) -> (&str, &str, u8, u64) {
 // The command, the file or the part, and, of `orbit`, the satellite and the tick; of other jobs one of their numbers.
 type Asked = (&'static str, &'static str, u8, u64);
 
-const ROWS: [(&[&str], Asked); 29] = [
+static ROWS: [(&[&str], Asked); 29] = [
     (&["zero", "F"], ("zero", "F", 0, 0)),
     (&["zero", "-"], ("zero", "-", 0, 0)),
     (&["zero", ""], ("zero", "", 0, 0)),
@@ -125,10 +124,8 @@ fn is_read_as(alloc: Global, words: &[&str], want: Asked) -> Result<bool, AllocE
 }
 
 #[test]
-fn reads_jobs(rt: HostRuntime) -> Result<(), Fail> {
+fn reads_jobs(rt: HostRuntime) {
     for row in ROWS.iter() {
-        let (words, want) = *row;
-        assert!(rt; is_read_as(rt.alloc(), words, want)?, "at {words:?}");
+        assert!(rt; matches!(is_read_as(rt.alloc(), row.0, row.1), Ok(true)));
     }
-    Ok(())
 }

@@ -2,7 +2,6 @@
 use crate::command_words_tests::words_of;
 use command_words::{Job, read_words};
 use std::alloc::{AllocError, Global};
-use std::test::Fail;
 
 // The letter of the job's system, and the number of its bands or of its satellite.
 fn signals_of(job: &Job) -> (u8, u16) {
@@ -15,7 +14,7 @@ fn signals_of(job: &Job) -> (u8, u16) {
 }
 
 // Words, and the letter and the number that they ask for.
-const ROWS: [(&[&str], (u8, u16)); 15] = [
+static ROWS: [(&[&str], (u8, u16)); 15] = [
     (&["fix", "B", "R", "N"], (b'G', 12)),
     (&["fix", "B", "R", "N", "--bands=12"], (b'G', 12)),
     (&["arcs", "--bands", "15", "B", "R", "N"], (b'G', 15)),
@@ -51,12 +50,17 @@ fn read_signals(alloc: Global, words: &[&str]) -> Result<Option<(u8, u16)>, Allo
     }
 }
 
-#[test]
-fn reads_signals(rt: HostRuntime) -> Result<(), Fail> {
-    for row in ROWS.iter() {
-        let (words, want) = *row;
-        let found = read_signals(rt.alloc(), words)?;
-        assert_eq!(rt; found, Some(want), "at {words:?}");
+// Whether the words ask for these.
+fn are_read(alloc: Global, words: &[&str], want: (u8, u16)) -> bool {
+    match read_signals(alloc, words) {
+        Ok(found) => found == Some(want),
+        Err(_) => false,
     }
-    Ok(())
+}
+
+#[test]
+fn reads_signals(rt: HostRuntime) {
+    for row in ROWS.iter() {
+        assert!(rt; are_read(rt.alloc(), row.0, row.1));
+    }
 }

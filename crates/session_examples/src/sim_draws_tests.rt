@@ -1,7 +1,6 @@
 //! Draws of an independent model.
 use sim_session::draw_all;
 use std::alloc::{AllocError, Global};
-use std::test::Fail;
 
 // Whether seed 1 draws, for two satellites, its offset, its clocks and these cycles of the base, of the rover and between both.
 fn are_drawn(
@@ -23,23 +22,23 @@ fn are_drawn(
 }
 
 #[test]
-fn draws_in_order(rt: HostRuntime) -> Result<(), Fail> {
+fn draws_in_order(rt: HostRuntime) {
     let base = [[-160_742, 566_536, 0], [-853_467, 519_323, 0]];
     let rover = [[-513_168, 297_188, 0], [-469_773, -53_389, 0]];
     let truth = [[-352_426, -269_348, 0], [383_694, -572_712, 0]];
-    assert_eq!(rt; are_drawn(rt.alloc(), false, &base, &rover, &truth)?, true);
-    Ok(())
+    let found = are_drawn(rt.alloc(), false, &base, &rover, &truth);
+    assert!(rt; matches!(found, Ok(true)));
 }
 
 // The draws of L5 come after those of all satellites.
 #[test]
-fn draws_l5_last(rt: HostRuntime) -> Result<(), Fail> {
+fn draws_l5_last(rt: HostRuntime) {
     let base = [[-160_742, 566_536, -141_940], [-853_467, 519_323, -555_993]];
     let rover = [[-513_168, 297_188, 86_773], [-469_773, -53_389, 684_435]];
     let truth = [
         [-352_426, -269_348, 228_713],
         [383_694, -572_712, 1_240_428],
     ];
-    assert_eq!(rt; are_drawn(rt.alloc(), true, &base, &rover, &truth)?, true);
-    Ok(())
+    let found = are_drawn(rt.alloc(), true, &base, &rover, &truth);
+    assert!(rt; matches!(found, Ok(true)));
 }
