@@ -5,7 +5,7 @@ use Rattle.whole_math.proofs.Ring.{va, ◌⊕◌}
 use Rattle.whole_math.proofs.Certificates.{◌≼◌, hy}
 use Rattle.rational.specs.Rational.{Rational, ◌+ʳ◌, ◌≤ʳ◌}
 use Rattle.rational.proofs.Orders.{order_r}
-use Rattle.quadratic_form.specs.RationalData.{Baseline}
+use Rattle.rational.specs.Spread.{Baseline}
 use Rattle.obs_rows.specs.declared.arcs.Arc.{Arc}
 use Rattle.obs_rows.specs.declared.pair_rows.PairRows.{PairRows}
 use Rattle.obs_rows.specs.Signals.{fine_signals}

@@ -2,7 +2,7 @@
 use Rattle.std.specs.Prelude.{◌≡◌, ℕ, List, [], ◌∷◌, length, ℤ}
 use Rattle.std.specs.List.{AllZip}
 use Rattle.rational.specs.Rational.{◌≤ʳ◌}
-use Rattle.quadratic_form.specs.RationalData.{Baseline}
+use Rattle.rational.specs.Spread.{Baseline}
 use Rattle.obs_rows.specs.declared.arcs.Arc.{Arc}
 use Rattle.obs_rows.specs.declared.pair_rows.PairRows.{PairRows}
 use Rattle.obs_rows.specs.Signals.{fine_signals}

@@ -7,7 +7,7 @@ use Rattle.quadratic_form.proofs.Decision.{less_value}
 use Rattle.obs_rows.specs.declared.sessions.Session.{Session}
 use Rattle.obs_rows.specs.Ranges.{IsBelow}
 use Rattle.obs_rows.specs.Signals.{fine_signals}
-use Rattle.obs_rows.specs.Best.{IsStrictlyBest}
+use Rattle.obs_rows.specs.Best.{IsBestByRatio}
 use Rattle.integer_form.specs.declared.form.Form.{Form}
 use Rattle.integer_form.specs.declared.faults.Place.{Place}
 use Rattle.integer_form.specs.Forms.{integers_of, columns_of, value_of}
@@ -21,7 +21,7 @@ use Rattle.fix_decide.proofs.SessionForms.{integers_are, second_small, first_len
 use Rattle.cert_data.specs.Tails.{AreVectors, tail_of_vectors}
 use Rattle.cert_data.specs.declared.tails.Tail.{Tail}
 use Rattle.cert_data.specs.declared.tails.Tail.TheVariants.{Fixed, Unseparated}
-use Rattle.cert_check.specs.Settled.{AreFound, IsTooWide, IsBaselineWide, IsSumWide, IsDecision, IsBestWhereFixed}
+use Rattle.cert_check.specs.Settled.{AreFound, IsTooWide, IsBaselineWide, IsSumWide, IsDecision, IsBestByRatioWhereFixed}
 
 -- an upper sum fits its word
 pub top_word : (x : ℤ) → pos 0 ≤ℤ x → x ≤ℤ pos (2 ^ 119) → to_z w128 (of_z w128 x) ≡ x
@@ -33,11 +33,12 @@ pub told_decision : (s : Session) (f : Form) (ratio budget h : ℕ) (m : List �
 told_decision s f ratio budget h m best top true t e found there back = subst (IsDecision s f ratio budget) (sym e) (found, there refl)
 told_decision s f ratio budget h m best top false t e found there back = subst (IsDecision s f ratio budget) (sym e) (found, λ x. false≢true (back x))
 
--- where a decision is given as fixed, its integers are strictly best
-pub told_best : (s : Session) (h : ℕ) (m : List ℤ) (best b : TwoBest) (top : ℤ) (fixed : Bool) (t : Tail) → t ≡ tail_of_vectors fixed h m best top → best ≡ b →
-    (IsTrue fixed → IsStrictlyBest s (first_of b) m) → IsBestWhereFixed s t
-told_best s h m best b top true t e same is = subst (IsBestWhereFixed s) (sym e) (subst (λ (x : TwoBest). IsStrictlyBest s (first_of x) m) (sym same) (is refl))
-told_best s h m best b top false t e same is = subst (IsBestWhereFixed s) (sym e) tt
+-- where a decision is given as fixed, its integers are best by the ratio
+pub told_best : (s : Session) (ratio h : ℕ) (m : List ℤ) (best b : TwoBest) (top : ℤ) (fixed : Bool) (t : Tail) → t ≡ tail_of_vectors fixed h m best top → best ≡ b →
+    (IsTrue fixed → IsBestByRatio ratio s (first_of b) m) → IsBestByRatioWhereFixed ratio s t
+told_best s ratio h m best b top true t e same is =
+    subst (IsBestByRatioWhereFixed ratio s) (sym e) (subst (λ (x : TwoBest). IsBestByRatio ratio s (first_of x) m) (sym same) (is refl))
+told_best s ratio h m best b top false t e same is = subst (IsBestByRatioWhereFixed ratio s) (sym e) tt
 
 -- a decision that is refused
 pub refused_decision : (s : Session) (f : Form) (budget : ℕ) (best : TwoBest) (place : Place) → IsTwoBest f best → KeepsBudget f budget best → HasAnswer f budget → (place ≡ Place.Float) ⊎ (place ≡ Place.Sum) →

@@ -3,7 +3,7 @@ use Rattle.std.specs.Prelude.{◌≡◌, ◌⊎◌, ℕ, List, ℤ, pos, Err}
 use Rattle.quadratic_form.specs.Lowering.{IsExponent}
 use Rattle.obs_rows.specs.declared.sessions.Session.{Session}
 use Rattle.obs_rows.specs.Signals.{fine_signals, counted}
-use Rattle.obs_rows.specs.Best.{IsStrictlyBest}
+use Rattle.obs_rows.specs.Best.{IsStrictlyBest, IsBestByRatio}
 use Rattle.normal_sum.specs.declared.normal.Normal.{Normal}
 use Rattle.normal_sum.specs.Normals.{IsNormalOf}
 use Rattle.normal_sum.specs.Values.{form_of}
@@ -20,7 +20,6 @@ use Rattle.int_search.specs.declared.answer.SearchFault.TheVariants as SearchFau
 use Rattle.fix_decide.specs.UpperSums.{top as top_of}
 use Rattle.fix_decide.specs.Widths.{AreWide}
 use Rattle.fix_decide.specs.Decisions.{IsSeparated, first_of, move_of}
-use Rattle.fix_decide.specs.Ratios.{IsBestByRatio}
 use Rattle.cert_data.specs.declared.tails.Tail.{Tail}
 use Rattle.cert_data.specs.declared.tails.Tail.TheVariants.{Fixed, Unseparated, Weak, Overwidth, Unsettled, Spent}
 
@@ -84,20 +83,15 @@ IsDecision s form ratio budget (Overwidth place) =
 IsDecision s form ratio budget (Unsettled entry) = ⊥
 IsDecision s form ratio budget (Spent spent) = (spent ≡ budget) × IsSpent form budget
 
--- where the integers are fixed, they are with their move strictly best for all data in the boxes
-abbrev pub IsBestWhereFixed : Session → Tail → Type 0
-IsBestWhereFixed s (Fixed h moved best top) = IsStrictlyBest s (first_of best) moved
-IsBestWhereFixed s (Unseparated h moved best top) = Unit {0}
-IsBestWhereFixed s (Weak column pivot) = Unit {0}
-IsBestWhereFixed s (Overwidth place) = Unit {0}
-IsBestWhereFixed s (Unsettled entry) = Unit {0}
-IsBestWhereFixed s (Spent budget) = Unit {0}
+-- where the tail is fixed, P holds of its first integers and its move
+abbrev pub WhereFixed : (List ℤ → List ℤ → Type 0) → Tail → Type 0
+WhereFixed P (Fixed h moved best top) = P (first_of best) moved
+WhereFixed P _ = Unit {0}
 
--- and best by the ratio
+-- where the integers are fixed, they are with their move best by the ratio for all data in the boxes
 abbrev pub IsBestByRatioWhereFixed : ℕ → Session → Tail → Type 0
-IsBestByRatioWhereFixed ratio s (Fixed h moved best top) = IsBestByRatio ratio s (first_of best) moved
-IsBestByRatioWhereFixed ratio s (Unseparated h moved best top) = Unit {0}
-IsBestByRatioWhereFixed ratio s (Weak column pivot) = Unit {0}
-IsBestByRatioWhereFixed ratio s (Overwidth place) = Unit {0}
-IsBestByRatioWhereFixed ratio s (Unsettled entry) = Unit {0}
-IsBestByRatioWhereFixed ratio s (Spent budget) = Unit {0}
+IsBestByRatioWhereFixed ratio s = WhereFixed (IsBestByRatio ratio s)
+
+-- and strictly best
+abbrev pub IsBestWhereFixed : Session → Tail → Type 0
+IsBestWhereFixed s = WhereFixed (IsStrictlyBest s)

@@ -1,9 +1,8 @@
 -- What a check says of the rows of a session and the tail of its text.
-use Rattle.std.specs.Prelude.{◌≡◌, ℕ}
+use Rattle.std.specs.Prelude.{◌≡◌, ℕ, List, ℤ}
 use Rattle.obs_rows.specs.declared.sessions.Session.{Session}
-use Rattle.obs_rows.specs.Best.{IsStrictlyBest}
+use Rattle.obs_rows.specs.Best.{IsStrictlyBest, IsBestByRatio}
 use Rattle.fix_decide.specs.Decisions.{first_of}
-use Rattle.fix_decide.specs.Ratios.{IsBestByRatio}
 use Rattle.cert_data.specs.declared.tails.Tail.{Tail}
 use Rattle.cert_data.specs.declared.tails.Tail.TheVariants.{Fixed, Unseparated, Weak, Overwidth, Unsettled, Spent}
 use Rattle.cert_data.specs.declared.verdicts.Verdict.{Verdict}
@@ -30,12 +29,15 @@ pub record IsVerdictOf (s : Session) (ratio budget : ℕ) (t : Tail) (v : Verdic
   pub decision : IsRowDecision s ratio budget decided
   pub said : IsSaidOf decided t v
 
--- the text says that the rows are fixed, and its first integers with its move are strictly best for the rows
-abbrev pub IsBestIn : Session → Tail → Type 0
-IsBestIn s (Fixed h moved best top) = IsStrictlyBest s (first_of best) moved
-IsBestIn s _ = ⊥
+-- the tail is fixed, and P holds of its first integers and its move
+abbrev pub IsFixedWith : (List ℤ → List ℤ → Type 0) → Tail → Type 0
+IsFixedWith P (Fixed h moved best top) = P (first_of best) moved
+IsFixedWith P _ = ⊥
 
--- the same, and best by the ratio
+-- the text says that the rows are fixed, and its first integers with its move are best by the ratio for the rows
 abbrev pub IsBestByRatioIn : ℕ → Session → Tail → Type 0
-IsBestByRatioIn ratio s (Fixed h moved best top) = IsBestByRatio ratio s (first_of best) moved
-IsBestByRatioIn ratio s _ = ⊥
+IsBestByRatioIn ratio s = IsFixedWith (IsBestByRatio ratio s)
+
+-- and strictly best
+abbrev pub IsBestIn : Session → Tail → Type 0
+IsBestIn s = IsFixedWith (IsStrictlyBest s)

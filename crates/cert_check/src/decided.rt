@@ -5,7 +5,7 @@ ghost use Rattle.obs_rows.specs.declared.limits.TheConstants.{MOST_RATIO};
 ghost use Rattle.integer_form.specs.Forms.{integers_of, value_of};
 ghost use Rattle.cert_data.specs.Tails.{IsTailOf};
 ghost use Rattle.fix_decide.specs.Decisions.{IsFormOf};
-ghost use Rattle.cert_check.specs.Settled.{IsRefused, IsDecision, IsBestWhereFixed, tail_of};
+ghost use Rattle.cert_check.specs.Settled.{IsRefused, IsDecision, IsBestByRatioWhereFixed, tail_of};
 ghost use Rattle.cert_check.specs.RowDecisions.{IsRowDecision};
 
 use cert_data::Tail;
@@ -46,7 +46,7 @@ pub fn decide_settled(session: &Session, form: &Form, ratio: u32, budget: u64) -
     requires ratio_from { 1000 ≤ ratio }
     requires ratio_to { ratio ≤ MOST_RATIO }
     ensures decision { IsDecision session.now form.now ratio budget result }
-    ensures strictly_best { IsBestWhereFixed session.now result }
+    ensures by_ratio { IsBestByRatioWhereFixed ratio session.now result }
     ensures fits { IsTailOf (fine_signals session.now.signals) session.now.arcs budget result }
 {
     values_from(form);
@@ -81,7 +81,7 @@ pub fn decide_rows(session: &Session, ratio: u32, budget: u64) -> Tail
     requires ratio_from { 1000 ≤ ratio }
     requires ratio_to { ratio ≤ MOST_RATIO }
     ensures decision { IsRowDecision session.now ratio budget result }
-    ensures strictly_best { IsBestWhereFixed session.now result }
+    ensures by_ratio { IsBestByRatioWhereFixed ratio session.now result }
     ensures fits { IsTailOf (fine_signals session.now.signals) session.now.arcs budget result }
 {
     match form_of_rows(session) {

@@ -9,9 +9,10 @@
 //! The decision of a fine session's rows, as a tail: `form_of_rows` gives the form of a session's rows, or the refusal of
 //! their elimination. `decide_settled` takes a form that is known, searches its two least vectors and decides whether the
 //! first is fixed. Its answer is spent or too wide only where the form has no reduced count within the budget, and else
-//! says of the baseline, the upper sum and the ratio exactly what they are (`decision`). It is a tail that a certificate of the session may have (`fits`), and where it says
-//! fixed, the integers with their move are strictly best for all data (`strictly_best`). `decide_rows` is both in a row: a
-//! refused elimination, or the decision of the form, with the same clauses. `tail_of` gives a refused elimination as a
+//! says of the baseline, the upper sum and the ratio exactly what they are (`decision`). It is a tail that a certificate
+//! of the session may have (`fits`), and where it says fixed, the integers with their move are best by the ratio for all
+//! data (`by_ratio`). `decide_rows` is both in a row: a refused elimination, or the decision of the form, with the same
+//! clauses. `tail_of` gives a refused elimination as a
 //! tail, and `values_from` is a law: no value of a form is below -2^63. A greater budget changes no decision but one that a
 //! search ended without an answer, and so no verdict `Certified` (`more_budget_law`).
 #![tactic(auto)]

@@ -11,7 +11,8 @@ use Rattle.cert_words.specs.Numbers.{capped, Part, part, some_then, behind_text,
 use Rattle.cert_words.proofs.NumberLaws.{AreSmall, values, took_more, took_text, took_end, some_took, were_small, values-length}
 use Rattle.cert_words.proofs.RangeLaws.{natural_passed, AreIn, in_small, NaturalPassed}
 use Rattle.obs_rows.specs.declared.units.TheConstants.{PHASES}
-use Rattle.obs_rows.specs.Signals.{used_signals, phase_bands}
+use Rattle.obs_rows.specs.Signals.{used_signals}
+use Rattle.obs_rows.specs.CountedSignals.{phase_bands}
 use Rattle.obs_rows.specs.declared.limits.TheConstants.{LAST_PAIR}
 use Rattle.cert_lines.specs.declared.version.Version.{Version}
 use Rattle.cert_lines.specs.declared.version.Version.TheVariants.{One, Two}

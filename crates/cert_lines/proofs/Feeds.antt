@@ -12,7 +12,7 @@ use Rattle.cert_words.proofs.NumberLaws.{AreSmall}
 use Rattle.cert_words.proofs.TextLaws.{has_no_feed, AreLines, feed-append, numbers_feed}
 use Rattle.cert_lines.specs.Lines.{vector_line, arc_line, kind_text, row_numbers, row_lines, arc_lines, counted_arcs, count_line, pair_line, values_line, weak_line}
 use Rattle.cert_lines.specs.Places.{select}
-use Rattle.obs_rows.specs.Signals.{phase_bands}
+use Rattle.obs_rows.specs.CountedSignals.{phase_bands}
 use Rattle.obs_rows.specs.declared.limits.TheConstants.{MOST_ARCS}
 use Rattle.cert_lines.proofs.Sizes.{row_small, shifts_small, entries_small, point_small, values_small, pair_small, weak_small}
 

@@ -18,7 +18,8 @@ use Rattle.cert_lines.specs.Lines.{vector_line, arc_line, kind_text, row_numbers
 use Rattle.cert_lines.specs.declared.version.Version.{Version}
 use Rattle.cert_lines.specs.declared.version.Version.TheVariants.{One, Two}
 use Rattle.cert_lines.specs.Places.{select, spread, put_within}
-use Rattle.obs_rows.specs.Signals.{phase_bands, used_signals}
+use Rattle.obs_rows.specs.Signals.{used_signals}
+use Rattle.obs_rows.specs.CountedSignals.{phase_bands}
 use Rattle.cert_words.specs.declared.numbers.TheConstants.{MOST_NUMBERS}
 use Rattle.cert_words.specs.declared.ranges.Range.{Range}
 use Rattle.cert_words.specs.Numbers.{IsIn, Part, part, some_then, behind_text, at_end, more_numbers, number_in, number_at, numbers_behind, natural_within, within_range, all_within, IsBetween}

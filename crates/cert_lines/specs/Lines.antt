@@ -6,7 +6,7 @@ use Rattle.obs_rows.specs.declared.rows.Row.{Row}
 use Rattle.cert_lines.specs.declared.version.Version.{Version}
 use Rattle.cert_lines.specs.declared.version.Version.TheVariants.{One, Two}
 use Rattle.cert_lines.specs.Places.{select}
-use Rattle.obs_rows.specs.Signals.{phase_bands}
+use Rattle.obs_rows.specs.CountedSignals.{phase_bands}
 use Rattle.cert_words.specs.Spelling.{behind_blanks}
 
 -- `ratio`, `budget`, `arcs`, `pairs` and others: one number that isn't below 0

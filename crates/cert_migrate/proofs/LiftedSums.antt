@@ -5,7 +5,7 @@ use Rattle.std.proofs.lemmas.Slice.Zip.{AllZip-long}
 use Rattle.whole_math.proofs.Ring.{◌⊗◌}
 use Rattle.whole_math.proofs.Inequalities.{same_by, nat}
 use Rattle.rational.specs.Rational.{Rational, ◌≈◌, of_whole, ◌*ʳ◌}
-use Rattle.quadratic_form.specs.RationalData.{Baseline, spread_of_rationals}
+use Rattle.rational.specs.Spread.{Baseline, spread_of_rationals}
 use Rattle.obs_rows.specs.declared.arcs.Arc.{Arc}
 use Rattle.obs_rows.specs.declared.rows.Row.{Row}
 use Rattle.obs_rows.specs.declared.pair_rows.PairRows.{PairRows}

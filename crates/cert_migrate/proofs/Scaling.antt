@@ -5,7 +5,7 @@ use Rattle.whole_math.specs.Vectors.{len}
 use Rattle.rational.specs.Rational.{Rational, ◌≈◌, ◌≤ʳ◌, ◌<ʳ◌, of_whole, ◌+ʳ◌, ◌-ʳ◌, ◌*ʳ◌}
 use Rattle.rational.proofs.Laws.{≤ʳ_along, mul_r-mono, <ʳ_not, not_≤ʳ}
 use Rattle.rational.proofs.Orders.{equal_r, ◌≐◌}
-use Rattle.quadratic_form.specs.RationalData.{Baseline, sum_of_rationals, squared_norm_of_rationals, spread_of_rationals}
+use Rattle.rational.specs.Spread.{Baseline, sum_of_rationals, squared_norm_of_rationals, spread_of_rationals}
 
 -- each of the second list is k times that of the first
 abbrev pub AreScaled : Rational → List Rational → List Rational → Type 0

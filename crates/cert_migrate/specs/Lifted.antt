@@ -4,7 +4,7 @@ use Rattle.std.specs.List.{AllZip}
 use Rattle.std.proofs.Common.{lit<}
 use Rattle.whole_math.specs.Rounding.{nearest_div, ceil_div}
 use Rattle.rational.specs.Rational.{Rational, ◌≈◌, ◌*ʳ◌}
-use Rattle.quadratic_form.specs.RationalData.{Baseline}
+use Rattle.rational.specs.Spread.{Baseline}
 use Rattle.obs_rows.specs.declared.arcs.Arc.{Arc}
 use Rattle.obs_rows.specs.declared.rows.Row.{Row}
 use Rattle.obs_rows.specs.declared.pair_rows.PairRows.{PairRows}
@@ -12,9 +12,8 @@ use Rattle.obs_rows.specs.declared.sessions.Session.{Session}
 use Rattle.obs_rows.specs.Signals.{fine_signals}
 use Rattle.obs_rows.specs.Data.{Observed, AreData}
 use Rattle.obs_rows.specs.SumOfSquares.{sum_of_squares}
-use Rattle.fix_decide.specs.Decisions.{first_of}
 use Rattle.cert_data.specs.declared.tails.Tail.{Tail}
-use Rattle.cert_data.specs.declared.tails.Tail.TheVariants.{Fixed, Unseparated, Weak, Overwidth, Unsettled, Spent}
+use Rattle.cert_check.specs.Settled.{WhereFixed}
 use Rattle.cert_migrate.specs.declared.old_arcs.OldArc.{OldArc}
 use Rattle.cert_migrate.specs.declared.old_rows.OldRow.{OldRow}
 use Rattle.cert_migrate.specs.declared.old_pairs.OldPair.{OldPair}
@@ -86,7 +85,7 @@ abbrev pub HasScaledSums : OldSession → Session → Type 0
 HasScaledSums old s = (observed : List (List OldObserved)) (z : List ℤ) (b : Baseline) →
     sum_of_squares s.arcs (fine_signals s.signals) s.pairs z (scaled_baseline b) (scaled observed) ≈ unit_ratio *ʳ unit_ratio *ʳ old_sum old.arcs old.pairs z b observed
 
--- ---- strictly best
+-- ---- best
 -- A move m, in 2^-5 ι, as a baseline in the old unit, 2^6 κ: m / (2^5 · 23) κ over 2^6 κ is 32 m / (23 · 2^16)
 abbrev pub in_old_unit : List ℤ → Baseline
 in_old_unit m = record { b1 = part (at m 0); b2 = part (at m 1); b3 = part (at m 2) }
@@ -96,18 +95,8 @@ in_old_unit m = record { b1 = part (at m 0); b2 = part (at m 1); b3 = part (at m
 
 -- where the new tail is fixed, its first integers with its move are strictly best in the old boxes
 abbrev pub IsOldBestWhereFixed : OldSession → Tail → Type 0
-IsOldBestWhereFixed old (Fixed h moved best top) = IsOldBest old (first_of best) (in_old_unit moved)
-IsOldBestWhereFixed old (Unseparated h moved best top) = Unit {0}
-IsOldBestWhereFixed old (Weak column pivot) = Unit {0}
-IsOldBestWhereFixed old (Overwidth place) = Unit {0}
-IsOldBestWhereFixed old (Unsettled entry) = Unit {0}
-IsOldBestWhereFixed old (Spent budget) = Unit {0}
+IsOldBestWhereFixed old = WhereFixed (λ z m. IsOldBest old z (in_old_unit m))
 
 -- where the new tail is fixed, they are best by the ratio in the old boxes
 abbrev pub IsOldBestByRatioWhereFixed : ℕ → OldSession → Tail → Type 0
-IsOldBestByRatioWhereFixed ratio old (Fixed h moved best top) = IsOldBestByRatio ratio old (first_of best) (in_old_unit moved)
-IsOldBestByRatioWhereFixed ratio old (Unseparated h moved best top) = Unit {0}
-IsOldBestByRatioWhereFixed ratio old (Weak column pivot) = Unit {0}
-IsOldBestByRatioWhereFixed ratio old (Overwidth place) = Unit {0}
-IsOldBestByRatioWhereFixed ratio old (Unsettled entry) = Unit {0}
-IsOldBestByRatioWhereFixed ratio old (Spent budget) = Unit {0}
+IsOldBestByRatioWhereFixed ratio old = WhereFixed (λ z m. IsOldBestByRatio ratio old z (in_old_unit m))

@@ -3,7 +3,7 @@
 use Rattle.std.specs.Prelude.{◌≡◌, ◌≢◌, ℕ, ◌*◌, ◌/◌, ◌+◌, ◌^◌, ℤ, pos, ◌*ℤ◌, Bool, false, if◌then◌else◌, nat_lt, Option, Some, None, List, [], ◌∷◌, ◌++◌, length, take, map, All, slice_get, slice_index_or}
 use Rattle.std.specs.List.{AllZip}
 use Rattle.rational.specs.Rational.{Rational, Near, ◌<ʳ◌, of_whole, ◌+ʳ◌, ◌-ʳ◌, ◌*ʳ◌, times}
-use Rattle.quadratic_form.specs.RationalData.{Baseline, sum_of_rationals, spread_of_rationals}
+use Rattle.rational.specs.Spread.{Baseline, sum_of_rationals, spread_of_rationals}
 use Rattle.cert_migrate.specs.declared.old_arcs.OldArc.{OldArc}
 use Rattle.cert_migrate.specs.declared.old_rows.OldRow.{OldRow}
 use Rattle.cert_migrate.specs.declared.old_pairs.OldPair.{OldPair}
@@ -92,18 +92,19 @@ old_terms arcs z b (p ∷ ps) (qs ∷ rest) = map (old_term arcs z b p qs) old_s
 abbrev pub old_sum : List OldArc → List OldPair → List ℤ → Baseline → List (List OldObserved) → Rational
 old_sum arcs pairs z b observed = sum_of_rationals (old_terms arcs z b pairs observed)
 
--- ---- strictly best
--- z has one entry for each free arc and phase, and for all data every other such vector, of whole numbers of any size,
--- with every rational baseline, of any length, has a greater sum of squares than z with the baseline m
-pub record IsOldBest (s : OldSession) (z : List ℤ) (m : Baseline) : Type 0 where
+-- ---- best
+-- z has one entry for each free arc and phase, and for all data the sum of squares of z with the baseline m is below that of every other
+-- such vector, of whole numbers of any size, with every rational baseline, of any length. What below means is said by the first argument.
+pub record IsOldBestBy (Below : Rational → Rational → Type 0) (s : OldSession) (z : List ℤ) (m : Baseline) : Type 0 where
   pub entries : length z ≡ old_integer_count s.arcs
   pub best : (observed : List (List OldObserved)) → AreOldData s.pairs observed →
       (w : List ℤ) → length w ≡ old_integer_count s.arcs → w ≢ z → (b : Baseline) →
-      old_sum s.arcs s.pairs z m observed <ʳ old_sum s.arcs s.pairs w b observed
+      Below (old_sum s.arcs s.pairs z m observed) (old_sum s.arcs s.pairs w b observed)
 
--- the same by a ratio in thousandths: ratio times the sum of squares of z with m is less than 1000 times the other's
-pub record IsOldBestByRatio (ratio : ℕ) (s : OldSession) (z : List ℤ) (m : Baseline) : Type 0 where
-  pub entries : length z ≡ old_integer_count s.arcs
-  pub best : (observed : List (List OldObserved)) → AreOldData s.pairs observed →
-      (w : List ℤ) → length w ≡ old_integer_count s.arcs → w ≢ z → (b : Baseline) →
-      times ratio (old_sum s.arcs s.pairs z m observed) <ʳ times 1000 (old_sum s.arcs s.pairs w b observed)
+-- strictly best: it is less
+abbrev pub IsOldBest : OldSession → List ℤ → Baseline → Type 0
+IsOldBest = IsOldBestBy ◌<ʳ◌
+
+-- best by a ratio in thousandths: ratio times it is less than 1000 times the other
+abbrev pub IsOldBestByRatio : ℕ → OldSession → List ℤ → Baseline → Type 0
+IsOldBestByRatio ratio = IsOldBestBy (λ f g. times ratio f <ʳ times 1000 g)

@@ -2,7 +2,7 @@
 ghost use Rattle.std.specs.Prelude.{◌≡◌, map, IfOk};
 ghost use Rattle.cert_migrate.specs.Lifted.{lifted_arc, IsLiftedSession, HasScaledData, HasScaledSums, IsOldBestWhereFixed, IsOldBestByRatioWhereFixed};
 ghost use Rattle.cert_data.specs.declared.tails.Tail.{Tail};
-ghost use Rattle.cert_check.specs.Settled.{IsBestWhereFixed, IsBestByRatioWhereFixed};
+ghost use Rattle.cert_check.specs.Settled.{IsBestByRatioWhereFixed};
 ghost use Rattle.cert_check.specs.RowDecisions.{IsRowDecision, IsSameTail};
 
 use crate::lifted_rows::lifted_pairs;
@@ -53,7 +53,7 @@ fn lifted_session(alloc: Global, old: &OldSession) -> Result<Session, AllocError
 
 /// The certificate in the present unit: its boxes hold 23/32 of all that the old ones held, and its tail is the
 /// decision of its own rows, their only one. What the old tail said isn't carried over. What
-/// is fixed is strictly best, and best by the ratio, in the new boxes (`new_best`, `new_by_ratio`) and in the old ones.
+/// is fixed is best by the ratio in the new boxes (`new_by_ratio`), and by the ratio and strictly in the old ones.
 pub fn lift(alloc: Global, old: &OldCert) -> Result<Cert, AllocError>
     ensures ratio { IfOk result (λ c. c.ratio ≡ old.now.ratio) }
     ensures budget { IfOk result (λ c. c.budget ≡ old.now.budget) }
@@ -61,7 +61,6 @@ pub fn lift(alloc: Global, old: &OldCert) -> Result<Cert, AllocError>
     ensures tail { IfOk result (λ c. IsRowDecision c.session c.ratio c.budget c.tail) }
     ensures only { IfOk result (λ c. (t : Tail) → IsRowDecision c.session c.ratio c.budget t →
         IsSameTail t c.tail) }
-    ensures new_best { IfOk result (λ c. IsBestWhereFixed c.session c.tail) }
     ensures new_by_ratio { IfOk result (λ c. IsBestByRatioWhereFixed c.ratio c.session c.tail) }
     ensures boxes { IfOk result (λ c. HasScaledData old.now.session c.session) }
     ensures sums { IfOk result (λ c. HasScaledSums old.now.session c.session) }

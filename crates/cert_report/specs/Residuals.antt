@@ -10,7 +10,8 @@ use Rattle.obs_rows.specs.declared.pair_rows.PairRows.{PairRows}
 use Rattle.obs_rows.specs.declared.sessions.Session.{Session}
 use Rattle.obs_rows.specs.declared.units.TheConstants.{UNIT_FREQUENCY, LIGHT_SPEED, ROW_EXPONENT, MOST_FREE_ARCS}
 use Rattle.obs_rows.specs.Arcs.{free_count}
-use Rattle.obs_rows.specs.Signals.{fine_signals, AreCounted}
+use Rattle.obs_rows.specs.Signals.{fine_signals}
+use Rattle.obs_rows.specs.CountedSignals.{AreCounted}
 use Rattle.obs_rows.specs.Ranges.{IsBelow, IsWithin}
 use Rattle.obs_rows.specs.Integers.{integer_count}
 use Rattle.cert_words.specs.Spelling.{behind_blanks}

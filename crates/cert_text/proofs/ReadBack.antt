@@ -14,7 +14,8 @@ use Rattle.obs_rows.specs.Letters.{is_letter}
 use Rattle.obs_rows.specs.Ranges.{IsWithin, IsBelow, IsPoint, IsSystem}
 use Rattle.obs_rows.specs.Arcs.{IsArcInRange}
 use Rattle.obs_rows.specs.Unused.{IsZeroOff, HasUsedShifts}
-use Rattle.obs_rows.specs.Signals.{used_signals, phase_bands}
+use Rattle.obs_rows.specs.Signals.{used_signals}
+use Rattle.obs_rows.specs.CountedSignals.{phase_bands}
 use Rattle.obs_rows.specs.declared.limits.TheConstants.{LAST_PAIR, MOST_COORDINATE}
 use Rattle.rinex_head.specs.declared.place.Flaw.{Flaw}
 use Rattle.rinex_head.specs.declared.place.What.TheVariants.{BadLine}

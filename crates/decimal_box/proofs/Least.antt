@@ -15,7 +15,8 @@ use Rattle.iv_core.specs.declared.Iv.{Iv}
 use Rattle.decimal_box.specs.Least.{IsLeastBox}
 use Rattle.iv_core.proofs.Sizes.{room}
 use Rattle.iv_core.proofs.QuotientLaws.{ratio_holds, ratio_least}
-use Rattle.rational.specs.Rational.{Rational, ◌≈◌, InBox, IsRatio, IsAtMostInSize, of_whole, of_scale}
+use Rattle.rational.specs.Rational.{Rational, ◌≈◌, IsAtMostInSize, of_whole, InBox}
+use Rattle.rational.specs.Boxes.{IsRatio, of_scale}
 use Rattle.eph_store.specs.Decimals.{ten_to_pos, decimal}
 
 -- ---- a power that is cut

@@ -7,7 +7,8 @@ use Rattle.whole_math.proofs.Ring.{◌⊗◌}
 use Rattle.whole_math.proofs.Order.{lins, le_pos, mul_le_right}
 use Rattle.whole_math.proofs.Inequalities.{same_by, nat, le_eq, le_trans_ℤ, pos_nn}
 use Rattle.decimal_text.specs.declared.exponent.Dec.{Dec}
-use Rattle.rational.specs.Rational.{Rational, ◌≈◌, IsAtMostInSize, of_whole, of_scale, ◌*ʳ◌, times}
+use Rattle.rational.specs.Rational.{Rational, ◌≈◌, IsAtMostInSize, of_whole, ◌*ʳ◌, times}
+use Rattle.rational.specs.Boxes.{of_scale}
 use Rattle.rational.proofs.Laws.{≈_trans}
 use Rattle.rational.proofs.Boxes.{InBox-along}
 use Rattle.rational.proofs.Sizes.{size_mul, size_along, size_looser}

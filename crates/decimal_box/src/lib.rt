@@ -6,7 +6,8 @@
 
 ghost use Rattle.std.specs.Prelude.{◌≡◌, ◌+◌, ◌*◌, ◌^◌, ◌<◌, ◌≤◌, pos, ◌+ℤ◌, ◌*ℤ◌, ◌≤ℤ◌, ◌<ℤ◌, min, unsigned_abs};
 ghost use Rattle.whole_math.specs.Bounds.{Within};
-ghost use Rattle.rational.specs.Rational.{of_whole, of_scale, times, IsAtMostInSize};
+ghost use Rattle.rational.specs.Rational.{of_whole, times, IsAtMostInSize};
+ghost use Rattle.rational.specs.Boxes.{of_scale};
 ghost use Rattle.iv_core.specs.Intervals.{width_of};
 ghost use Rattle.eph_store.specs.Decimals.{decimal, with_exponent, value_of, IsWithin};
 ghost use Rattle.decimal_box.specs.Least.{IsLeastBox};

@@ -6,7 +6,8 @@ use Rattle.std.proofs.lemmas.Option.{none-some, same_Some}
 use Rattle.obs_rows.specs.Letters.{is_letter}
 use Rattle.obs_rows.specs.declared.units.TheConstants.{PHASES, BANDS_12, BANDS_15, BANDS_125}
 use Rattle.obs_rows.specs.declared.bands.Signals.{Signals}
-use Rattle.obs_rows.specs.Signals.{used_signals, fine_signals, phase_bands}
+use Rattle.obs_rows.specs.Signals.{used_signals, fine_signals}
+use Rattle.obs_rows.specs.CountedSignals.{phase_bands}
 use Rattle.obs_rows.specs.declared.bands.TheConstants.{L1_LETTERS, L2_LETTERS, L5_LETTERS}
 use Rattle.obs_rows.specs.declared.band_sets.TheConstants.{BANDS_L1_L2, BANDS_L1_L5, BANDS_L1_L2_L5}
 use Rattle.obs_rows.specs.BandSets.{IsBandsNumber, bands_of, digit_of}

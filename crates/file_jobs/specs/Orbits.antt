@@ -1,17 +1,14 @@
 -- What the command `orbit` ends with.
 use Rattle.std.specs.Prelude.{◌≡◌, ◌⊎◌, ℕ, pos, List, []}
 use Rattle.line_source.specs.Lines.{lines_of}
-use Rattle.orbit_model.specs.Elements.{sent_at}
-use Rattle.orbit_model.specs.Solution.{Quantities, IsNearSolution}
-use Rattle.orbit_exists.specs.Usable.{HasNearSolution}
-use Rattle.orbit_clock.specs.Records.{elements_of}
+use Rattle.orbit_model.specs.Elements.{sent_at, elements_of, world_of}
+use Rattle.orbit_model.specs.Solution.{Quantities, IsNearSolution, HasNearSolution}
 use Rattle.eph_store.specs.declared.record.Raw.{Raw}
 use Rattle.eph_store.specs.declared.ephemeris.Eph.{Eph}
 use Rattle.eph_store.specs.Records.{AreFit}
 use Rattle.eph_store.specs.Chosen.{IsChosenRecord, HasNoCandidate}
 use Rattle.sv_orbit.specs.declared.place.SvBox.{SvBox}
 use Rattle.sv_orbit.specs.Solutions.{HoldsSolution}
-use Rattle.sv_orbit.specs.Worlds.{world_of}
 use Rattle.rinex_head.specs.Systems.{system_of}
 use Rattle.rinex_nav.specs.NavForm.{IsNavFile, HasNavFile}
 use Rattle.rinex_nav.specs.NavRules.{nav_of}

@@ -1,22 +1,21 @@
 -- Where the values are separated by a ratio, the least integers are best by it for all data, and so strictly best.
-use Rattle.std.proofs.Common.{◌≡◌, ◌≢◌, ℕ, ◌^◌, List, [], ◌∷◌, length, ℤ, pos, ◌*ℤ◌, ◌≤ℤ◌, ◌<ℤ◌, arith, sym, ap, ◌∙◌, refl, subst, pow_pos}
+use Rattle.std.proofs.Common.{◌≡◌, ◌≢◌, ℕ, ◌^◌, ◌≤◌, List, [], ◌∷◌, ℤ, pos, ◌*ℤ◌, ◌≤ℤ◌, ◌<ℤ◌, arith, sym, ap, ◌∙◌, refl, subst, pow_pos}
 use Rattle.whole_math.specs.Vectors.{len}
 use Rattle.whole_math.proofs.Vectors.{len_is}
 use Rattle.whole_math.proofs.Order.{mul_lt_cancel}
 use Rattle.whole_math.proofs.Ring.{◌⊕◌, ◌⊖◌, ◌⊗◌}
 use Rattle.whole_math.proofs.Inequalities.{le_by, both_nn, prod_nn, less_nn, pos_nn, pos_one, one_nn, later, strict, nat}
-use Rattle.rational.specs.Rational.{Rational, of_whole, ◌*ʳ◌, ◌≤ʳ◌, ◌<ʳ◌}
+use Rattle.rational.specs.Rational.{Rational, of_whole, ◌*ʳ◌, ◌≤ʳ◌}
 use Rattle.quadratic_form.specs.Forms.{Column}
 use Rattle.quadratic_form.specs.Rows.{value}
-use Rattle.quadratic_form.specs.RationalData.{Baseline}
+use Rattle.rational.specs.Spread.{Baseline}
 use Rattle.quadratic_form.specs.TwoLeast.{TwoLeast}
 use Rattle.quadratic_form.proofs.Decision.{second_value}
 use Rattle.obs_rows.specs.declared.sessions.Session.{Session}
 use Rattle.obs_rows.specs.Signals.{fine_signals, counted}
-use Rattle.obs_rows.specs.Integers.{integer_count}
 use Rattle.obs_rows.specs.Data.{Observed, AreData}
-use Rattle.obs_rows.specs.SumOfSquares.{sum_of_squares}
-use Rattle.obs_rows.specs.Best.{moved, IsStrictlyBest}
+use Rattle.obs_rows.specs.Best.{moved, sum_at, IsVectorOf, IsStrictlyBest, IsLessByRatio, IsBestByRatio}
+use Rattle.obs_rows.proofs.RatioLaws.{ratio_is_strict}
 use Rattle.integer_form.specs.declared.form.Form.{Form}
 use Rattle.integer_form.specs.Forms.{columns_of}
 use Rattle.lower_form.specs.Fronts.{BoundsAllData}
@@ -25,7 +24,6 @@ use Rattle.int_search.specs.Answers.{IsTwoBest}
 use Rattle.fix_decide.specs.UpperSums.{top}
 use Rattle.fix_decide.specs.Bounds.{StaysAtMost}
 use Rattle.fix_decide.specs.Decisions.{IsFormOf, IsSeparated, first_of, second_of}
-use Rattle.fix_decide.specs.Ratios.{IsLessByRatio, IsBestByRatio}
 use Rattle.fix_decide.proofs.UpperLaws.{top_stays_at_most}
 use Rattle.fix_decide.proofs.SessionForms.{bounds_of, integers_are, first_length, least_of}
 
@@ -58,37 +56,15 @@ pub below_by_ratio : (f g : Rational) (ratio h : ℕ) (t q v : ℤ) → IsSepara
 below_by_ratio f g ratio h t q v k l upper lower =
     between f.num (pos f.den) g.num (pos g.den) (pos (2 ^ h)) t q v (pos ratio) (pos_one f.den f.positive) (pos_one g.den g.positive) (pos_one (2 ^ h) (pow_pos h)) (pos_nn ratio) k l upper lower
 
--- what is less by a ratio of 1000 is less
-pub less_by_1000 : (f g : Rational) → IsLessByRatio 1000 f g → f <ʳ g
-less_by_1000 f g less = cancelled f.num (pos f.den) g.num (pos g.den) less
-  where
-    cancelled : (n d m e : ℤ) → (pos 1000 *ℤ n *ℤ e) <ℤ (pos 1000 *ℤ m *ℤ d) → (n *ℤ e) <ℤ (m *ℤ d)
-    cancelled n d m e h = mul_lt_cancel (n *ℤ e) (m *ℤ d) 1000 (omega arith)
-        (strict (pos_one 1 (omega arith)) (le_by (n ∷ e ∷ m ∷ d ∷ []) (λ n e m d. (n ⊗ e ⊗ nat 1000 ⊕ nat 1, m ⊗ d ⊗ nat 1000, nat 1000 ⊗ m ⊗ d ⊖ (nat 1000 ⊗ n ⊗ e ⊕ nat 1))) refl (less_nn (later h))))
-
--- the signals that count in a session
-abbrev pub signals_of : Session → List ℕ
-signals_of s = counted s.signals s.scale
-
--- what is best by a ratio of 1000 is strictly best
-pub best_by_1000 : (s : Session) (z m : List ℤ) → IsBestByRatio 1000 s z m → IsStrictlyBest s z m
-best_by_1000 s z m best = record {
-  fine = best.fine;
-  entries = best.entries;
-  best = λ (observed : List (List Observed)) (f : AreData (signals_of s) s.pairs observed) (w : List ℤ) (e : length w ≡ integer_count s.arcs (signals_of s)) (n : w ≢ z) (b : Baseline).
-      less_by_1000 (sum_of_squares s.arcs (signals_of s) s.pairs z (moved m) observed) (sum_of_squares s.arcs (signals_of s) s.pairs w b observed) (best.best observed f w e n b);
-}
-
 -- from the bound of the form, the two least vectors, and the upper sum of the first
-pub best_from_bounds : (s : Session) (h : ℕ) (p : List Column) (ratio : ℕ) (t : ℤ) (z1 z2 m : List ℤ) → s.scale ≡ 0 → length z1 ≡ integer_count s.arcs (signals_of s) →
-    BoundsAllData s.arcs (signals_of s) s.pairs h p → TwoLeast p (len z1) z1 z2 → StaysAtMost s.arcs (signals_of s) s.pairs z1 m (pos (2 ^ h) *ℤ t) →
-    IsSeparated (pos ratio) t (value p z2) → IsBestByRatio ratio s z1 m
+pub best_from_bounds : (s : Session) (h : ℕ) (p : List Column) (ratio : ℕ) (t : ℤ) (z1 z2 m : List ℤ) → s.scale ≡ 0 → IsVectorOf s z1 →
+    BoundsAllData s.arcs (fine_signals s.signals) s.pairs h p → TwoLeast p (len z1) z1 z2 →
+    StaysAtMost s.arcs (fine_signals s.signals) s.pairs z1 m (pos (2 ^ h) *ℤ t) → IsSeparated (pos ratio) t (value p z2) → IsBestByRatio ratio s z1 m
 best_from_bounds s h p ratio t z1 z2 m fine entries bounds least upper separated = record {
   fine = fine;
   entries = entries;
-  best = λ (observed : List (List Observed)) (f : AreData (signals_of s) s.pairs observed) (w : List ℤ) (e : length w ≡ integer_count s.arcs (signals_of s)) (n : w ≢ z1) (b : Baseline).
-      below_by_ratio (sum_of_squares s.arcs (signals_of s) s.pairs z1 (moved m) observed) (sum_of_squares s.arcs (signals_of s) s.pairs w b observed) ratio h t
-      (value p z2) (value p w) separated
+  best = λ (observed : List (List Observed)) (f : AreData (fine_signals s.signals) s.pairs observed) (w : List ℤ) (e : IsVectorOf s w) (n : w ≢ z1) (b : Baseline).
+      below_by_ratio (sum_at s z1 (moved m) observed) (sum_at s w b observed) ratio h t (value p z2) (value p w) separated
       (second_value p (len z1) z1 z2 w least (len_is w ∙ ap pos (e ∙ sym entries) ∙ sym (len_is z1)) n) (upper.above observed f) (bounds.below w b observed e f);
 }
 
@@ -96,22 +72,21 @@ best_from_bounds s h p ratio t z1 z2 m fine entries bounds least upper separated
 pub best_by_ratio : (s : Session) (f : Form) (b : TwoBest) (ratio : ℕ) (t : ℤ) (m : List ℤ) → s.scale ≡ 0 → IsFormOf s f → IsTwoBest f b →
     t ≡ top f.h s.arcs (fine_signals s.signals) s.pairs (first_of b) m → IsSeparated (pos ratio) t b.p2 → IsBestByRatio ratio s (first_of b) m
 best_by_ratio s f b ratio t m fine of_rows two top_is separated =
-    best_from_bounds s f.h (columns_of f) ratio t (first_of b) (second_of b) m fine (entries ∙ ap (integer_count s.arcs) same) (bounds_of s f of_rows) (least_of f b two) above
+    best_from_bounds s f.h (columns_of f) ratio t (first_of b) (second_of b) m fine entries bounds (least_of f b two) above
     (subst (λ (x : ℤ). IsSeparated (pos ratio) t x) two.p2 separated)
   where
-    same : fine_signals s.signals ≡ counted s.signals s.scale
-    same = ap (counted s.signals) (sym fine)
-
-    entries : length (first_of b) ≡ integer_count s.arcs (fine_signals s.signals)
+    entries : IsVectorOf s (first_of b)
     entries = first_length f b two ∙ two.size ∙ integers_are s f of_rows fine
 
-    above : StaysAtMost s.arcs (counted s.signals s.scale) s.pairs (first_of b) m (pos (2 ^ f.h) *ℤ t)
-    above = subst (λ (ss : List ℕ). StaysAtMost s.arcs ss s.pairs (first_of b) m (pos (2 ^ f.h) *ℤ t)) same
-        (subst (λ (x : ℤ). StaysAtMost s.arcs (fine_signals s.signals) s.pairs (first_of b) m (pos (2 ^ f.h) *ℤ x)) (sym top_is)
-        (top_stays_at_most f.h s.arcs (fine_signals s.signals) s.pairs (first_of b) m entries))
+    bounds : BoundsAllData s.arcs (fine_signals s.signals) s.pairs f.h (columns_of f)
+    bounds = subst (λ (scale : ℕ). BoundsAllData s.arcs (counted s.signals scale) s.pairs f.h (columns_of f)) fine (bounds_of s f of_rows)
+
+    above : StaysAtMost s.arcs (fine_signals s.signals) s.pairs (first_of b) m (pos (2 ^ f.h) *ℤ t)
+    above = subst (λ (x : ℤ). StaysAtMost s.arcs (fine_signals s.signals) s.pairs (first_of b) m (pos (2 ^ f.h) *ℤ x)) (sym top_is)
+        (top_stays_at_most f.h s.arcs (fine_signals s.signals) s.pairs (first_of b) m entries)
 
 -- and where the ratio is 1000 or more
-pub strictly_best : (s : Session) (f : Form) (b : TwoBest) (ratio : ℤ) (t : ℤ) (m : List ℤ) → s.scale ≡ 0 → IsFormOf s f → IsTwoBest f b →
-    t ≡ top f.h s.arcs (fine_signals s.signals) s.pairs (first_of b) m → pos 1000 ≤ℤ ratio → pos 0 ≤ℤ t → IsSeparated ratio t b.p2 → IsStrictlyBest s (first_of b) m
-strictly_best s f b ratio t m fine of_rows two top_is large from separated =
-    best_by_1000 s (first_of b) m (best_by_ratio s f b 1000 t m fine of_rows two top_is (room t ratio b.p2 large from separated))
+pub strictly_best : (s : Session) (f : Form) (b : TwoBest) (ratio : ℕ) (t : ℤ) (m : List ℤ) → s.scale ≡ 0 → IsFormOf s f → IsTwoBest f b →
+    t ≡ top f.h s.arcs (fine_signals s.signals) s.pairs (first_of b) m → 1000 ≤ ratio → IsSeparated (pos ratio) t b.p2 → IsStrictlyBest s (first_of b) m
+strictly_best s f b ratio t m fine of_rows two top_is large separated =
+    ratio_is_strict ratio s (first_of b) m large (best_by_ratio s f b ratio t m fine of_rows two top_is separated)

@@ -7,4 +7,3 @@ pub mod RowReachLaws
 pub mod UpperLaws
 pub mod SessionForms
 pub mod DecisionLaws
-pub mod RatioLaws

@@ -4,4 +4,3 @@ pub mod RowReaches
 pub mod Widths
 pub mod Bounds
 pub mod Decisions
-pub mod Ratios

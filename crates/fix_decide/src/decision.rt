@@ -3,13 +3,12 @@ ghost use Rattle.std.specs.Prelude.{◌≡◌, ◌⊎◌, ◌↔◌, ◌^◌, �
 ghost use Rattle.integer_form.specs.declared.faults.Place.TheVariants.{Float, Sum};
 ghost use Rattle.integer_form.specs.FloatPoint.{HasWide};
 ghost use Rattle.obs_rows.specs.Signals.{fine_signals};
-ghost use Rattle.obs_rows.specs.Best.{IsStrictlyBest};
+ghost use Rattle.obs_rows.specs.Best.{IsStrictlyBest, IsBestByRatio};
 ghost use Rattle.obs_rows.specs.declared.limits.TheConstants.{MOST_RATIO};
 ghost use Rattle.fix_decide.specs.UpperSums.{top};
 ghost use Rattle.fix_decide.specs.Widths.{AreWide};
 ghost use Rattle.int_search.specs.Answers.{IsTwoBest};
 ghost use Rattle.fix_decide.specs.Decisions.{IsFormOf, IsSeparated, first_of, move_of};
-ghost use Rattle.fix_decide.specs.Ratios.{IsBestByRatio};
 
 use crate::upper_sums::upper_sum;
 use int_search::TwoBest;

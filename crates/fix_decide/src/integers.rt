@@ -3,7 +3,7 @@ ghost use Rattle.std.specs.Prelude.{◌≡◌, ◌<◌, ◌≤◌, ℕ, length, 
 ghost use Rattle.obs_rows.specs.declared.units.TheConstants.{MOST_FREE_ARCS};
 ghost use Rattle.obs_rows.specs.Arcs.{free_count};
 ghost use Rattle.obs_rows.specs.Ranges.{IsBelow};
-ghost use Rattle.obs_rows.specs.Signals.{AreCounted};
+ghost use Rattle.obs_rows.specs.CountedSignals.{AreCounted};
 ghost use Rattle.obs_rows.specs.Integers.{integer_count, entry_at, integer};
 
 use obs_rows::{Arc, integer_place};

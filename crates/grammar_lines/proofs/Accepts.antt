@@ -14,7 +14,8 @@ use Rattle.cert_words.proofs.NumberLaws.{AreSmall}
 use Rattle.cert_lines.specs.Lines.{arc_line, kind_text, row_numbers, row_lines, arc_lines, counted_arcs, count_line, row_line}
 use Rattle.cert_lines.specs.declared.version.Version.{Version}
 use Rattle.cert_lines.specs.Places.{select}
-use Rattle.obs_rows.specs.Signals.{phase_bands, used_signals}
+use Rattle.obs_rows.specs.Signals.{used_signals}
+use Rattle.obs_rows.specs.CountedSignals.{phase_bands}
 use Rattle.rinex_head.specs.Places.{and_then, at_line}
 use Rattle.cert_lines.specs.Forms.{count_in, may_stand, arc_in, row_in}
 use Rattle.cert_lines.specs.Versions.{most_sat}

@@ -6,11 +6,11 @@ use Rattle.whole_math.proofs.Ring.{ring, va, ko, ◌⊖◌, ◌⊗◌}
 use Rattle.whole_math.proofs.Order.{lins, mul_le_right, le_pos, lt_pos}
 use Rattle.whole_math.proofs.Certificates.{cert, weak, nm}
 use Rattle.whole_math.proofs.Inequalities.{le_refl_ℤ, le_eq, less_nn}
-use Rattle.rational.specs.Rational.{Rational, InBox, ◌+ʳ◌, ◌-ʳ◌, ◌*ʳ◌, ◌≤ʳ◌, AreWithin, times, two_to_minus, IsNearBox, of_scale}
-use Rattle.trig_box.specs.AnglePairs.{IsAnglePair, InRange}
+use Rattle.rational.specs.Rational.{Rational, ◌+ʳ◌, ◌-ʳ◌, ◌*ʳ◌, ◌≤ʳ◌, AreWithin, times, two_to_minus, InBox}
+use Rattle.rational.specs.Boxes.{IsNearBox, of_scale}
+use Rattle.trig_box.specs.AnglePairs.{IsAnglePair, InRange, SolvesKepler}
 use Rattle.trig_box.proofs.PairLaws.{canonical_exists, canonical_is_pair, sharp_law}
 use Rattle.trig_box.proofs.PointLaws.{near_nn}
-use Rattle.kepler_box.specs.Kepler.{SolvesKepler}
 use Rattle.kepler_box.proofs.SolutionCertificates.{upper, lower, upper_easy, lower_easy, own_near, back_near, back_turned, plain_high, plain_low, high_near, high_back, low_near, low_back, own_two, looser, e_bound, e_sign}
 
 -- ---- the solution, seen from x

@@ -1,16 +1,12 @@
 -- Kepler's equation over rationals, and what a box of its solutions holds.
 use Rattle.std.specs.Prelude.{◌*◌, ◌^◌, ℤ, ◌≤ℤ◌}
-use Rattle.rational.specs.Rational.{Rational, ◌-ʳ◌, ◌*ʳ◌, ◌+ʳ◌, ◌≈◌, times, two_to_minus, IsNearBox}
+use Rattle.rational.specs.Rational.{Rational, ◌+ʳ◌, times, two_to_minus}
+use Rattle.rational.specs.Boxes.{IsNearBox}
 use Rattle.iv_core.specs.Intervals.{Holds, width_of, IsWithin}
-use Rattle.trig_box.specs.AnglePairs.{IsAnglePair}
+use Rattle.trig_box.specs.AnglePairs.{IsAnglePair, SolvesKepler}
 use Rattle.iv_core.specs.declared.Iv.{Iv}
 use Rattle.kepler_box.specs.declared.Anomaly.{Anomaly}
 use Rattle.kepler_box.specs.Steps.{angle_width_limit, pair_width_limit}
-
--- M = E - e sin E, where (c, s) is a 5-pair of E
-pub record SolvesKepler (mean eccentricity angle c s : Rational) : Type 0 where
-  pub is_pair : IsAnglePair 5 angle c s
-  pub equation : mean ≈ angle -ʳ eccentricity *ʳ s
 
 -- each of the three lies in its box
 abbrev pub HoldsAnomaly : Anomaly → Rational → Rational → Rational → Type 0

@@ -2,8 +2,9 @@
 use Rattle.std.specs.Prelude.{◌≡◌, ℕ, ◌+◌, ◌*◌, ◌^◌, ◌≤◌, ℤ, pos, ◌+ℤ◌, ◌-ℤ◌, ◌*ℤ◌, ◌≤ℤ◌, unsigned_abs}
 use Rattle.whole_math.specs.Rounding.{floor_div}
 use Rattle.whole_math.specs.Bounds.{Within}
-use Rattle.rational.specs.Rational.{Rational, InBox, of_scale}
-use Rattle.trig_box.specs.AnglePairs.{IsCanonicalPair}
+use Rattle.rational.specs.Rational.{Rational, InBox}
+use Rattle.rational.specs.Boxes.{of_scale}
+use Rattle.trig_box.specs.CanonicalPairs.{IsCanonicalPair}
 
 -- ---- sizes
 -- a mean anomaly is at most 12, and an angle that the steps come to at most 13

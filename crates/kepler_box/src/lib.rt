@@ -8,11 +8,12 @@
 ghost use Rattle.std.specs.Prelude.{◌≡◌, ◌+◌, ◌-◌, ◌*◌, ◌^◌, ◌<◌, ◌≤◌, pos, ◌+ℤ◌, ◌-ℤ◌, ◌*ℤ◌, ℤ, ◌≤ℤ◌, unsigned_abs, IfSome};
 ghost use Rattle.whole_math.specs.Rounding.{floor_div, ceil_div};
 ghost use Rattle.whole_math.specs.Bounds.{Within};
-ghost use Rattle.rational.specs.Rational.{Rational, ◌+ʳ◌, ◌*ʳ◌, of_scale, IsNearBox};
+ghost use Rattle.rational.specs.Rational.{Rational, ◌+ʳ◌, ◌*ʳ◌};
+ghost use Rattle.rational.specs.Boxes.{of_scale, IsNearBox};
 ghost use Rattle.iv_core.specs.Boxes.{least_corner, most_corner};
 ghost use Rattle.iv_core.specs.Intervals.{Holds, width_of, IsWithin};
-ghost use Rattle.trig_box.specs.AnglePairs.{IsAnglePair};
-ghost use Rattle.kepler_box.specs.Kepler.{SolvesKepler, HoldsAnomaly, IsNearAnomaly, IsPairAtMostWide, IsAnomalyBox};
+ghost use Rattle.trig_box.specs.AnglePairs.{IsAnglePair, SolvesKepler};
+ghost use Rattle.kepler_box.specs.Kepler.{HoldsAnomaly, IsNearAnomaly, IsPairAtMostWide, IsAnomalyBox};
 ghost use Rattle.kepler_box.specs.Steps.{IsMeanAnomaly, IsAngle, IsEccentricity, IsStep, AreNear, last_step, residual_limit, radius_limit, angle_width_limit, pair_width_limit};
 
 mod rough;

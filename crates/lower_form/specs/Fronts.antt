@@ -4,7 +4,7 @@ use Rattle.rational.specs.Rational.{of_whole, ◌*ʳ◌, ◌≤ʳ◌}
 use Rattle.quadratic_form.specs.Forms.{Column}
 use Rattle.quadratic_form.specs.Elimination.{Factor, Refusal, wide_entry, form_small, steps}
 use Rattle.quadratic_form.specs.Rows.{value}
-use Rattle.quadratic_form.specs.RationalData.{Baseline}
+use Rattle.rational.specs.Spread.{Baseline}
 use Rattle.obs_rows.specs.declared.arcs.Arc.{Arc}
 use Rattle.obs_rows.specs.declared.pair_rows.PairRows.{PairRows}
 use Rattle.obs_rows.specs.Integers.{integer_count}

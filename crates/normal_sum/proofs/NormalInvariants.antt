@@ -7,7 +7,8 @@ use Rattle.obs_rows.specs.declared.pair_rows.PairRows.{PairRows}
 use Rattle.obs_rows.specs.declared.units.TheConstants.{MOST_FREE_ARCS}
 use Rattle.obs_rows.specs.Arcs.{free_count}
 use Rattle.obs_rows.specs.declared.sessions.Session.{Session}
-use Rattle.obs_rows.specs.Signals.{AreCounted, counted}
+use Rattle.obs_rows.specs.Signals.{counted}
+use Rattle.obs_rows.specs.CountedSignals.{AreCounted}
 use Rattle.obs_rows.specs.Integers.{integer_count}
 use Rattle.obs_rows.specs.SignalGroups.{signal_groups}
 use Rattle.obs_rows.proofs.GroupShapes.{groups_of}

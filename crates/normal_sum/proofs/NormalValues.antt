@@ -2,7 +2,7 @@
 use Rattle.std.proofs.Common.{◌≡◌, ℕ, ◌*◌, ◌<◌, List, [], ◌∷◌, ◌++◌, length, map, ℤ, pos, ◌+ℤ◌, ◌-ℤ◌, ◌*ℤ◌, sym, ap, ap₂, ◌∙◌, refl, subst}
 use Rattle.whole_math.proofs.Ring.{◌⊕◌, ◌⊖◌, ◌⊗◌}
 use Rattle.whole_math.proofs.Inequalities.{same_by, nat}
-use Rattle.whole_math.specs.Vectors.{len, dot}
+use Rattle.whole_math.specs.Vectors.{dot, len}
 use Rattle.rational.specs.Rational.{Rational, ◌≈◌, ◌≤ʳ◌, of_whole, ◌*ʳ◌}
 use Rattle.quadratic_form.specs.Forms.{Column, quad}
 use Rattle.quadratic_form.specs.Spread.{spread}
@@ -19,7 +19,8 @@ use Rattle.obs_rows.specs.declared.rows.Row.{Row}
 use Rattle.obs_rows.specs.declared.pair_rows.PairRows.{PairRows}
 use Rattle.form_tables.specs.Tables.{entry}
 use Rattle.obs_rows.specs.Integers.{integer_count}
-use Rattle.obs_rows.specs.Data.{Observed, AreData, centre_of, centres}
+use Rattle.obs_rows.specs.Data.{Observed, AreData}
+use Rattle.obs_rows.specs.Centres.{centre_of, centres}
 use Rattle.obs_rows.specs.SumOfSquares.{sum_of_squares}
 use Rattle.obs_rows.specs.SignalGroups.{signal_row, signal_group, signal_groups, signal_data, group_data}
 use Rattle.obs_rows.proofs.Centres.{centres_are_data}

@@ -11,7 +11,8 @@ use Rattle.obs_rows.specs.declared.arcs.Arc.{Arc}
 use Rattle.obs_rows.specs.declared.rows.Row.{Row}
 use Rattle.obs_rows.specs.declared.units.TheConstants.{PHASES, MOST_FREE_ARCS}
 use Rattle.obs_rows.specs.Arcs.{is_free, free_before, free_count}
-use Rattle.obs_rows.specs.Signals.{phases, AreCounted}
+use Rattle.obs_rows.specs.Signals.{phases}
+use Rattle.obs_rows.specs.CountedSignals.{AreCounted}
 use Rattle.obs_rows.specs.Integers.{integer_count, integer_place, is_some_free}
 use Rattle.obs_rows.proofs.IntegerPlaces.{place_below, free_before_le}
 use Rattle.normal_sum.specs.Places.{first_place, place_from, ArePlacesFrom, SeesNone}

@@ -4,13 +4,14 @@ use Rattle.std.proofs.Common.{mul-pos}
 use Rattle.rational.specs.Rational.{Rational, ◌≈◌, ◌≤ʳ◌, of_whole, ◌*ʳ◌}
 use Rattle.quadratic_form.specs.Forms.{Column, quad}
 use Rattle.quadratic_form.specs.Rows.{Radii, WholeBaseline, bounding_form, columns_at}
-use Rattle.quadratic_form.specs.RationalData.{Baseline}
+use Rattle.rational.specs.Spread.{Baseline}
 use Rattle.quadratic_form.specs.Places.{form_from}
 use Rattle.obs_rows.specs.declared.arcs.Arc.{Arc}
 use Rattle.obs_rows.specs.declared.pair_rows.PairRows.{PairRows}
 use Rattle.form_tables.specs.Tables.{entry}
 use Rattle.obs_rows.specs.Integers.{integer_count}
-use Rattle.obs_rows.specs.Data.{Observed, AreData, centres}
+use Rattle.obs_rows.specs.Data.{Observed, AreData}
+use Rattle.obs_rows.specs.Centres.{centres}
 use Rattle.obs_rows.specs.SumOfSquares.{sum_of_squares}
 use Rattle.normal_sum.specs.declared.normal.Normal.{Normal}
 

@@ -3,7 +3,8 @@ ghost use Rattle.std.specs.Prelude.{◌≡◌, ℕ, ◌<◌, ◌≤◌, length, 
 ghost use Rattle.obs_rows.specs.declared.arcs.Arc.{Arc};
 ghost use Rattle.obs_rows.specs.declared.rows.Row.{Row};
 ghost use Rattle.obs_rows.specs.Arcs.{free_before, free_count};
-ghost use Rattle.obs_rows.specs.Signals.{AreCounted, phases};
+ghost use Rattle.obs_rows.specs.Signals.{phases};
+ghost use Rattle.obs_rows.specs.CountedSignals.{AreCounted};
 ghost use Rattle.normal_sum.specs.Pairs.{HaveArcs};
 ghost use Rattle.normal_sum.specs.Places.{first_place, place_from};
 

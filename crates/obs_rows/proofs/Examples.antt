@@ -4,14 +4,14 @@ use Rattle.std.proofs.lemmas.List.Elements.{All-from_recursion}
 use Rattle.std.proofs.lemmas.List.Quantifiers.{all_pairs_push}
 use Rattle.whole_math.proofs.Order.{lins}
 use Rattle.rational.specs.Rational.{◌≈◌, of_whole}
-use Rattle.quadratic_form.specs.RationalData.{Baseline, spread_of_rationals}
+use Rattle.rational.specs.Spread.{Baseline, spread_of_rationals}
 use Rattle.obs_rows.specs.declared.arcs.Arc.{Arc}
 use Rattle.obs_rows.specs.declared.rows.Row.{Row}
 use Rattle.obs_rows.specs.declared.pair_rows.PairRows.{PairRows}
 use Rattle.obs_rows.specs.declared.units.TheConstants.{SIGNALS_12, COARSE_SIGNALS}
 use Rattle.obs_rows.specs.Ranges.{IsRadius, IsWithin}
 use Rattle.obs_rows.specs.Integers.{integer_count, integer_place}
-use Rattle.obs_rows.specs.Data.{centres}
+use Rattle.obs_rows.specs.Centres.{centres}
 use Rattle.obs_rows.specs.SumOfSquares.{sum_of_squares}
 
 -- residuals 0, 1 and 3: 3 · (0 + 1 + 9) - (0 + 1 + 3)² = 14

@@ -8,7 +8,8 @@ use Rattle.whole_math.proofs.Ring.{◌⊕◌, ◌⊖◌, ◌⊗◌, ng}
 use Rattle.whole_math.proofs.Inequalities.{same_by, nat}
 use Rattle.rational.specs.Rational.{Rational, Near, of_whole, ◌+ʳ◌, ◌-ʳ◌, ◌*ʳ◌}
 use Rattle.quadratic_form.specs.Rows.{SignalGroup, share as group_share}
-use Rattle.quadratic_form.specs.RationalData.{RowData, Baseline, Fits, FitsAll, sum_of_rationals, spread_of_rationals, residual as group_residual, residuals as group_residuals}
+use Rattle.quadratic_form.specs.RationalData.{RowData, Fits, FitsAll, residual as group_residual, residuals as group_residuals}
+use Rattle.rational.specs.Spread.{Baseline, sum_of_rationals, spread_of_rationals}
 use Rattle.quadratic_form.specs.RationalData.{sum_of_squares as group_sum}
 use Rattle.obs_rows.specs.declared.arcs.Arc.{Arc}
 use Rattle.obs_rows.specs.declared.rows.Row.{Row}

@@ -9,7 +9,7 @@ use Rattle.std.proofs.lemmas.List.Quantifiers.{position-Some}
 use Rattle.std.proofs.lemmas.List.Sums.{count_by_more_yes, sum_by-take-le, count_by-le-length}
 use Rattle.std.proofs.lemmas.Bool.{false≢true}
 use Rattle.std.proofs.Math.Nat.{mul-le-mul_left}
-use Rattle.whole_math.specs.Vectors.{len, dot, zeros}
+use Rattle.whole_math.specs.Vectors.{dot, zeros, len}
 use Rattle.whole_math.proofs.Vectors.{len_is, dot_zeros}
 use Rattle.whole_math.proofs.Ring.{◌⊕◌, ◌⊗◌}
 use Rattle.whole_math.proofs.Inequalities.{same_by, nat}
@@ -18,7 +18,8 @@ use Rattle.obs_rows.specs.declared.arcs.Arc.{Arc}
 use Rattle.obs_rows.specs.Arcs.{is_free, free_count, free_before}
 use Rattle.obs_rows.specs.declared.units.TheConstants.{SIGNALS, SIGNALS_12, SIGNALS_15, SIGNALS_125, COARSE_SIGNALS}
 use Rattle.obs_rows.specs.declared.bands.Signals.{Signals}
-use Rattle.obs_rows.specs.Signals.{phases, fine_signals, counted, AreCounted}
+use Rattle.obs_rows.specs.Signals.{phases, fine_signals, counted}
+use Rattle.obs_rows.specs.CountedSignals.{AreCounted}
 use Rattle.obs_rows.specs.Integers.{integer_count, integer_place, is_some_free, entry_at}
 use Rattle.obs_rows.specs.SignalGroups.{only_at}
 

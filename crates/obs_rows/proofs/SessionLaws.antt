@@ -7,16 +7,17 @@ use Rattle.rational.proofs.Over.{Over}
 use Rattle.quadratic_form.specs.Forms.{Column}
 use Rattle.quadratic_form.specs.Elimination.{Factor, steps}
 use Rattle.quadratic_form.specs.Rows.{WholeBaseline, WholeData, GroupsOf, first_rounding, value, whole_sum_of_squares}
-use Rattle.quadratic_form.specs.RationalData.{Baseline, IsBest}
+use Rattle.quadratic_form.specs.RationalData.{IsBest}
+use Rattle.rational.specs.Spread.{Baseline}
 use Rattle.quadratic_form.proofs.RationalData.{OverAll, OverBase, F_over, bound_over_rationals}
 use Rattle.obs_rows.specs.declared.arcs.Arc.{Arc}
 use Rattle.obs_rows.specs.declared.pair_rows.PairRows.{PairRows}
 use Rattle.obs_rows.specs.declared.sessions.Session.{Session}
-use Rattle.obs_rows.specs.Signals.{counted}
+use Rattle.obs_rows.specs.Signals.{fine_signals}
 use Rattle.obs_rows.specs.Integers.{integer_count}
 use Rattle.obs_rows.specs.Data.{Observed, AreData}
 use Rattle.obs_rows.specs.SumOfSquares.{sum_of_squares}
-use Rattle.obs_rows.specs.Best.{moved, IsStrictlyBest}
+use Rattle.obs_rows.specs.Best.{moved, IsVectorOf, IsStrictlyBest}
 use Rattle.obs_rows.specs.SignalGroups.{signal_groups, group_data, whole_move}
 use Rattle.obs_rows.proofs.GroupLaws.{sum_is, data_fit}
 use Rattle.obs_rows.proofs.GroupShapes.{groups_of}
@@ -42,17 +43,14 @@ bound_for_all_data arcs ss pairs h z b observed p e f s =
     (bound_over_rationals h z b (signal_groups arcs ss pairs) (group_data ss observed) p (groups_of_vector arcs ss pairs z e) (data_fit arcs ss pairs observed f) s)
 
 -- integers that are best for the groups are best in the session
-pub best_from_groups : (s : Session) (z m : List ℤ) → s.scale ≡ 0 → length z ≡ integer_count s.arcs (counted s.signals s.scale) →
-    IsBest (signal_groups s.arcs (counted s.signals s.scale) s.pairs) z (whole_move m) → IsStrictlyBest s z m
-best_from_groups s z m fine entries best = record {
-  fine = fine;
-  entries = entries;
-  best = λ (observed : List (List Observed)) (h : AreData (counted s.signals s.scale) s.pairs observed) (w : List ℤ) (e : length w ≡ integer_count s.arcs (counted s.signals s.scale))
-      (n : w ≢ z) (b : Baseline). go observed h w e n b;
-}
+pub best_from_groups : (s : Session) (z m : List ℤ) → s.scale ≡ 0 → IsVectorOf s z →
+    IsBest (signal_groups s.arcs (fine_signals s.signals) s.pairs) z (whole_move m) → IsStrictlyBest s z m
+best_from_groups s z m fine entries best = record { fine = fine; entries = entries; best = go }
   where
-    go : (observed : List (List Observed)) → AreData (counted s.signals s.scale) s.pairs observed → (w : List ℤ) → length w ≡ integer_count s.arcs (counted s.signals s.scale) → w ≢ z →
-        (b : Baseline) →
-        sum_of_squares s.arcs (counted s.signals s.scale) s.pairs z (moved m) observed <ʳ sum_of_squares s.arcs (counted s.signals s.scale) s.pairs w b observed
-    go observed h w e n b = rw (sum_is s.arcs (counted s.signals s.scale) s.pairs z (moved m) observed h, sum_is s.arcs (counted s.signals s.scale) s.pairs w b observed h)
-        (best.best (group_data (counted s.signals s.scale) observed) (data_fit s.arcs (counted s.signals s.scale) s.pairs observed h) w (len_is w ∙ ap pos (e ∙ sym entries) ∙ sym (len_is z)) n b)
+    ss : List ℕ
+    ss = fine_signals s.signals
+
+    go : (observed : List (List Observed)) → AreData ss s.pairs observed → (w : List ℤ) → IsVectorOf s w → w ≢ z → (b : Baseline) →
+        sum_of_squares s.arcs ss s.pairs z (moved m) observed <ʳ sum_of_squares s.arcs ss s.pairs w b observed
+    go observed h w e n b = rw (sum_is s.arcs ss s.pairs z (moved m) observed h, sum_is s.arcs ss s.pairs w b observed h)
+        (best.best (group_data ss observed) (data_fit s.arcs ss s.pairs observed h) w (len_is w ∙ ap pos (e ∙ sym entries) ∙ sym (len_is z)) n b)

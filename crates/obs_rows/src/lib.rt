@@ -4,10 +4,10 @@
 //! numbers of signals and bands that aren't used are 0. `SessionBuilder` and `PairBuilder` make it pair by pair and row by
 //! row, exactly, and `Session::copy` equals its source. `Session::free` counts the free arcs, and `integer_place` gives
 //! the place of an arc's integer. Over this stand the definitions of data in the boxes, of the weighted sum of squares and
-//! of strictly best, for all rational data, all integer vectors and all rational baselines (docs/DEFINITIONS.md);
-//! `groups_law`, `bound_law` and `best_law` carry the laws of quadratic_form over to them. Which signals there are, and
-//! their bands, wavelengths and weights, stands in `units.rt` alone: all sums, counts and places take the list of the
-//! signals that count.
+//! of best, for all rational data, all integer vectors and all rational baselines (docs/DEFINITIONS.md): strictly, or by a
+//! ratio, of which the first follows (`ratio_law`). `groups_law`, `bound_law` and `best_law` carry the laws of
+//! quadratic_form over to them. Which signals there are, and their bands, wavelengths and weights, stands in `units.rt`
+//! alone: all sums, counts and places take the list of the signals that count.
 //!
 //! A run may use the sets of bands that `band_sets.rt` numbers: 12, 15 and 125. `bands_of` gives the bands of a number in
 //! the order L1, L2, L5, and `is_bands_number` says which numbers there are. The number of a set is written with the digits
@@ -47,7 +47,7 @@ pub use form_tables::{
     MOST_INTEGERS, MapTable, NormalTable,
 };
 pub use items::Items;
-pub use laws::{best_law, bound_law, centres_law, groups_law};
+pub use laws::{best_law, bound_law, centres_law, groups_law, ratio_law};
 pub use limits::{
     LAST_PAIR, LEAST_DISTANCE, MOST_ARCS, MOST_BUDGET, MOST_COORDINATE, MOST_DISTANCE,
     MOST_KEPT_ARCS, MOST_PAIRS, MOST_RATIO, MOST_SATELLITES,

@@ -3,7 +3,8 @@ ghost use Rattle.std.specs.Prelude.{◌≡◌, ◌<◌, ◌≤◌, All, IsTrue, 
 ghost use Rattle.obs_rows.specs.Arcs.{IsOfPair, free_count};
 ghost use Rattle.obs_rows.specs.Pairs.{HasItsArcs};
 ghost use Rattle.obs_rows.specs.declared.units.TheConstants.{SIGNALS};
-ghost use Rattle.obs_rows.specs.Signals.{fine_signals, counted, phases, AreCounted};
+ghost use Rattle.obs_rows.specs.Signals.{fine_signals, counted, phases};
+ghost use Rattle.obs_rows.specs.CountedSignals.{AreCounted};
 ghost use Rattle.obs_rows.specs.Integers.{integer_count, integer_place};
 ghost use Rattle.obs_rows.specs.declared.limits.TheConstants.{MOST_ARCS};
 

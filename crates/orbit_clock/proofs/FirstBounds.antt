@@ -8,7 +8,8 @@ use Rattle.whole_math.proofs.Order.{lins, le_pos, mul_le_right, square_nn}
 use Rattle.whole_math.proofs.Inequalities.{same_by, nat, pos_nn, le_eq, le_trans_ℤ}
 use Rattle.whole_math.proofs.Certificates.{cert, cancel, square_root, mul_positive, ◌≼◌, hy, nm, ◌⊞◌, ◌⊠◌}
 use Rattle.decimal_text.specs.declared.exponent.Dec.{Dec}
-use Rattle.rational.specs.Rational.{Rational, ◌≈◌, ◌≤ʳ◌, of_whole, of_scale, two_to_minus, ◌+ʳ◌, ◌-ʳ◌, ◌*ʳ◌, IsAtMostInSize, IsNearRoot}
+use Rattle.rational.specs.Rational.{Rational, ◌≈◌, ◌≤ʳ◌, of_whole, two_to_minus, ◌+ʳ◌, ◌-ʳ◌, ◌*ʳ◌, IsAtMostInSize, IsNearRoot}
+use Rattle.rational.specs.Boxes.{of_scale}
 use Rattle.rational.proofs.Laws.{≈_sym}
 use Rattle.rational.proofs.Orders.{order_r, equal_r, cancel_r, ◌≐◌}
 use Rattle.rational.proofs.Sizes.{positive_above, size_add, size_sub, size_mul, size_along, size_looser, size_over}
@@ -16,10 +17,10 @@ use Rattle.trig_box.specs.AnglePairs.{IsAnglePair, InRange}
 use Rattle.trig_box.proofs.PairLaws.{size_law_5}
 use Rattle.eph_store.specs.Decimals.{decimal, value_of, IsWithin}
 use Rattle.eph_store.specs.declared.ephemeris.Eph.{Eph}
-use Rattle.orbit_model.specs.Elements.{Elements, sent_at}
+use Rattle.orbit_model.specs.Elements.{Elements, sent_at, elements_of, seconds}
 use Rattle.orbit_model.specs.Solution.{Quantities, IsNearSolution, with_share}
 use Rattle.orbit_clock.specs.declared.world.World.{World}
-use Rattle.orbit_clock.specs.Records.{elements_of, constants_of, seconds}
+use Rattle.orbit_clock.specs.Records.{constants_of}
 use Rattle.orbit_clock.proofs.Values.{from_to_within}
 use Rattle.orbit_clock.proofs.RootOfMu.{bounded, AreBounded}
 use Rattle.rational.proofs.NearRoots.{near_root_whole}

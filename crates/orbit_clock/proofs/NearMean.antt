@@ -5,7 +5,8 @@ use Rattle.whole_math.proofs.Ring.{Ex, va, ko, ◌⊕◌, ◌⊖◌, ◌⊗◌, 
 use Rattle.whole_math.proofs.Order.{le_pos}
 use Rattle.whole_math.proofs.Inequalities.{same_by, nat}
 use Rattle.whole_math.proofs.Certificates.{cert, ◌≼◌, hy, nm, ◌⊞◌, ◌⊠◌}
-use Rattle.rational.specs.Rational.{Rational, ◌≈◌, ◌≤ʳ◌, of_whole, of_scale, two_to_minus, ◌+ʳ◌, ◌-ʳ◌, ◌*ʳ◌, times, IsAtMostInSize, AreWithin, InBox}
+use Rattle.rational.specs.Rational.{Rational, ◌≈◌, ◌≤ʳ◌, of_whole, two_to_minus, ◌+ʳ◌, ◌-ʳ◌, ◌*ʳ◌, times, IsAtMostInSize, AreWithin, InBox}
+use Rattle.rational.specs.Boxes.{of_scale}
 use Rattle.rational.proofs.Laws.{≤ʳ_from_same, ≤ʳ_antisym, ≈_sym}
 use Rattle.rational.proofs.Orders.{order_r, equal_r, cancel_r, ◌≐◌}
 use Rattle.rational.proofs.Sizes.{size_mul, size_along, size_looser}

@@ -7,15 +7,15 @@ use Rattle.whole_math.proofs.Order.{lins, le_pos, mul_nn}
 use Rattle.whole_math.proofs.Inequalities.{same_by, nat, pos_nn}
 use Rattle.whole_math.proofs.Certificates.{◌≼◌, hy, nm, ◌⊞◌, ◌⊠◌}
 use Rattle.decimal_text.specs.declared.exponent.Dec.{Dec}
-use Rattle.rational.specs.Rational.{Rational, ◌≈◌, ◌≤ʳ◌, of_whole, of_scale, ◌+ʳ◌, ◌-ʳ◌, ◌*ʳ◌, IsRatio, times}
+use Rattle.rational.specs.Rational.{Rational, ◌≈◌, ◌≤ʳ◌, of_whole, ◌+ʳ◌, ◌-ʳ◌, ◌*ʳ◌, times}
+use Rattle.rational.specs.Boxes.{of_scale, IsRatio}
 use Rattle.rational.proofs.Laws.{≤ʳ_trans, ≤ʳ_from_same}
 use Rattle.rational.proofs.Orders.{order_r, equal_r, ◌≐◌}
 use Rattle.rational.proofs.Ends.{low_end}
 use Rattle.iv_core.specs.declared.Iv.{Iv}
 use Rattle.iv_core.specs.Intervals.{Holds, width_of}
 use Rattle.eph_store.specs.Decimals.{decimal, value_of, IsFromTo, IsWithin, with_exponent}
-use Rattle.orbit_model.specs.Elements.{Elements, sent_at}
-use Rattle.orbit_clock.specs.Records.{seconds}
+use Rattle.orbit_model.specs.Elements.{Elements, sent_at, seconds}
 use Rattle.orbit_clock.specs.Terms.{part, correction}
 use Rattle.decimal_box.specs.Least.{IsLeastBox}
 

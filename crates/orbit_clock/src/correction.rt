@@ -3,9 +3,8 @@ ghost use Rattle.std.specs.Prelude.{◌≡◌, ◌+◌, ◌*◌, ◌^◌, ◌<�
 ghost use Rattle.std.specs.Int.{abs_diff};
 ghost use Rattle.rational.specs.Rational.{Rational, ◌-ʳ◌, two_to_minus, IsAtMostInSize};
 ghost use Rattle.iv_core.specs.Intervals.{Holds};
-ghost use Rattle.orbit_model.specs.Elements.{Elements, sent_at};
+ghost use Rattle.orbit_model.specs.Elements.{Elements, sent_at, elements_of, seconds};
 ghost use Rattle.orbit_model.specs.Solution.{with_share};
-ghost use Rattle.orbit_clock.specs.Records.{elements_of, seconds};
 ghost use Rattle.orbit_clock.specs.Terms.{HoldsTerms, part, correction};
 
 use crate::quotient::quotient;

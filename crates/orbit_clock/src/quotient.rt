@@ -1,7 +1,8 @@
 //! Boxes of quotients of whole numbers.
 ghost use Rattle.std.specs.Prelude.{◌*◌, ◌^◌, ◌<◌, ◌≤◌, pos, ◌*ℤ◌, ◌<ℤ◌};
 ghost use Rattle.whole_math.specs.Bounds.{Within};
-ghost use Rattle.rational.specs.Rational.{Rational, IsRatio};
+ghost use Rattle.rational.specs.Rational.{Rational};
+ghost use Rattle.rational.specs.Boxes.{IsRatio};
 ghost use Rattle.iv_core.specs.Intervals.{Holds};
 
 use iv_core::Iv;

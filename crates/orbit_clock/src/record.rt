@@ -1,9 +1,11 @@
 //! What a record and a system say at every time.
 ghost use Rattle.std.specs.Prelude.{◌≡◌, ◌^◌, pos, ◌≤ℤ◌};
-ghost use Rattle.rational.specs.Rational.{Rational, ◌+ʳ◌, ◌*ʳ◌, times, of_scale, two_to_minus, IsAtMostInSize};
+ghost use Rattle.rational.specs.Rational.{Rational, ◌+ʳ◌, ◌*ʳ◌, times, two_to_minus, IsAtMostInSize};
+ghost use Rattle.rational.specs.Boxes.{of_scale};
 ghost use Rattle.iv_core.specs.Intervals.{Holds};
 ghost use Rattle.orbit_model.specs.Solution.{Quantities, IsNearSolution, with_share};
-ghost use Rattle.orbit_clock.specs.Records.{elements_of, constants_of};
+ghost use Rattle.orbit_clock.specs.Records.{constants_of};
+ghost use Rattle.orbit_model.specs.Elements.{elements_of};
 
 use crate::World;
 use crate::correction::{AGING, BIAS, DRIFT, OWN_BIAS};

@@ -3,7 +3,8 @@ ghost use Rattle.std.specs.Prelude.{◌≡◌, ◌*◌, ◌^◌, pos, ◌*ℤ◌
 ghost use Rattle.rational.specs.Rational.{Rational, ◌≈◌, of_whole, times, ◌*ʳ◌, IsNearRoot};
 ghost use Rattle.iv_core.specs.Intervals.{Holds};
 ghost use Rattle.orbit_model.specs.Solution.{Quantities, IsNearSolution};
-ghost use Rattle.orbit_clock.specs.Records.{elements_of, constants_of};
+ghost use Rattle.orbit_clock.specs.Records.{constants_of};
+ghost use Rattle.orbit_model.specs.Elements.{elements_of};
 
 use crate::World;
 use decimal_box::decimal_box;

@@ -1,12 +1,13 @@
 //! The clock by three passes of its correction, and the mean anomaly at the time that it gives.
 ghost use Rattle.std.specs.Prelude.{◌+◌, ◌*◌, ◌^◌, ◌<◌, ◌≤◌, pos, ◌+ℤ◌, ◌-ℤ◌, neg_ℤ, ◌≤ℤ◌};
 ghost use Rattle.std.specs.Int.{abs_diff};
-ghost use Rattle.rational.specs.Rational.{Rational, ◌+ʳ◌, ◌-ʳ◌, ◌*ʳ◌, of_scale, two_to_minus, IsNearBox, IsAtMostInSize};
+ghost use Rattle.rational.specs.Rational.{Rational, ◌+ʳ◌, ◌-ʳ◌, ◌*ʳ◌, two_to_minus, IsAtMostInSize};
+ghost use Rattle.rational.specs.Boxes.{of_scale, IsNearBox};
 ghost use Rattle.iv_core.specs.Intervals.{Holds};
-ghost use Rattle.kepler_box.specs.Kepler.{SolvesKepler};
-ghost use Rattle.orbit_model.specs.Elements.{sent_at};
+ghost use Rattle.trig_box.specs.AnglePairs.{SolvesKepler};
+ghost use Rattle.orbit_model.specs.Elements.{sent_at, elements_of};
 ghost use Rattle.orbit_model.specs.Solution.{Quantities, IsNearSolution};
-ghost use Rattle.orbit_clock.specs.Records.{elements_of, constants_of};
+ghost use Rattle.orbit_clock.specs.Records.{constants_of};
 ghost use Rattle.orbit_clock.specs.Terms.{part};
 ghost use Rattle.orbit_clock.specs.Timings.{HoldsTiming};
 

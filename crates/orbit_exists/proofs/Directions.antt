@@ -7,7 +7,8 @@ use Rattle.whole_math.proofs.Certificates.{◌≼◌, hy, nm, sq, ◌⊞◌, ◌
 use Rattle.rational.specs.Rational.{Rational, ◌≤ʳ◌, of_whole, ◌+ʳ◌, ◌-ʳ◌, ◌*ʳ◌}
 use Rattle.rational.proofs.Laws.{≤ʳ_trans}
 use Rattle.rational.proofs.Sizes.{positive_above}
-use Rattle.orbit_model.specs.SeenPlaces.{Place, difference, square, HasLengthBetween, IsDisplacement}
+use Rattle.orbit_model.specs.SeenPlaces.{Place, difference, square, IsDisplacement}
+use Rattle.orbit_model.specs.Places.{HasLengthBetween}
 use Rattle.orbit_model.proofs.Apart.{whole_le}
 use Rattle.orbit_model.proofs.Orders.{cert_r, cancel_r, root_r}
 use Rattle.orbit_model.proofs.NearRoots.{root_nn, near_low}

@@ -6,7 +6,8 @@ use Rattle.rational.specs.Rational.{Rational, ◌≤ʳ◌, of_whole, ◌*ʳ◌, 
 use Rattle.rational.proofs.Laws.{≤ʳ_trans}
 use Rattle.trig_box.specs.AnglePairs.{Pair, IsAnglePair}
 use Rattle.trig_box.proofs.PairLaws.{norm_law_5}
-use Rattle.orbit_model.specs.SeenPlaces.{Place, difference, square, turned_back, IsSentPlace, IsReceiverPlace}
+use Rattle.orbit_model.specs.SeenPlaces.{Place, difference, square, turned_back}
+use Rattle.orbit_model.specs.Places.{IsSentPlace, IsReceiverPlace}
 use Rattle.orbit_model.proofs.DistanceCertificates.{turned_far, turned_near, vector_far, vector_near}
 
 pub record IsBetween (least most : ℕ) (q : Rational) : Type 0 where

@@ -9,10 +9,12 @@ use Rattle.whole_math.proofs.Powers.{pow_suc}
 use Rattle.rational.specs.Rational.{Rational, ◌≈◌, ◌≤ʳ◌, of_whole, ◌+ʳ◌, ◌-ʳ◌, ◌*ʳ◌, neg_r, times, divided, two_to_minus, AreWithin, IsAtMostInSize}
 use Rattle.rational.proofs.Laws.{≤ʳ_total, ≤ʳ_trans, ≤ʳ_from_same, ≈_sym}
 use Rattle.orbit_model.proofs.Orders.{cert_r, root_r}
-use Rattle.trig_box.specs.AnglePairs.{Pair, doubled, taylor_pair, part, IsAnglePair, IsCanonicalPair}
+use Rattle.trig_box.specs.AnglePairs.{Pair, doubled, part, IsAnglePair}
+use Rattle.trig_box.specs.CanonicalPairs.{taylor_pair, IsCanonicalPair}
 use Rattle.trig_box.proofs.PairLaws.{canonical_law, canonical_is_pair, size_law_5}
 use Rattle.orbit_model.specs.Elements.{earth_rate}
-use Rattle.orbit_model.specs.SeenPlaces.{Place, difference, square, turned_back, HasSeenPlace, IsSentPlace, IsReceiverPlace, range_of}
+use Rattle.orbit_model.specs.SeenPlaces.{Place, difference, square, turned_back, range_of}
+use Rattle.orbit_model.specs.Places.{HasSeenPlace, IsSentPlace, IsReceiverPlace}
 use Rattle.orbit_model.proofs.NearRoots.{near_root, travel_root}
 use Rattle.orbit_model.proofs.Apart.{IsBetween, turned_square, loosely, vector_square}
 use Rattle.orbit_model.proofs.BisectionCertificates.{coordinate_square, first_move, second_move, first_size, first_neg, second_size, second_neg, square_move, ends_high, ends_low, light_square, at_last, sum_move, zero_early, middle_low, middle_high, most_below, upper_half, lower_half, slower, slower_back, range_nn}

@@ -3,7 +3,8 @@ use Rattle.std.proofs.Common.{pos, refl, lit≤}
 use Rattle.rational.specs.Rational.{Rational, ◌≈◌, ◌≤ʳ◌, of_whole, ◌+ʳ◌, ◌-ʳ◌, ◌*ʳ◌, neg_r}
 use Rattle.rational.proofs.Laws.{≈_sym, ≈_trans, ≤ʳ_trans, ≤ʳ_along, add_r-same, add_r-comm, mul_r-same, mul_r-comm, sub_r-is}
 use Rattle.orbit_model.proofs.Orders.{root_r}
-use Rattle.orbit_model.specs.SeenPlaces.{Place, difference, square, turned_back, AreSamePlace, IsSeenPlace, IsSentPlace, IsReceiverPlace, HasLengthBetween, over_light_speed_squared, range_of}
+use Rattle.orbit_model.specs.SeenPlaces.{Place, difference, square, turned_back, AreSamePlace, IsSeenPlace, over_light_speed_squared, range_of}
+use Rattle.orbit_model.specs.Places.{IsSentPlace, IsReceiverPlace, HasLengthBetween}
 use Rattle.orbit_model.proofs.Apart.{IsBetween, turned_square, loosely, vector_square, whole_le}
 use Rattle.orbit_model.proofs.NearRoots.{range_root, near_high, root_nn}
 use Rattle.orbit_model.proofs.DistanceCertificates.{time_square}

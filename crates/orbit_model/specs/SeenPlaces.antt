@@ -1,10 +1,7 @@
 -- Where a receiver sees a satellite, over rationals: metres and seconds, in the Earth-fixed frame of the moment of reception.
-use Rattle.std.specs.Prelude.{ℕ, ◌*◌, ◌^◌, ℤ, pos, ◌⊎◌, List, [], ◌∷◌, slice_index_or}
-use Rattle.std.specs.List.{AllZip}
+use Rattle.std.specs.Prelude.{ℕ, ◌*◌, ◌^◌, ℤ, pos, ◌⊎◌, List, slice_index_or}
 use Rattle.std.proofs.Common.{lit<}
 use Rattle.rational.specs.Rational.{Rational, ◌≈◌, ◌≤ʳ◌, ◌<ʳ◌, of_whole, ◌+ʳ◌, ◌-ʳ◌, ◌*ʳ◌, divided, IsNearRoot}
-use Rattle.iv_core.specs.declared.Iv.{Iv}
-use Rattle.iv_core.specs.Intervals.{Holds}
 use Rattle.trig_box.specs.AnglePairs.{Pair, IsAnglePair}
 use Rattle.orbit_model.specs.Elements.{earth_rate}
 use Rattle.orbit_model.specs.Solution.{Quantities}
@@ -18,10 +15,6 @@ pub record Place : Type 0 where
 abbrev pub sent_place : Quantities → Place
 sent_place q = record { x = q.x; y = q.y; z = q.z }
 
--- each coordinate lies in its box
-abbrev pub HoldsPlace : List (Iv 36) → Place → Type 0
-HoldsPlace boxes p = AllZip (λ b q. Holds b q) boxes (p.x ∷ p.y ∷ p.z ∷ [])
-
 abbrev pub difference : Place → Place → Place
 difference p q = record { x = p.x -ʳ q.x; y = p.y -ʳ q.y; z = p.z -ʳ q.z }
 
@@ -31,10 +24,6 @@ dot p q = p.x *ʳ q.x +ʳ p.y *ʳ q.y +ʳ p.z *ʳ q.z
 -- |p|²
 abbrev pub square : Place → Rational
 square p = dot p p
-
--- least ≤ |p| ≤ most
-abbrev pub HasLengthBetween : ℕ → ℕ → Place → Type 0
-HasLengthBetween least most p = (of_whole (pos (least * least)) ≤ʳ square p) × (square p ≤ʳ of_whole (pos (most * most)))
 
 -- a point whose coordinates are given in units of 0.1 mm
 abbrev pub point_of : ℤ → ℤ → ℤ → Place
@@ -67,20 +56,6 @@ pub record IsSeenPlace (sent point : Place) (travel : Rational) (seen : Place) :
   pub turn_is : IsAnglePair 5 (earth_rate *ʳ travel) turn.cos turn.sin
   pub seen_is : AreSamePlace seen (turned_back turn sent)
   pub travel_is : IsNearRoot travel (over_light_speed_squared (square (difference seen point)))
-
--- a satellite's place, from 19,000 km to 38,000 km from the Earth's centre
-abbrev pub IsSentPlace : Place → Type 0
-IsSentPlace p = HasLengthBetween 19000000 38000000 p
-
--- a receiver's place, from 6,000 km to 7,000 km from it
-abbrev pub IsReceiverPlace : Place → Type 0
-IsReceiverPlace p = HasLengthBetween 6000000 7000000 p
-
--- some travel time and some place
-pub record HasSeenPlace (sent point : Place) : Type 0 where
-  pub travel : Rational
-  pub seen : Place
-  pub is_seen : IsSeenPlace sent point travel seen
 
 -- c times the travel time
 abbrev pub range_of : Rational → Rational

@@ -1,8 +1,7 @@
 -- A satellite's place and clock by the user algorithm of IS-GPS-200, as a set of equations over rationals.
 use Rattle.std.specs.Prelude.{pos}
 use Rattle.rational.specs.Rational.{Rational, ◌≈◌, of_whole, ◌+ʳ◌, ◌-ʳ◌, ◌*ʳ◌, two_to_minus, IsAtMostInSize, IsNearRoot}
-use Rattle.trig_box.specs.AnglePairs.{Pair, IsAnglePair, double}
-use Rattle.kepler_box.specs.Kepler.{SolvesKepler}
+use Rattle.trig_box.specs.AnglePairs.{Pair, IsAnglePair, double, SolvesKepler}
 use Rattle.orbit_model.specs.Elements.{Elements, Constants, earth_rate}
 
 abbrev pub one : Rational
@@ -125,3 +124,8 @@ pub record IsNearSolution (world : Constants) (eph : Elements) (sent : Rational)
   pub share : Rational
   pub small : IsAtMostInSize (two_to_minus 44) share
   pub solves : IsSatelliteSolution world (with_share eph share) sent q
+
+-- there is a near solution
+pub record HasNearSolution (world : Constants) (eph : Elements) (sent : Rational) : Type 0 where
+  pub quantities : Quantities
+  pub is : IsNearSolution world eph sent quantities

@@ -2,7 +2,7 @@
 //!
 //! `IsSatelliteSolution` is the user algorithm of IS-GPS-200 for a satellite's place and clock as a set of equations,
 //! and `IsSeenPlace` is where a receiver sees a satellite; both are definitions in `specs/`, which the crates above cite.
-//! The laws of a seen place stand in `travel`.
+//! What the equations take of a record and of a system stands in `Elements`. The laws of a seen place stand in `travel`.
 #![tactic(auto)]
 
 mod rotation;

@@ -7,7 +7,8 @@
 //! stand for it (`range_change`).
 ghost use Rattle.std.specs.Prelude.{pos};
 ghost use Rattle.rational.specs.Rational.{Rational, of_whole, ◌≤ʳ◌, ◌+ʳ◌, ◌-ʳ◌, ◌*ʳ◌, IsNearRoot};
-ghost use Rattle.orbit_model.specs.SeenPlaces.{Place, difference, square, IsSeenPlace, HasSeenPlace, IsSentPlace, IsReceiverPlace, HasLengthBetween, IsDisplacement};
+ghost use Rattle.orbit_model.specs.SeenPlaces.{Place, difference, square, IsSeenPlace, IsDisplacement};
+ghost use Rattle.orbit_model.specs.Places.{HasSeenPlace, IsSentPlace, IsReceiverPlace, HasLengthBetween};
 
 /// A receiver sees a satellite wherever it sent from: some travel time and some place solve the equations.
 pub fn seen_place_exists()

@@ -5,7 +5,8 @@ use Rattle.whole_math.proofs.Ring.{va, ko, ◌⊕◌, ◌⊖◌, ◌⊗◌, ng}
 use Rattle.whole_math.proofs.Order.{le_pos, mul_nn}
 use Rattle.whole_math.proofs.Inequalities.{same_by, pos_nn, nat}
 use Rattle.whole_math.proofs.Certificates.{Hy, cert, square_root, ◌≼◌, hy, nm, ◌⊞◌, ◌⊠◌}
-use Rattle.rational.specs.Rational.{Rational, ◌≈◌, ◌≤ʳ◌, of_whole, of_scale, ◌+ʳ◌, neg_r, ◌-ʳ◌, ◌*ʳ◌, AreWithin, IsAtMostInSize}
+use Rattle.rational.specs.Rational.{Rational, ◌≈◌, ◌≤ʳ◌, of_whole, ◌+ʳ◌, neg_r, ◌-ʳ◌, ◌*ʳ◌, AreWithin, IsAtMostInSize}
+use Rattle.rational.specs.Boxes.{of_scale}
 use Rattle.rational.proofs.Laws.{≈_sym, ≤ʳ_trans}
 use Rattle.trig_box.specs.AnglePairs.{Pair, double}
 use Rattle.orbit_model.specs.Solution.{one, turned}

@@ -6,7 +6,8 @@ use Rattle.whole_math.proofs.Ring.{Ex, va, ◌⊕◌, ◌⊖◌, ◌⊗◌, ng}
 use Rattle.whole_math.proofs.Order.{le_pos}
 use Rattle.whole_math.proofs.Inequalities.{nat}
 use Rattle.whole_math.proofs.Certificates.{Hy, Ce, mul_positive, ◌≼◌, hy, nm, sq, ◌⊞◌, ◌⊠◌}
-use Rattle.rational.specs.Rational.{Rational, ◌≈◌, ◌≤ʳ◌, of_whole, of_scale, two_to_minus, ◌+ʳ◌, neg_r, ◌-ʳ◌, ◌*ʳ◌, AreWithin}
+use Rattle.rational.specs.Rational.{Rational, ◌≈◌, ◌≤ʳ◌, of_whole, two_to_minus, ◌+ʳ◌, neg_r, ◌-ʳ◌, ◌*ʳ◌, AreWithin}
+use Rattle.rational.specs.Boxes.{of_scale}
 use Rattle.rational.proofs.Laws.{≤ʳ_trans}
 use Rattle.rational.proofs.Orders.{order_r, cancel_r, AreGiven, Equation, ◌≐◌}
 use Rattle.rational.proofs.Sizes.{positive_above}

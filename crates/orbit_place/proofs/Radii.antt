@@ -5,7 +5,8 @@ use Rattle.whole_math.proofs.Ring.{va, ◌⊕◌, ◌⊗◌, ng}
 use Rattle.whole_math.proofs.Order.{le_pos}
 use Rattle.whole_math.proofs.Inequalities.{nat}
 use Rattle.whole_math.proofs.Certificates.{◌≼◌, hy, ◌⊞◌, ◌⊠◌}
-use Rattle.rational.specs.Rational.{Rational, ◌≤ʳ◌, of_whole, of_scale, ◌+ʳ◌, ◌*ʳ◌}
+use Rattle.rational.specs.Rational.{Rational, ◌≤ʳ◌, of_whole, ◌+ʳ◌, ◌*ʳ◌}
+use Rattle.rational.specs.Boxes.{of_scale}
 use Rattle.rational.proofs.Orders.{order_r}
 use Rattle.rational.proofs.Ends.{size_of_box, low_end}
 use Rattle.iv_core.specs.declared.Iv.{Iv}

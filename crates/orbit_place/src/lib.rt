@@ -27,8 +27,8 @@ mod rotations;
 ghost use Rattle.std.specs.Prelude.{◌≡◌, ◌^◌, pos, ◌≤ℤ◌, [], ◌∷◌, All};
 ghost use Rattle.iv_core.specs.declared.Iv.{Iv};
 ghost use Rattle.iv_core.specs.Intervals.{width_of};
-ghost use Rattle.orbit_model.specs.Places.{IsBetweenDistances};
-ghost use Rattle.orbit_model.specs.SeenPlaces.{HoldsPlace, sent_place};
+ghost use Rattle.orbit_model.specs.Places.{IsBetweenDistances, HoldsPlace};
+ghost use Rattle.orbit_model.specs.SeenPlaces.{sent_place};
 ghost use Rattle.orbit_place.specs.Held.{ForSolutions};
 
 pub use angles::{EARTH_TURN, RELATIVE_RATE, earth_turn, relative_rate};

@@ -1,8 +1,7 @@
 ghost use Rattle.std.specs.Prelude.{◌≡◌, ◌+◌, ◌*◌, ◌^◌, ◌≤◌, pos, ◌≤ℤ◌};
 ghost use Rattle.rational.specs.Rational.{Rational};
 ghost use Rattle.iv_core.specs.Intervals.{Holds, width_of, IsWithin};
-ghost use Rattle.trig_box.specs.AnglePairs.{Pair, double};
-ghost use Rattle.kepler_box.specs.Kepler.{SolvesKepler};
+ghost use Rattle.trig_box.specs.AnglePairs.{Pair, double, SolvesKepler};
 ghost use Rattle.orbit_model.specs.Solution.{turned, IsPairOf5, IsPairOf7};
 ghost use Rattle.orbit_place.specs.Rotations.{HasPairNearCircle, HoldsBoth};
 

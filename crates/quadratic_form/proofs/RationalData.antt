@@ -14,8 +14,9 @@ use Rattle.quadratic_form.specs.Rows.{SignalRow, WholeData, WholeBaseline, Signa
 use Rattle.quadratic_form.specs.UpperSum.{upper_sum, top}
 use Rattle.quadratic_form.specs.TwoLeast.{TwoLeast}
 use Rattle.rational.specs.Rational.{Rational, ◌≤ʳ◌, ◌<ʳ◌, of_whole, ◌+ʳ◌, ◌-ʳ◌, ◌*ʳ◌}
-use Rattle.quadratic_form.specs.RationalData.{RowData, Baseline, Fits, FitsAll, residual, residuals, sum_of_rationals, squared_norm_of_rationals, spread_of_rationals, sum_of_squares, moved, IsBest}
-use Rattle.whole_math.specs.Vectors.{len, sum, squared_norm, dot}
+use Rattle.quadratic_form.specs.RationalData.{RowData, Fits, FitsAll, residual, residuals, sum_of_squares, moved, IsBest}
+use Rattle.rational.specs.Spread.{Baseline, sum_of_rationals, squared_norm_of_rationals, spread_of_rationals}
+use Rattle.whole_math.specs.Vectors.{sum, squared_norm, dot, len}
 use Rattle.rational.specs.Over.{AreOver}
 use Rattle.quadratic_form.specs.Spread.{spread}
 

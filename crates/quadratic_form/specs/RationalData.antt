@@ -4,7 +4,8 @@ use Rattle.std.specs.List.{AllZip}
 use Rattle.std.proofs.Common.{pow_pos}
 use Rattle.rational.specs.Rational.{Near, Rational, ◌<ʳ◌, of_whole, ◌+ʳ◌, ◌-ʳ◌, ◌*ʳ◌}
 use Rattle.quadratic_form.specs.Rows.{SignalRow, WholeBaseline, SignalGroup, share}
-use Rattle.whole_math.specs.Vectors.{len, dot}
+use Rattle.whole_math.specs.Vectors.{dot, len}
+use Rattle.rational.specs.Spread.{Baseline, spread_of_rationals}
 
 -- three directions and y
 pub record RowData : Type 0 where
@@ -12,11 +13,6 @@ pub record RowData : Type 0 where
   pub u2 : Rational
   pub u3 : Rational
   pub y : Rational
-
-pub record Baseline : Type 0 where
-  pub b1 : Rational
-  pub b2 : Rational
-  pub b3 : Rational
 
 abbrev pub InBoxes : SignalRow → RowData → Type 0
 InBoxes r q = Near r.u1 r.ru1 q.u1 × Near r.u2 r.ru2 q.u2 × Near r.u3 r.ru3 q.u3 × Near r.y r.ry q.y
@@ -36,17 +32,6 @@ abbrev pub residuals : List ℤ → Baseline → List SignalRow → List RowData
 residuals z b [] qs = []
 residuals z b (r ∷ rs) [] = []
 residuals z b (r ∷ rs) (q ∷ qs) = residual z b r q ∷ residuals z b rs qs
-
-abbrev pub sum_of_rationals : List Rational → Rational
-sum_of_rationals [] = of_whole (pos 0)
-sum_of_rationals (x ∷ s) = x +ʳ sum_of_rationals s
-
-abbrev pub squared_norm_of_rationals : List Rational → Rational
-squared_norm_of_rationals [] = of_whole (pos 0)
-squared_norm_of_rationals (x ∷ s) = x *ʳ x +ʳ squared_norm_of_rationals s
-
-abbrev pub spread_of_rationals : List Rational → Rational
-spread_of_rationals s = of_whole (len s) *ʳ squared_norm_of_rationals s -ʳ sum_of_rationals s *ʳ sum_of_rationals s
 
 -- F: over the pairs and signals, (360360 / n) w (n Σ s² - (Σ s)²)
 abbrev pub sum_of_squares : List ℤ → Baseline → List SignalGroup → List (List RowData) → Rational

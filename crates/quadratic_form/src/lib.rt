@@ -13,13 +13,14 @@
 
 ghost use Rattle.std.specs.Prelude.{◌≡◌, ℕ, ◌^◌, ◌<◌, List, length, ℤ, pos, ◌+ℤ◌, ◌*ℤ◌, ◌≤ℤ◌, ◌<ℤ◌, Ok};
 ghost use Rattle.rational.specs.Rational.{of_whole, ◌*ʳ◌, ◌≤ʳ◌};
-ghost use Rattle.whole_math.specs.Vectors.{len, dot};
+ghost use Rattle.whole_math.specs.Vectors.{dot, len};
 ghost use Rattle.quadratic_form.specs.Forms.{Column, Shaped, quad};
 ghost use Rattle.quadratic_form.specs.Elimination.{Factor, factors, kept, next, steps};
 ghost use Rattle.quadratic_form.specs.Rows.{WholeBaseline, SignalGroup, WholeData, GroupsOf, WholeFitsAll, matrix, radii, bounding_form, columns_at, first_rounding, value, whole_sum_of_squares};
 ghost use Rattle.quadratic_form.specs.UpperSum.{upper_sum, top};
 ghost use Rattle.quadratic_form.specs.TwoLeast.{TwoLeast};
-ghost use Rattle.quadratic_form.specs.RationalData.{RowData, Baseline, FitsAll, sum_of_squares, moved, IsBest};
+ghost use Rattle.quadratic_form.specs.RationalData.{RowData, FitsAll, sum_of_squares, moved, IsBest};
+ghost use Rattle.rational.specs.Spread.{Baseline};
 
 /// 63 times the matrix at the centres, with 16128 times the squares of the radii taken from four of
 /// its own entries, stays below 64 times the sum of squares, whatever the data in the boxes are.

@@ -3,7 +3,8 @@ use Rattle.std.proofs.Common.{ℕ, ◌^◌, ℤ, pos, ◌+ℤ◌, ◌-ℤ◌, �
 use Rattle.whole_math.proofs.IntLaws.{neg_mul_ℤ}
 use Rattle.whole_math.proofs.Order.{lins, mul_le_right, mul_le_cancel}
 use Rattle.whole_math.proofs.Inequalities.{pos_nn, le_eq}
-use Rattle.rational.specs.Rational.{Rational, ◌≈◌, of_whole, neg_r, InBox, Near, of_scale}
+use Rattle.rational.specs.Rational.{Rational, ◌≈◌, of_whole, neg_r, Near, InBox}
+use Rattle.rational.specs.Boxes.{of_scale}
 use Rattle.rational.proofs.Laws.{≈_sym, ≤ʳ_trans, ≤ʳ_from_same}
 
 -- ---- equal rationals lie in the same boxes

@@ -5,7 +5,8 @@ use Rattle.whole_math.proofs.Ring.{va, ◌⊕◌, ◌⊖◌, ◌⊗◌}
 use Rattle.whole_math.proofs.Order.{lins, mul_le_cancel}
 use Rattle.whole_math.proofs.Inequalities.{same_by, le_trans_ℤ}
 use Rattle.whole_math.proofs.Certificates.{◌≼◌, hy, ◌⊞◌}
-use Rattle.rational.specs.Rational.{Rational, ◌≤ʳ◌, of_scale, ◌+ʳ◌, ◌-ʳ◌, IsAtMostInSize, InBox, IsNearBox}
+use Rattle.rational.specs.Rational.{Rational, ◌≤ʳ◌, ◌+ʳ◌, ◌-ʳ◌, IsAtMostInSize, InBox}
+use Rattle.rational.specs.Boxes.{of_scale, IsNearBox}
 use Rattle.rational.proofs.Boxes.{wider}
 use Rattle.rational.proofs.Laws.{≤ʳ_trans, ≤ʳ_from_same}
 use Rattle.rational.proofs.Orders.{order_r}

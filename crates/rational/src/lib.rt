@@ -12,7 +12,8 @@
 #![tactic(auto)]
 
 ghost use Rattle.std.specs.Prelude.{◌↔◌, ◌⊎◌, ℕ, List, ℤ, pos, ◌+ℤ◌, ◌*ℤ◌, ◌≤ℤ◌};
-ghost use Rattle.rational.specs.Rational.{Rational, ◌≈◌, ◌≤ʳ◌, ◌<ʳ◌, of_whole, of_scale, ◌+ʳ◌, neg_r, ◌-ʳ◌, ◌*ʳ◌, InBox, Near};
+ghost use Rattle.rational.specs.Rational.{Rational, ◌≈◌, ◌≤ʳ◌, ◌<ʳ◌, of_whole, ◌+ʳ◌, neg_r, ◌-ʳ◌, ◌*ʳ◌, Near, InBox};
+ghost use Rattle.rational.specs.Boxes.{of_scale};
 ghost use Rattle.rational.specs.Over.{Over, HasCommonDenominator};
 
 /// The order is total, and two rationals that are at most each other are equal.

@@ -10,7 +10,8 @@ use Rattle.rational.specs.Rational.{Rational}
 use Rattle.iv_core.specs.declared.Iv.{Iv}
 use Rattle.iv_core.specs.Intervals.{Holds, width_of}
 use Rattle.orbit_model.specs.Solution.{Quantities}
-use Rattle.orbit_model.specs.SeenPlaces.{HoldsPlace, sent_place}
+use Rattle.orbit_model.specs.SeenPlaces.{sent_place}
+use Rattle.orbit_model.specs.Places.{HoldsPlace}
 use Rattle.sv_orbit.specs.declared.place.SvBox.{SvBox}
 use Rattle.sv_orbit.specs.Solutions.{HoldsSolution}
 use Rattle.report_text.specs.Orbit.{Ends, ends_of, IsBetweenEnds, AreApart, OrbitNumbers, HoldsQuantities, AreNarrow, AreNumbersOf}

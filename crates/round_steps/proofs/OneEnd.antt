@@ -26,7 +26,8 @@ use Rattle.round_steps.specs.declared.steps.Step.TheVariants.{Moved}
 use Rattle.round_steps.specs.Points.{moved_coordinate, moved_point}
 use Rattle.round_steps.specs.Limits.{limit, IsFirstOver}
 use Rattle.round_steps.specs.Steps.{IsFloatOf, IsSettledForm, IsUnsettled, IsOutOfReach, IsFloatWide, IsStep, IsRoundDeclined, IsRoundDecided, IsRoundEnd, IsOnlyEnd}
-use Rattle.round_steps.specs.Runs.{Rules, EndsFull, Reaches, round_of, most_rounds, is_last}
+use Rattle.round_steps.specs.Runs.{Rules, EndsFull, Reaches, most_rounds, is_last}
+use Rattle.obs_rows.specs.Rounds.{round_of}
 use Rattle.round_steps.proofs.RunLaws.{with_session, more_at}
 
 -- ---- one float point

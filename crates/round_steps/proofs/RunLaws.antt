@@ -16,7 +16,8 @@ use Rattle.obs_rows.specs.ReceiverPoints.{IsReceiverPoint}
 use Rattle.round_steps.specs.Shifts.{AreGrown, AreSameArcs, AreShiftsBelow}
 use Rattle.cert_check.specs.Settled.{IsDecision}
 use Rattle.round_steps.specs.Steps.{IsSettledForm, IsMoved, IsRoundDeclined}
-use Rattle.round_steps.specs.Runs.{Round, Rules, round_of, IsSessionOf, IsSessionAt, MayBegin, coarse, fine, IsRunTo, rounds_at, rounds_with, most_rounds, is_last, Reaches, EndsEarly, EndsFull, coarse_alone, SettlesAt}
+use Rattle.round_steps.specs.Runs.{Rules, IsSessionOf, IsSessionAt, MayBegin, IsRunTo, rounds_at, rounds_with, most_rounds, is_last, Reaches, EndsEarly, EndsFull, coarse_alone, SettlesAt}
+use Rattle.obs_rows.specs.Rounds.{Round, round_of, coarse, fine}
 use Rattle.round_steps.proofs.ShiftLaws.{grown_same}
 use Rattle.round_steps.proofs.UsedShifts.{grown_used}
 

@@ -7,7 +7,8 @@ use Rattle.cert_data.specs.declared.outcomes.RoundCounts.{RoundCounts}
 use Rattle.cert_data.specs.declared.outcomes.Stage.{Stage}
 use Rattle.cert_data.specs.declared.tails.Tail.{Tail}
 use Rattle.round_steps.specs.declared.runs.RunEnd.{RunEnd}
-use Rattle.round_steps.specs.Runs.{Round, Rules, StayTheSame, round_of, coarse, IsSessionAt, LeadsTo, IsRunTo, Reaches, EndsAt, EndsEarly, EndsFull, SettlesAt, IsEnd}
+use Rattle.round_steps.specs.Runs.{Rules, StayTheSame, IsSessionAt, LeadsTo, IsRunTo, Reaches, EndsAt, EndsEarly, EndsFull, SettlesAt, IsEnd}
+use Rattle.obs_rows.specs.Rounds.{Round, round_of, coarse}
 
 pub stays : (rules : Rules) → StayTheSame rules rules
 stays rules = record { base = refl; arcs = refl; signals = refl; stands = λ s. (λ h. h, λ h. h); begins = λ point arcs. (λ h. h, λ h. h); may_be_wide = λ r. (λ h. h, λ h. h) }

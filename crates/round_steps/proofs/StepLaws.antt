@@ -19,7 +19,7 @@ use Rattle.cert_data.specs.Tails.{IsTailOf}
 use Rattle.cert_data.specs.declared.tails.Tail.{Tail}
 use Rattle.cert_data.specs.declared.tails.Tail.TheVariants.{Fixed, Unseparated, Weak, Overwidth, Unsettled, Spent}
 use Rattle.round_steps.specs.Limits.{limit, IsSettled, IsFirstOver}
-use Rattle.cert_check.specs.Settled.{IsBestWhereFixed, IsRefused, tail_of}
+use Rattle.cert_check.specs.Settled.{IsBestByRatioWhereFixed, IsRefused, tail_of}
 use Rattle.round_steps.specs.Steps.{IsFloatOf, IsSettledForm, IsRoundDeclined, IsUnsettled}
 use Rattle.cert_check.proofs.WeakLaws.{weak_fits}
 use Rattle.whole_math.proofs.Words.{as_w64}
@@ -76,10 +76,11 @@ declined_fits last s (Unsettled entry) declined ss budget =
     subst (IsBelow (2 ^ 46)) (sym round.first.entry_is) (narrow_numbers round.float.form declined.1.0 round.float.numbers round.float.narrow round.first.column)
 declined_fits last s (Spent b) declined ss budget = absurd declined
 
-pub declined_best : (last : Bool) (s : Session) (t : Tail) → IsRoundDeclined last s t → IsBestWhereFixed s t
-declined_best last s (Fixed h m best top) declined = absurd declined
-declined_best last s (Unseparated h m best top) declined = tt
-declined_best last s (Weak column pivot) declined = tt
-declined_best last s (Overwidth place) declined = tt
-declined_best last s (Unsettled entry) declined = tt
-declined_best last s (Spent b) declined = tt
+-- a round that is declined is never fixed
+pub declined_best : (last : Bool) (ratio : ℕ) (s : Session) (t : Tail) → IsRoundDeclined last s t → IsBestByRatioWhereFixed ratio s t
+declined_best last ratio s (Fixed h m best top) declined = absurd declined
+declined_best last ratio s (Unseparated h m best top) declined = tt
+declined_best last ratio s (Weak column pivot) declined = tt
+declined_best last ratio s (Overwidth place) declined = tt
+declined_best last ratio s (Unsettled entry) declined = tt
+declined_best last ratio s (Spent b) declined = tt

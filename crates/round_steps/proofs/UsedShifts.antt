@@ -10,7 +10,8 @@ use Rattle.std.proofs.lemmas.List.Quantifiers.{position-Some}
 use Rattle.std.proofs.lemmas.Option.{slice_get-get_or}
 use Rattle.std.proofs.Math.ListN.{get_or-map}
 use Rattle.obs_rows.specs.declared.arcs.Arc.{Arc}
-use Rattle.obs_rows.specs.Signals.{phases, band, phase_bands}
+use Rattle.obs_rows.specs.Signals.{phases, band}
+use Rattle.obs_rows.specs.CountedSignals.{phase_bands}
 use Rattle.obs_rows.specs.Integers.{integer, is_some_free, entry_at}
 use Rattle.obs_rows.specs.Arcs.{free_before}
 use Rattle.obs_rows.specs.Unused.{HasUsedShifts}

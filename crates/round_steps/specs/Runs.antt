@@ -8,7 +8,6 @@ use Rattle.obs_rows.specs.declared.units.TheConstants.{COARSE_SCALE}
 use Rattle.obs_rows.specs.Signals.{fine_signals}
 use Rattle.obs_rows.specs.Unused.{HasUsedShifts}
 use Rattle.integer_form.specs.declared.form.Form.{Form}
-use Rattle.integer_form.specs.declared.faults.Place.TheVariants as Place
 use Rattle.cert_data.specs.Tails.{IsTailOf}
 use Rattle.cert_data.specs.declared.tails.Tail.{Tail}
 use Rattle.cert_data.specs.declared.outcomes.RoundCounts.{RoundCounts}
@@ -18,14 +17,10 @@ use Rattle.round_steps.specs.declared.runs.RunEnd.{RunEnd}
 use Rattle.round_steps.specs.declared.runs.CoarseEnd.{CoarseEnd}
 use Rattle.round_steps.specs.Shifts.{AreGrown, AreShiftsBelow}
 use Rattle.obs_rows.specs.ReceiverPoints.{IsReceiverPoint}
-use Rattle.cert_check.specs.Settled.{IsBestWhereFixed}
+use Rattle.cert_check.specs.Settled.{IsBestByRatioWhereFixed}
 use Rattle.round_steps.specs.Steps.{IsSettledForm, IsMoved, IsRoundDeclined, IsRoundDecided}
-
--- a round: its scale, the rover's point, and the arcs with their shifts
-pub record Round : Type 0 where
-  pub scale : ℕ
-  pub point : List ℤ
-  pub arcs : List Arc
+use Rattle.obs_rows.specs.Rounds.{Round, round_of, fine, coarse}
+use Rattle.integer_form.specs.declared.faults.Place.TheVariants as Place
 
 -- what a run of these files and options keeps to: where it begins, which bands it uses, which sessions stand for the files,
 -- which shifts its first fine round may have at a point, and in which rounds a centre of y may be out of range
@@ -56,9 +51,6 @@ pub record StayTheSame (old new : Rules) : Type 0 where
   pub begins : (point : List ℤ) (arcs : List Arc) → new.begins point arcs ↔ old.begins point arcs
   pub may_be_wide : (r : Round) → new.may_be_wide r ↔ old.may_be_wide r
 
-abbrev pub round_of : Session → Round
-round_of s = record { scale = s.scale; point = s.point; arcs = s.arcs }
-
 -- this session stands for the files in this round, or there is none, where a centre of y may be out of range
 pub record IsSessionOf (rules : Rules) (r : Round) (s : Session) : Type 0 where
   pub stands : rules.stands s
@@ -71,13 +63,6 @@ IsSessionAt rules r None = rules.may_be_wide r
 
 abbrev pub round_at : ℕ → List ℤ → List Arc → Round
 round_at scale point arcs = record { scale = scale; point = point; arcs = arcs }
-
--- coarse rounds use the code on L1 alone, fine ones all signals
-abbrev pub coarse : List ℤ → List Arc → Round
-coarse point arcs = record { scale = COARSE_SCALE; point = point; arcs = arcs }
-
-abbrev pub fine : List ℤ → List Arc → Round
-fine point arcs = record { scale = 0; point = point; arcs = arcs }
 
 -- a coarse round that isn't settled moves the point
 pub record MovesCoarse (s : Session) (next : Round) : Type 0 where
@@ -190,10 +175,10 @@ abbrev pub FitsEnd : ℕ → RunEnd → Type 0
 FitsEnd budget (RunEnd.Early made stage tail) = Unit {0}
 FitsEnd budget (RunEnd.Full made s tail) = IsTailOf (fine_signals s.signals) s.arcs budget tail
 
--- where the integers are fixed, they are with their move strictly best
-abbrev pub IsBestEnd : RunEnd → Type 0
-IsBestEnd (RunEnd.Early made stage tail) = Unit {0}
-IsBestEnd (RunEnd.Full made s tail) = IsBestWhereFixed s tail
+-- where the integers are fixed, they are with their move best by the ratio
+abbrev pub IsBestEnd : ℕ → RunEnd → Type 0
+IsBestEnd ratio (RunEnd.Early made stage tail) = Unit {0}
+IsBestEnd ratio (RunEnd.Full made s tail) = IsBestByRatioWhereFixed ratio s tail
 
 -- `made` coarse rounds, and no fine one
 abbrev pub coarse_alone : ℕ → RoundCounts

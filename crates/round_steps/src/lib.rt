@@ -6,7 +6,7 @@
 //! fine session in one way alone (`IsOnlyEnd`).
 //! For each round one session is made, and no other (`made`; `Rounds` counts them).
 //! On a fine session its tail is one that a certificate may have (`fits`), and where it says fixed, the integers with
-//! their move are strictly best for all data (`strictly_best`). `coarse_rounds` makes the coarse rounds alone.
+//! their move are best by the ratio for all data (`by_ratio`). `coarse_rounds` makes the coarse rounds alone.
 //! `round_step` says exactly what one round makes of its session; what a settled fine round decides is the crate
 //! cert_check's. `grown` gives exactly the grown shifts, and `are_few`
 //! and `are_many` their tests. That a session stands for the files is a part of the rules that a

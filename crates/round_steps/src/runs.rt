@@ -146,7 +146,7 @@ fn fine_rounds<R: Rounds>(
     ensures end { IfOk result (IsEnd (R.rules rounds.old) ratio budget) }
     ensures made { IfOk result (λ end. R.made rounds.new ≡ sessions_of end) }
     ensures fits { IfOk result (FitsEnd budget) }
-    ensures strictly_best { IfOk result IsBestEnd }
+    ensures by_ratio { IfOk result (IsBestEnd ratio) }
 {
     let mut point = *first;
     let mut arcs = rounds.first_shifts(alloc, first)?;
@@ -213,7 +213,7 @@ pub fn run<R: Rounds>(
     ensures end { IfOk result (IsEnd (R.rules rounds.old) ratio budget) }
     ensures made { IfOk result (λ end. R.made rounds.new ≡ sessions_of end) }
     ensures fits { IfOk result (FitsEnd budget) }
-    ensures strictly_best { IfOk result IsBestEnd }
+    ensures by_ratio { IfOk result (IsBestEnd ratio) }
 {
     match coarse_rounds(alloc, rounds, arcs, base)? {
         CoarseEnd::Settled { made, point } => {

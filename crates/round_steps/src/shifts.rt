@@ -2,7 +2,8 @@
 ghost use Rattle.std.specs.Prelude.{◌≡◌, ℕ, ◌+◌, ◌^◌, ◌<◌, ◌≤◌, length, unsigned_abs, All, IfOk, IsTrue};
 ghost use Rattle.obs_rows.specs.Ranges.{IsBelow};
 ghost use Rattle.obs_rows.specs.Arcs.{free_count};
-ghost use Rattle.obs_rows.specs.Signals.{is_phase, AreCounted};
+ghost use Rattle.obs_rows.specs.Signals.{is_phase};
+ghost use Rattle.obs_rows.specs.CountedSignals.{AreCounted};
 ghost use Rattle.obs_rows.specs.declared.units.TheConstants.{MOST_FREE_ARCS, SIGNALS};
 ghost use Rattle.obs_rows.specs.declared.limits.TheConstants.{MOST_ARCS};
 ghost use Rattle.integer_form.specs.FloatPoint.{item};

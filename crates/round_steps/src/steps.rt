@@ -3,7 +3,6 @@ ghost use Rattle.std.specs.Prelude.{◌≡◌, ℕ, ◌^◌, ◌<◌, Bool, List
 ghost use Rattle.integer_form.specs.FloatPoint.{item, float_point, HasWide};
 ghost use Rattle.fix_decide.specs.Decisions.{IsFormOf};
 ghost use Rattle.cert_data.specs.Tails.{IsTailOf};
-ghost use Rattle.cert_check.specs.Settled.{IsBestWhereFixed};
 ghost use Rattle.round_steps.specs.Steps.{IsStep, IsRoundDeclined};
 
 use crate::limits::first_over;
@@ -63,7 +62,6 @@ fn solve(session: &Session) -> Result<Solved, Tail>
 pub fn round_step(session: &Session, last: bool) -> Result<Step, Tail>
     ensures step { IfOk result (IsStep last session.now) }
     ensures declined { IfErr result (IsRoundDeclined last session.now) }
-    ensures never_fixed { IfErr result (IsBestWhereFixed session.now) }
     ensures fits { IfErr result (λ t. (ss : List ℕ) (budget : ℕ) →
         IsTailOf ss session.now.arcs budget t) }
 {

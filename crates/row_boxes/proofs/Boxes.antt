@@ -8,7 +8,7 @@ use Rattle.whole_math.proofs.IntLaws.{mul_one_ℤ}
 use Rattle.whole_math.proofs.Ring.{◌⊗◌}
 use Rattle.whole_math.proofs.Order.{lins, mul_le_right}
 use Rattle.whole_math.proofs.Inequalities.{same_by, pos_nn, le_refl_ℤ, le_eq}
-use Rattle.rational.specs.Rational.{Rational, of_whole, ◌-ʳ◌, ◌*ʳ◌, divided, InBox, Near}
+use Rattle.rational.specs.Rational.{Rational, of_whole, ◌-ʳ◌, ◌*ʳ◌, divided, Near, InBox}
 use Rattle.rational.proofs.Boxes.{wider}
 use Rattle.iv_core.proofs.SumLaws.{sub_holds}
 use Rattle.obs_rows.specs.Ranges.{IsScale}
@@ -16,7 +16,8 @@ use Rattle.obs_rows.specs.Signals.{wavelength, is_phase}
 use Rattle.obs_rows.specs.declared.units.TheConstants.{LIGHT_SPEED, ROW_EXPONENT}
 use Rattle.row_boxes.specs.declared.pseudoranges.TheConstants.{METRE_UNITS, HALF_LIGHT_SPEED}
 use Rattle.row_boxes.specs.declared.prefits.TheConstants.{MILLIMETRE_UNITS}
-use Rattle.row_boxes.specs.Terms.{prefit_width, y_width, metre, light_speed, pseudorange, observed, row_unit, in_row_unit, iota_exponent}
+use Rattle.row_boxes.specs.Terms.{prefit_width, y_width, pseudorange, iota_exponent}
+use Rattle.row_boxes.specs.Sightings.{metre, light_speed, observed, row_unit, in_row_unit}
 use Rattle.row_boxes.specs.YBoxes.{most_radius, MeetsOne}
 use Rattle.row_boxes.proofs.Scaling.{scaled_box}
 use Rattle.row_boxes.proofs.Ends.{scale_cases}

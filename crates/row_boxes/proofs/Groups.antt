@@ -10,8 +10,8 @@ use Rattle.rational.proofs.Laws.{≤ʳ_along}
 use Rattle.rational.proofs.Boxes.{Near-along}
 use Rattle.rational.proofs.Orders.{equal_r, ◌≐◌}
 use Rattle.obs_rows.specs.Signals.{wavelength}
-use Rattle.row_boxes.specs.Terms.{prefit_width, observed, in_row_unit, row_unit}
-use Rattle.row_boxes.specs.Sightings.{Sighting, computed, y_of, y_in_rows}
+use Rattle.row_boxes.specs.Terms.{prefit_width}
+use Rattle.row_boxes.specs.Sightings.{observed, in_row_unit, row_unit, Sighting, computed, y_of, y_in_rows}
 use Rattle.row_boxes.specs.YBoxes.{Pairing, AreSightings, HasSightings, MeetsOne, IsRowGroup, IsWithinHalf, IsWithinCycle, row_radius}
 use Rattle.row_boxes.proofs.Ys.{group_moved, whole_sum}
 

@@ -7,7 +7,7 @@ use Rattle.whole_math.specs.Rounding.{IsNearest}
 use Rattle.whole_math.proofs.Ring.{va, ko, ng, ◌⊕◌, ◌⊖◌, ◌⊗◌}
 use Rattle.whole_math.proofs.Order.{lins, mul_le_right}
 use Rattle.whole_math.proofs.Inequalities.{same_by, pos_nn, pos_one}
-use Rattle.rational.specs.Rational.{Rational, ◌≈◌, ◌<ʳ◌, of_whole, ◌+ʳ◌, ◌-ʳ◌, InBox, Near}
+use Rattle.rational.specs.Rational.{Rational, ◌≈◌, ◌<ʳ◌, of_whole, ◌+ʳ◌, ◌-ʳ◌, Near, InBox}
 use Rattle.rational.proofs.Boxes.{wider}
 use Rattle.rational.proofs.Orders.{equal_r, ◌≐◌}
 use Rattle.iv_core.proofs.SumLaws.{sub_holds}
@@ -15,8 +15,8 @@ use Rattle.orbit_model.specs.SeenPlaces.{range_of}
 use Rattle.std.specs.Prelude.{slice_get}
 use Rattle.obs_rows.specs.Signals.{wavelength, band, is_phase}
 use Rattle.obs_rows.specs.Data.{number_at}
-use Rattle.row_boxes.specs.Terms.{prefit_width, pseudorange, observed, in_row_unit, row_unit, iota_exponent}
-use Rattle.row_boxes.specs.Sightings.{Sighting, computed, y_of, y_in_rows}
+use Rattle.row_boxes.specs.Terms.{prefit_width, pseudorange, iota_exponent}
+use Rattle.row_boxes.specs.Sightings.{observed, in_row_unit, row_unit, Sighting, computed, y_of, y_in_rows}
 use Rattle.row_boxes.specs.YBoxes.{Pairing, HasSightings, HoldsY, HasFarSignal, IsFar, IsWithinHalf, most_radius}
 use Rattle.row_boxes.proofs.Values.{computed_is}
 use Rattle.row_boxes.proofs.Boxes.{whole_at}

@@ -1,13 +1,14 @@
 -- What the y boxes of a row hold, and which groups they allow.
 use Rattle.std.specs.Prelude.{◌≡◌, ℕ, ◌-◌, ◌^◌, ◌==◌, if◌then◌else◌, Some, List, All, slice_get, ℤ, pos, ◌+ℤ◌, ◌-ℤ◌, ◌*ℤ◌, neg_ℤ, ◌≤ℤ◌, ◌⊎◌}
-use Rattle.rational.specs.Rational.{Rational, ◌≤ʳ◌, ◌<ʳ◌, of_whole, InBox, Near}
+use Rattle.rational.specs.Rational.{Rational, ◌≤ʳ◌, ◌<ʳ◌, of_whole, Near, InBox}
 use Rattle.sv_orbit.specs.declared.place.SvBox.{SvBox}
 use Rattle.orbit_model.specs.SeenPlaces.{range_of}
 use Rattle.obs_rows.specs.declared.units.TheConstants.{ROW_EXPONENT}
 use Rattle.obs_rows.specs.Data.{number_at}
 use Rattle.obs_rows.specs.Signals.{wavelength, band}
 use Rattle.row_boxes.specs.Terms.{prefit_width, pseudorange, iota_exponent}
-use Rattle.row_boxes.specs.Sightings.{Sighting, IsSighting, HasSighting, y_in_rows}
+use Rattle.row_boxes.specs.Sightings.{Sighting, y_in_rows}
+use Rattle.row_boxes.specs.BoxSightings.{IsSighting, HasSighting}
 use Rattle.row_boxes.specs.declared.pseudoranges.Pseudorange.{Pseudorange}
 
 -- what is known of one satellite in one pair: its boxes as the two receivers' codes give them, and the receivers' points

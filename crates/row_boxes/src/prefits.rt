@@ -1,12 +1,13 @@
 //! Observed less computed.
 ghost use Rattle.std.specs.Prelude.{IsTrue, not, ◌≡◌, ◌+◌, ◌*◌, ◌^◌, ◌<◌, ◌≤◌, pos, ◌+ℤ◌, ◌-ℤ◌, ◌*ℤ◌, ◌≤ℤ◌, unsigned_abs};
 ghost use Rattle.whole_math.specs.Rounding.{IsFloor, IsCeil};
-ghost use Rattle.rational.specs.Rational.{Rational, InBox, ◌-ʳ◌};
+ghost use Rattle.rational.specs.Rational.{Rational, ◌-ʳ◌, InBox};
 ghost use Rattle.obs_rows.specs.declared.units.TheConstants.{SIGNALS};
 ghost use Rattle.obs_rows.specs.Signals.{wavelength, is_phase};
 ghost use Rattle.row_boxes.specs.declared.pseudoranges.TheConstants.{HALF_LIGHT_SPEED};
 ghost use Rattle.row_boxes.specs.declared.prefits.TheConstants.{MILLIMETRE_UNITS, L1_CYCLE, L2_CYCLE, L5_CYCLE};
-ghost use Rattle.row_boxes.specs.Terms.{prefit_width, observed, iota_exponent};
+ghost use Rattle.row_boxes.specs.Terms.{prefit_width, iota_exponent};
+ghost use Rattle.row_boxes.specs.Sightings.{observed};
 
 use crate::Pseudorange;
 use crate::pseudoranges::{HALF_LIGHT_SPEED, over_half_light_speed};

@@ -1,8 +1,9 @@
 //! The y boxes of rows, and the group of a pair.
 ghost use Rattle.std.specs.Prelude.{◌≡◌, ◌+◌, ◌^◌, ◌<◌, ◌≤◌, pos, ◌+ℤ◌, ◌-ℤ◌, ◌*ℤ◌, ◌≤ℤ◌, unsigned_abs, IfSome, None};
-ghost use Rattle.rational.specs.Rational.{Rational, InBox, Near, of_whole, ◌-ʳ◌};
+ghost use Rattle.rational.specs.Rational.{Rational, Near, of_whole, ◌-ʳ◌, InBox};
 ghost use Rattle.obs_rows.specs.Ranges.{IsScale};
-ghost use Rattle.row_boxes.specs.Terms.{y_width, in_row_unit, iota_exponent};
+ghost use Rattle.row_boxes.specs.Terms.{y_width, iota_exponent};
+ghost use Rattle.row_boxes.specs.Sightings.{in_row_unit};
 ghost use Rattle.row_boxes.specs.YBoxes.{most_radius};
 
 use crate::prefits::Prefit;

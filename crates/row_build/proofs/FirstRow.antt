@@ -14,8 +14,7 @@ use Rattle.obs_rows.specs.declared.used.UsedPair.{UsedPair}
 use Rattle.obs_rows.specs.UsedSats.{IsInRange}
 use Rattle.screening.specs.declared.sv_pair.SvPair.{SvPair}
 use Rattle.screening.specs.Entries.{entries_of, places_of}
-use Rattle.row_boxes.specs.Terms.{observed}
-use Rattle.row_boxes.specs.Sightings.{Sighting, computed, y_of}
+use Rattle.row_boxes.specs.Sightings.{observed, Sighting, computed, y_of}
 use Rattle.row_boxes.specs.YBoxes.{AreSightings, HasSightings, HoldsY, IsWithinHalf, MeetsOne}
 use Rattle.row_boxes.proofs.Groups.{meets_one}
 use Rattle.row_build.specs.Entries.{IsEntry}

@@ -8,7 +8,8 @@ use Rattle.std.proofs.lemmas.List.Folds.{list_any_none, list_any_at}
 use Rattle.obs_rows.specs.declared.bands.Signals.{Signals}
 use Rattle.obs_rows.specs.declared.pair_rows.PairRows.{PairRows}
 use Rattle.obs_rows.specs.declared.units.TheConstants.{COARSE_SIGNALS}
-use Rattle.obs_rows.specs.Signals.{is_phase, band, phase_bands, fine_signals, counted}
+use Rattle.obs_rows.specs.Signals.{is_phase, band, fine_signals, counted}
+use Rattle.obs_rows.specs.CountedSignals.{phase_bands}
 use Rattle.obs_rows.specs.Unused.{IsZeroOff, HasUsedRows}
 use Rattle.row_build.specs.Rows.{RowSetting}
 use Rattle.row_build.specs.PairRows.{ArePairRows}

@@ -11,7 +11,8 @@ use Rattle.obs_rows.specs.Signals.{counted}
 use Rattle.obs_rows.specs.Unused.{IsZeroOff}
 use Rattle.obs_rows.specs.declared.units.TheConstants.{DIRECTION_EXPONENT}
 use Rattle.screening.specs.declared.sv_pair.SvPair.{SvPair}
-use Rattle.row_boxes.specs.Sightings.{Sighting, IsSighting}
+use Rattle.row_boxes.specs.Sightings.{Sighting}
+use Rattle.row_boxes.specs.BoxSightings.{IsSighting}
 use Rattle.row_boxes.specs.YBoxes.{Pairing, HasSightings, HoldsYs, most_radius}
 use Rattle.row_build.specs.declared.sources.RowSource.{RowSource}
 use Rattle.row_build.specs.Entries.{IsEntry}

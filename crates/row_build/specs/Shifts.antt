@@ -2,7 +2,8 @@
 use Rattle.std.specs.Prelude.{◌<◌, ℕ, Bool, IsTrue, ◌==◌, List, ℤ}
 use Rattle.std.specs.List.{list_any}
 use Rattle.obs_rows.specs.declared.units.TheConstants.{SIGNALS}
-use Rattle.obs_rows.specs.Signals.{is_phase, band, phase_bands}
+use Rattle.obs_rows.specs.Signals.{is_phase, band}
+use Rattle.obs_rows.specs.CountedSignals.{phase_bands}
 use Rattle.obs_rows.specs.Unused.{IsZeroOff}
 use Rattle.obs_rows.specs.Data.{number_at}
 use Rattle.screening.specs.declared.sv_pair.SvPair.{SvPair}

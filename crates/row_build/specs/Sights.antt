@@ -5,7 +5,8 @@ use Rattle.signal_travel.specs.declared.spread.Spread.{Spread}
 use Rattle.signal_travel.specs.Directions.{IsInSpread}
 use Rattle.screening.specs.declared.sv_pair.SvPair.{SvPair}
 use Rattle.row_boxes.specs.declared.sights.Sight.{Sight}
-use Rattle.row_boxes.specs.Sightings.{Sighting, IsSighting, HasSighting}
+use Rattle.row_boxes.specs.Sightings.{Sighting}
+use Rattle.row_boxes.specs.BoxSightings.{IsSighting, HasSighting}
 use Rattle.row_boxes.specs.YBoxes.{HoldsPseudoranges}
 use Rattle.row_build.specs.Halves.{IsBaseHalf}
 use Rattle.row_build.specs.declared.entries.Entry.{Entry}

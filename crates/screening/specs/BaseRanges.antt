@@ -1,7 +1,8 @@
 -- How far the base is from where it sees a satellite.
 use Rattle.rational.specs.Rational.{Rational}
 use Rattle.iv_core.specs.Intervals.{Holds}
-use Rattle.orbit_model.specs.SeenPlaces.{Place, IsSeenPlace, range_of, HoldsPlace}
+use Rattle.orbit_model.specs.SeenPlaces.{Place, IsSeenPlace, range_of}
+use Rattle.orbit_model.specs.Places.{HoldsPlace}
 use Rattle.screening.specs.declared.sv_pair.SvPair.{SvPair}
 
 -- the box of the range holds that of every place in the base's box, as it is seen from the point

@@ -8,7 +8,7 @@ use Rattle.std.proofs.lemmas.List.Sums.{sum_by-cons}
 use Rattle.obs_rows.specs.declared.arcs.Arc.{Arc}
 use Rattle.obs_rows.specs.Ranges.{IsBelow}
 use Rattle.obs_rows.specs.declared.units.TheConstants.{MOST_FREE_ARCS}
-use Rattle.obs_rows.specs.Signals.{phase_bands}
+use Rattle.obs_rows.specs.CountedSignals.{phase_bands}
 use Rattle.obs_rows.specs.Unused.{IsZeroOff, HasUsedShifts}
 use Rattle.obs_rows.specs.Arcs.{free_count, IsArcInRange, AreArcs}
 use Rattle.obs_rows.specs.declared.used.UsedSat.{UsedSat}

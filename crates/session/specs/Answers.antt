@@ -10,7 +10,7 @@ use Rattle.cert_data.specs.declared.outcomes.Answer.TheVariants.{Few, Arcs, Earl
 use Rattle.run_options.specs.declared.options.Options.{Options}
 use Rattle.round_steps.specs.Counts.{AreFew, AreMany}
 use Rattle.round_steps.specs.Runs.{Rules, most_rounds, EndsEarly, EndsFull}
-use Rattle.cert_check.specs.Settled.{IsBestWhereFixed}
+use Rattle.cert_check.specs.Settled.{IsBestByRatioWhereFixed}
 
 -- four satellites are in kept arcs in some pair, and the arcs aren't too many
 pub record GoesOn (rules : Rules) (taken : ℕ) : Type 0 where
@@ -39,12 +39,12 @@ IsAnswer rules taken o rounds (Arcs free) = (free ≡ free_count rules.arcs) × 
 IsAnswer rules taken o rounds (Early stage tail) = GoesOn rules taken × EndsEarly rules rounds stage tail
 IsAnswer rules taken o rounds (Full cert) = GoesOn rules taken × IsEndCert rules o rounds cert
 
--- where the integers of an answer are fixed, they are with their move strictly best
+-- where the integers of an answer are fixed, they are with their move best by the certificate's ratio
 abbrev pub IsBestAnswer : Answer → Type 0
 IsBestAnswer (Few pairs) = Unit {0}
 IsBestAnswer (Arcs free) = Unit {0}
 IsBestAnswer (Early stage tail) = Unit {0}
-IsBestAnswer (Full cert) = IsBestWhereFixed cert.session cert.tail
+IsBestAnswer (Full cert) = IsBestByRatioWhereFixed cert.ratio cert.session cert.tail
 
 -- a header whose antenna delta isn't 0
 abbrev pub HasDelta : ObsFile → Type 0

@@ -8,7 +8,8 @@ use Rattle.row_build.specs.Rows.{setting}
 use Rattle.row_build.specs.SessionRows.{AreSessionRows, HasFarPair}
 use Rattle.row_build.specs.Shifts.{AreFirstShifts}
 use Rattle.round_steps.specs.Shifts.{AreSameArcs}
-use Rattle.round_steps.specs.Runs.{Rules, Round}
+use Rattle.round_steps.specs.Runs.{Rules}
+use Rattle.obs_rows.specs.Rounds.{Round}
 
 -- the session of this system has the kept arcs, with shifts of its own, and exactly the rows of `count` pairs, whose
 -- satellites have these boxes

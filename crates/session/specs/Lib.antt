@@ -1,4 +1,5 @@
 pub mod Answers
 pub mod FileRules
 pub mod ScreenedArcs
+pub mod Origins
 pub mod Outcomes

@@ -8,8 +8,6 @@ use Rattle.eph_store.specs.File.{Records}
 use Rattle.epoch_pair.specs.declared.pairs.PairOf.{PairOf}
 use Rattle.obs_rows.specs.BandSets.{bands_of}
 use Rattle.obs_rows.specs.declared.limits.TheConstants.{MOST_KEPT_ARCS, MOST_PAIRS}
-use Rattle.sv_orbit.specs.Worlds.{world_of}
-use Rattle.screening.specs.Screening.{setting_of}
 use Rattle.cert_data.specs.declared.outcomes.Outcome.{Outcome}
 use Rattle.run_options.specs.declared.options.Options.{Options}
 use Rattle.slip_arcs.specs.Linked.{IsCutOf}
@@ -19,6 +17,7 @@ use Rattle.session.specs.declared.runs.RunStart.{RunStart}
 use Rattle.epoch_pair.specs.Beginnings.{IsPosition, AreSignals, AreSparse, AreTaken, pairs_of}
 use Rattle.session.specs.Answers.{HasDelta, IsAnswer}
 use Rattle.session.specs.FileRules.{HasRowsOf, rules_of}
+use Rattle.session.specs.Origins.{origin_of}
 use Rattle.session.specs.ScreenedArcs.{AreScreenedArcs}
 
 -- the files' rounds begin with what was screened of them, of the base's position and the signals
@@ -32,8 +31,7 @@ pub record AreScreened (base rover : ObsFile) (nav : Records) (o : Options) (pos
 -- the session stands for the files at its point, with its shifts and at its scale
 abbrev pub StandsAsItIs : ObsFile → ObsFile → Records → Options → List ℤ → Signals → List PairOf → Session → Type 0
 StandsAsItIs base rover nav o position signals taken s =
-    StandsForFiles (setting_of base nav signals o.mask (world_of o.system)) base.epochs rover.epochs taken (bands_of o.bands) o.jump o.arc o.system
-    position signals s.point (map (λ a. a.shift) s.arcs) s.scale s
+    StandsForFiles (origin_of base rover nav o position signals taken) s.point (map (λ a. a.shift) s.arcs) s.scale s
 
 -- what a run over the files begins with
 pub record IsRunStart (base rover : ObsFile) (nav : Records) (o : Options) (run : RunStart) : Type 0 where

@@ -8,7 +8,7 @@ use Rattle.epoch_pair.specs.declared.pairs.PairOf.{PairOf}
 use Rattle.slip_arcs.specs.Runs.{AreKept}
 use Rattle.slip_arcs.specs.Linked.{HaveDatums}
 use Rattle.obs_rows.specs.BandSets.{bands_of}
-use Rattle.sv_orbit.specs.Worlds.{world_of}
+use Rattle.orbit_model.specs.Elements.{world_of}
 use Rattle.screening.specs.declared.screened.Screened.{Screened}
 use Rattle.screening.specs.Screening.{setting_of, AreUsedPairs, IsSvPair}
 use Rattle.run_options.specs.declared.options.Options.{Options}

@@ -35,7 +35,7 @@ pub fn answer<R: Rounds>(
     ensures answer { IfOk result (λ a.
         IsAnswer (R.rules rounds.old) taken options.now a.rounds a.answer) }
     ensures made { IfOk result (λ a. R.made rounds.new ≡ a.rounds.coarse + a.rounds.fine) }
-    ensures strictly_best { IfOk result (λ a. IsBestAnswer a.answer) }
+    ensures by_ratio { IfOk result (λ a. IsBestAnswer a.answer) }
 {
     if are_few(taken, kept) {
         return Ok(RunAnswer {

@@ -8,7 +8,7 @@
 //! 200, else the end of a run of rounds over the kept arcs (`outcome`, with the definition `IsOutcome`). Each session
 //! that a round of that run may have stands for the files (`IsOutcome.stands`), and a certificate has the session of
 //! the last fine round, the ratio and the budget of the options (`IsEndCert`). Where an answer says fixed, the
-//! integers with their move are strictly best for all data (`strictly_best`). `screened_arcs` gives the
+//! integers with their move are best by the ratio for all data (`by_ratio`). `screened_arcs` gives the
 //! used satellites of the taken pairs and exactly the arcs that are kept of them (`screened`, `cut`), with which such a run
 //! begins.
 //! `process` is `start_run`, after which the files may go, and `finish_run` of what it gives.

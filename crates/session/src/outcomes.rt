@@ -47,7 +47,7 @@ pub fn outcome<R: Rounds>(
     ensures answer { IfOk result (λ o.
         IsAnswer (R.rules rounds.old) o.taken options.now o.rounds o.answer) }
     ensures made { IfOk result (λ o. R.made rounds.new ≡ o.rounds.coarse + o.rounds.fine) }
-    ensures strictly_best { IfOk result (λ o. IsBestAnswer o.answer) }
+    ensures by_ratio { IfOk result (λ o. IsBestAnswer o.answer) }
 {
     let taken = begun.taken.len() as u32;
     let answered = answer(alloc, rounds, kept, taken, &begun.position, options)?;

@@ -83,13 +83,13 @@ pub fn start_run(
 
 /// The outcome of the files with which the run began: the end of its rounds. The files may have gone.
 ///
-/// Where it says fixed, the integers are with their move strictly best for all data in the boxes of the session.
+/// Where it says fixed, the integers are with their move best by the ratio for all data in the boxes of the session.
 pub fn finish_run(alloc: Global, run: &RunStart, options: &Options) -> Result<Outcome, AllocError>
     requires { MayRun options.now run.now }
     ensures outcome { IfOk result (λ o. (base rover : ObsFile) (nav : Records) →
         IsRunStart base rover nav options.now run.now → IsOutcome base rover nav options.now o) }
     ensures rounds { IfOk result (λ o. AreAllowed o.rounds) }
-    ensures strictly_best { IfOk result (λ o. IsBestAnswer o.answer) }
+    ensures by_ratio { IfOk result (λ o. IsBestAnswer o.answer) }
 {
     let kept = run.rounds.kept.as_slice();
     let mut rounds = FileRun {
@@ -104,7 +104,7 @@ pub fn finish_run(alloc: Global, run: &RunStart, options: &Options) -> Result<Ou
 /// The outcome of the files of two receivers: the end of a run of rounds over the satellites that both used, or why the
 /// files are refused.
 ///
-/// Where it says fixed, the integers are with their move strictly best for all data in the boxes of the session.
+/// Where it says fixed, the integers are with their move best by the ratio for all data in the boxes of the session.
 pub fn process(
     alloc: Global,
     base: &ObsFile,
@@ -115,7 +115,7 @@ pub fn process(
     ensures refused { IfErr result (IsSessionFault base.now rover.now options.now) }
     ensures outcome { IfOk result (IsOutcome base.now rover.now nav.now options.now) }
     ensures rounds { IfOk result (λ o. AreAllowed o.rounds) }
-    ensures strictly_best { IfOk result (λ o. IsBestAnswer o.answer) }
+    ensures by_ratio { IfOk result (λ o. IsBestAnswer o.answer) }
 {
     let started = start_run(alloc, base, rover, nav, options)?;
     let out = finish_run(alloc, &started, options)?;

@@ -4,9 +4,6 @@ use Rattle.obs_store.specs.declared.file.ObsFile.{ObsFile}
 use Rattle.eph_store.specs.File.{Records}
 use Rattle.obs_rows.specs.declared.arcs.Arc.{Arc}
 use Rattle.obs_rows.specs.declared.sessions.Session.{Session}
-use Rattle.sv_orbit.specs.Worlds.{world_of}
-use Rattle.obs_rows.specs.BandSets.{bands_of}
-use Rattle.screening.specs.Screening.{setting_of}
 use Rattle.row_build.specs.Stands.{StandsForFiles}
 use Rattle.cert_data.specs.declared.certs.Cert.{Cert}
 use Rattle.cert_data.specs.declared.tails.Tail.{Tail}
@@ -17,6 +14,7 @@ use Rattle.round_steps.specs.Runs.{Rules, EndsFull}
 use Rattle.run_options.specs.declared.options.Options.{Options}
 use Rattle.session.specs.FileRules.{rules_of}
 use Rattle.session.specs.Answers.{IsAnswer}
+use Rattle.session.specs.Origins.{origin_of}
 use Rattle.session.specs.Outcomes.{IsOutcome}
 use Rattle.session_jobs.specs.FixJobs.{StandsForIts}
 
@@ -43,6 +41,7 @@ stands_for b r n o outcome cert is full =
       signals_are = is.signals_are;
       taken = is.taken;
       taken_are = is.taken_are;
-      stands = subst (λ (k : ℕ). StandsForFiles (setting_of b n is.signals o.mask (world_of o.system)) b.epochs r.epochs is.taken (bands_of o.bands)
-          o.jump o.arc o.system is.position is.signals session.point (map (λ (a : Arc). a.shift) session.arcs) k session) cert.fine stands;
+      stands = subst
+          (λ (k : ℕ). StandsForFiles (origin_of b r n o is.position is.signals is.taken) session.point (map (λ (a : Arc). a.shift) session.arcs) k session)
+          cert.fine stands;
     }

@@ -8,7 +8,7 @@ use Rattle.epoch_pair.specs.declared.pairs.PairOf.{PairOf}
 use Rattle.obs_rows.specs.declared.used.UsedPair.{UsedPair}
 use Rattle.slip_arcs.specs.Runs.{AreKept}
 use Rattle.slip_arcs.specs.Linked.{HaveDatums}
-use Rattle.sv_orbit.specs.Worlds.{world_of}
+use Rattle.orbit_model.specs.Elements.{world_of}
 use Rattle.screening.specs.Screening.{setting_of, AreUsedPairs}
 use Rattle.run_options.specs.declared.options.Options.{Options}
 use Rattle.obs_rows.specs.BandSets.{bands_of}

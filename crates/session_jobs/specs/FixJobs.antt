@@ -4,14 +4,11 @@ use Rattle.obs_store.specs.declared.file.ObsFile.{ObsFile}
 use Rattle.eph_store.specs.File.{Records}
 use Rattle.obs_rows.specs.declared.arcs.Arc.{Arc}
 use Rattle.obs_rows.specs.declared.bands.Signals.{Signals}
-use Rattle.obs_rows.specs.Best.{IsStrictlyBest}
+use Rattle.obs_rows.specs.Best.{IsStrictlyBest, IsBestByRatio}
 use Rattle.epoch_pair.specs.declared.pairs.PairOf.{PairOf}
-use Rattle.sv_orbit.specs.Worlds.{world_of}
-use Rattle.screening.specs.Screening.{setting_of}
 use Rattle.row_build.specs.Stands.{StandsForFiles}
 use Rattle.int_search.specs.declared.answer.TwoBest.{TwoBest}
 use Rattle.fix_decide.specs.Decisions.{first_of}
-use Rattle.fix_decide.specs.Ratios.{IsBestByRatio}
 use Rattle.cert_data.specs.declared.certs.Cert.{Cert}
 use Rattle.cert_data.specs.declared.outcomes.Outcome.{Outcome}
 use Rattle.cert_data.specs.declared.outcomes.Answer.{Answer}
@@ -25,6 +22,7 @@ use Rattle.round_steps.specs.Runs.{most_rounds}
 use Rattle.run_options.specs.declared.options.Options.{Options}
 use Rattle.obs_rows.specs.BandSets.{bands_of}
 use Rattle.epoch_pair.specs.Beginnings.{IsPosition, AreSignals, AreTaken}
+use Rattle.session.specs.Origins.{origin_of}
 use Rattle.session.specs.Outcomes.{IsOutcome}
 use Rattle.outcome_report.specs.OutcomeText.{answer_text, IsWholeAnswer, outcome_text, is_fixed}
 use Rattle.job_answers.specs.declared.status.Status.{Status}
@@ -53,8 +51,8 @@ pub record StandsForIts (b r : ObsFile) (n : Records) (o : Options) (cert : Cert
   pub signals_are : AreSignals (bands_of o.bands) b r signals
   pub taken : List PairOf
   pub taken_are : AreTaken b r o taken
-  pub stands : StandsForFiles (setting_of b n signals o.mask (world_of o.system)) b.epochs r.epochs taken (bands_of o.bands) o.jump o.arc o.system
-      position signals cert.session.point (map (λ (a : Arc). a.shift) cert.session.arcs) 0 cert.session
+  pub stands : StandsForFiles (origin_of b r n o position signals taken)
+      cert.session.point (map (λ (a : Arc). a.shift) cert.session.arcs) 0 cert.session
 
 -- The answer is a certificate that says `fixed`, of a session that stands for the files. All other integers have a sum of
 -- squares that is greater by the ratio. A check of it says that it is certified.

@@ -8,10 +8,12 @@ use Rattle.whole_math.proofs.Certificates.{cert, weak, ◌≼◌, hy}
 use Rattle.whole_math.proofs.Inequalities.{same_by, le_refl_ℤ, less_nn}
 use Rattle.whole_math.specs.Rounding.{floor_div}
 use Rattle.whole_math.proofs.Rounding.{floor_le, lt_floor}
-use Rattle.rational.specs.Rational.{Rational, ◌≈◌, ◌≤ʳ◌, of_whole, of_scale, ◌+ʳ◌, ◌-ʳ◌, ◌*ʳ◌, neg_r, times, two_to_minus, AreWithin, InBox}
+use Rattle.rational.specs.Rational.{Rational, ◌≈◌, ◌≤ʳ◌, of_whole, ◌+ʳ◌, ◌-ʳ◌, ◌*ʳ◌, neg_r, times, two_to_minus, AreWithin, InBox}
+use Rattle.rational.specs.Boxes.{of_scale}
 use Rattle.rational.proofs.Laws.{≤ʳ_trans, ≤ʳ_from_same}
 use Rattle.rational.proofs.Ends.{low_end, high_end}
-use Rattle.trig_box.specs.AnglePairs.{Pair, doubled, taylor_pair, part, IsAnglePair, IsCanonicalPair}
+use Rattle.trig_box.specs.AnglePairs.{Pair, doubled, part, IsAnglePair}
+use Rattle.trig_box.specs.CanonicalPairs.{taylor_pair, IsCanonicalPair}
 use Rattle.trig_box.proofs.PairLaws.{canonical_exists, canonical_is_pair, canonical_law, sharp_law, size_law_5}
 use Rattle.orbit_model.specs.Elements.{earth_rate}
 use Rattle.orbit_exists.proofs.Iterates.{no_sine}

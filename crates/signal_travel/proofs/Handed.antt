@@ -2,8 +2,8 @@
 use Rattle.std.proofs.Common.{◌≡◌, ℕ, zero, suc, List, [], ◌∷◌, ℤ, ◌≤ℤ◌, All, arith, subst, refl}
 use Rattle.iv_core.specs.declared.Iv.{Iv}
 use Rattle.iv_core.specs.Intervals.{width_of}
-use Rattle.orbit_model.specs.Places.{IsBetweenDistances}
-use Rattle.orbit_model.specs.SeenPlaces.{Place, point_of, HoldsPlace}
+use Rattle.orbit_model.specs.Places.{IsBetweenDistances, HoldsPlace}
+use Rattle.orbit_model.specs.SeenPlaces.{Place, point_of}
 use Rattle.signal_travel.specs.declared.places.VectorBox.{VectorBox}
 use Rattle.signal_travel.specs.VectorBoxes.{HoldsVector}
 

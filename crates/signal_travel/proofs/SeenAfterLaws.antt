@@ -4,7 +4,8 @@ use Rattle.std.proofs.lemmas.Int.{ints}
 use Rattle.whole_math.proofs.Ring.{◌⊕◌, ◌⊗◌}
 use Rattle.whole_math.proofs.Inequalities.{same_by, nat}
 use Rattle.whole_math.proofs.Order.{le_pos, lt_pos}
-use Rattle.rational.specs.Rational.{Rational, ◌≈◌, ◌≤ʳ◌, of_whole, of_scale, ◌+ʳ◌, ◌-ʳ◌, ◌*ʳ◌, times, two_to_minus, AreWithin, InBox}
+use Rattle.rational.specs.Rational.{Rational, ◌≈◌, ◌≤ʳ◌, of_whole, ◌+ʳ◌, ◌-ʳ◌, ◌*ʳ◌, times, two_to_minus, AreWithin, InBox}
+use Rattle.rational.specs.Boxes.{of_scale}
 use Rattle.rational.proofs.Boxes.{end_in}
 use Rattle.rational.proofs.Laws.{≈_sym, ≤ʳ_trans, ≤ʳ_total, ≤ʳ_from_same}
 use Rattle.iv_core.specs.declared.Iv.{Iv}

@@ -4,7 +4,8 @@ use Rattle.std.proofs.lemmas.Int.{ints}
 use Rattle.whole_math.proofs.Ring.{va, ko, ◌⊖◌}
 use Rattle.whole_math.proofs.Certificates.{◌≼◌, hy, ◌⊞◌}
 use Rattle.whole_math.proofs.Inequalities.{le_refl_ℤ}
-use Rattle.rational.specs.Rational.{Rational, ◌≤ʳ◌, of_whole, of_scale, ◌*ʳ◌, ◌-ʳ◌, InBox}
+use Rattle.rational.specs.Rational.{Rational, ◌≤ʳ◌, of_whole, ◌*ʳ◌, ◌-ʳ◌, InBox}
+use Rattle.rational.specs.Boxes.{of_scale}
 use Rattle.rational.proofs.Boxes.{InBox-along, end_in}
 use Rattle.rational.proofs.Laws.{≈_sym}
 use Rattle.orbit_model.proofs.Orders.{cert_r}
@@ -14,8 +15,8 @@ use Rattle.iv_core.proofs.BoxLaws.{low_held}
 use Rattle.trig_box.specs.AnglePairs.{Pair, IsAnglePair}
 use Rattle.trig_box.proofs.PairLaws.{canonical_exists, canonical_is_pair}
 use Rattle.orbit_model.specs.Elements.{earth_rate}
-use Rattle.orbit_model.specs.Places.{IsBetweenDistances}
-use Rattle.orbit_model.specs.SeenPlaces.{Place, difference, square, turned_back, point_of, AreSamePlace, IsSentPlace, IsReceiverPlace}
+use Rattle.orbit_model.specs.Places.{IsBetweenDistances, IsSentPlace, IsReceiverPlace}
+use Rattle.orbit_model.specs.SeenPlaces.{Place, difference, square, turned_back, point_of, AreSamePlace}
 use Rattle.orbit_model.proofs.Apart.{IsBetween, turned_square, loosely, vector_square}
 use Rattle.orbit_model.proofs.DistanceCertificates.{place_far, place_near}
 use Rattle.obs_rows.specs.ReceiverPoints.{IsReceiverPoint}

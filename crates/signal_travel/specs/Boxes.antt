@@ -2,7 +2,8 @@
 use Rattle.std.specs.Prelude.{List}
 use Rattle.rational.specs.Rational.{AreWithin, two_to_minus}
 use Rattle.iv_core.specs.declared.Iv.{Iv}
-use Rattle.orbit_model.specs.SeenPlaces.{Place, HoldsPlace}
+use Rattle.orbit_model.specs.SeenPlaces.{Place}
+use Rattle.orbit_model.specs.Places.{HoldsPlace}
 
 -- each coordinate is within 2^-17 m of that coordinate of every place in the boxes
 abbrev pub IsNearPlaces : List (Iv 36) → Place → Type 0

@@ -11,7 +11,7 @@ use Rattle.obs_rows.specs.Ranges.{IsSystem}
 use Rattle.obs_rows.specs.declared.limits.TheConstants.{MOST_PAIRS}
 use Rattle.rinex_obs.specs.ObsForm.{IsObsFile}
 use Rattle.rinex_nav.specs.NavForm.{IsNavFile}
-use Rattle.sv_orbit.specs.Worlds.{world_of}
+use Rattle.orbit_model.specs.Elements.{world_of}
 use Rattle.sim_session.specs.Navigation.{navigation_text}
 use Rattle.sim_session.specs.Satellites.{AreSatellites}
 use Rattle.sim_session.specs.declared.signals.Tracking.{Tracking}

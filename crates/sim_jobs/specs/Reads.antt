@@ -5,7 +5,7 @@ use Rattle.line_source.specs.Lines.{lines_of}
 use Rattle.rinex_head.specs.Systems.{system_of}
 use Rattle.rinex_obs.specs.ObsForm.{IsObsFile}
 use Rattle.rinex_nav.specs.NavForm.{IsNavFile}
-use Rattle.sv_orbit.specs.Worlds.{world_of}
+use Rattle.orbit_model.specs.Elements.{world_of}
 use Rattle.sim_session.specs.declared.signals.Signals.{Signals}
 use Rattle.sim_session.specs.Values.{base_clock_of, rover_clock_of, base_cycles, rover_cycles, first_of}
 use Rattle.sim_session.specs.Observations.{step_of, tag_of, AreObserved}

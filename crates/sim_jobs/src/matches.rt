@@ -3,7 +3,8 @@ ghost use Rattle.std.specs.Prelude.{◌≡◌, ◌-◌, ◌^◌, ◌<◌, ◌≤
 ghost use Rattle.obs_rows.specs.declared.arcs.Arc.{Arc};
 ghost use Rattle.obs_rows.specs.Arcs.{is_free, free_count};
 ghost use Rattle.obs_rows.specs.Integers.{integer_count};
-ghost use Rattle.obs_rows.specs.Signals.{is_phase, AreCounted};
+ghost use Rattle.obs_rows.specs.Signals.{is_phase};
+ghost use Rattle.obs_rows.specs.CountedSignals.{AreCounted};
 ghost use Rattle.obs_rows.specs.declared.units.TheConstants.{SIGNALS, MOST_FREE_ARCS};
 ghost use Rattle.sim_jobs.specs.Matches.{found, wanted, AgreesWith, HasTruth, HaveTruth, IsMatched, AreMarked, HasMarkedArcs};
 

@@ -6,7 +6,8 @@ use Rattle.whole_math.specs.Rounding.{IsNearest}
 use Rattle.whole_math.proofs.Ring.{va, ko, ng, ◌⊕◌, ◌⊖◌, ◌⊗◌}
 use Rattle.whole_math.proofs.Inequalities.{same_by, nat, weak, pos_nn, halve}
 use Rattle.whole_math.proofs.Certificates.{cert, ◌≼◌, hy, nm, ◌⊞◌, ◌⊠◌}
-use Rattle.rational.specs.Rational.{Rational, ◌≈◌, ◌≤ʳ◌, of_whole, of_scale, ◌+ʳ◌, ◌-ʳ◌, ◌*ʳ◌, divided, AreWithin}
+use Rattle.rational.specs.Rational.{Rational, ◌≈◌, ◌≤ʳ◌, of_whole, ◌+ʳ◌, ◌-ʳ◌, ◌*ʳ◌, divided, AreWithin}
+use Rattle.rational.specs.Boxes.{of_scale}
 use Rattle.rational.proofs.Orders.{order_r, cancel_r, ◌≐◌}
 use Rattle.sim_session.specs.Observed.{IsDistance, measured, thousandths}
 

@@ -6,9 +6,8 @@ use Rattle.rational.specs.Rational.{Rational, of_whole, ◌+ʳ◌, ◌-ʳ◌, �
 use Rattle.obs_rows.specs.declared.units.TheConstants.{UNIT_FREQUENCY, LIGHT_SPEED}
 use Rattle.obs_rows.specs.Signals.{wavelength}
 use Rattle.eph_store.specs.declared.ephemeris.Eph.{Eph}
-use Rattle.orbit_model.specs.Elements.{Constants, sent_at}
+use Rattle.orbit_model.specs.Elements.{Constants, sent_at, elements_of}
 use Rattle.orbit_model.specs.Solution.{Quantities, IsNearSolution}
-use Rattle.orbit_clock.specs.Records.{elements_of}
 use Rattle.sim_session.specs.declared.signals.Signals.{Signals}
 use Rattle.orbit_model.specs.SeenPlaces.{Place, point_of, IsSeenPlace, range_of, sent_place}
 

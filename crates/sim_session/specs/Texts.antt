@@ -2,7 +2,7 @@
 use Rattle.std.specs.Prelude.{◌≡◌, Bool, not, ◌==◌, if◌then◌else◌, ℕ, List, [], ◌∷◌, length, ℤ, pos, ◌+ℤ◌, ◌*ℤ◌}
 use Rattle.obs_rows.specs.declared.band_sets.TheConstants.{BANDS_L1_L2}
 use Rattle.eph_store.specs.declared.ephemeris.Eph.{Eph}
-use Rattle.sv_orbit.specs.Worlds.{world_of}
+use Rattle.orbit_model.specs.Elements.{world_of}
 use Rattle.sim_session.specs.Sequence.{drawn_within}
 use Rattle.sim_session.specs.Values.{base_clock_of, rover_clock_of, base_cycles, rover_cycles, first_of, offset_of, truth_of}
 use Rattle.sim_session.specs.declared.signals.Tracking.{Tracking}

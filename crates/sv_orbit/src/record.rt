@@ -3,14 +3,14 @@ ghost use Rattle.std.specs.Prelude.{◌≡◌, ◌*◌, ◌^◌, ◌<◌, ◌≤
 ghost use Rattle.std.specs.Int.{abs_diff};
 ghost use Rattle.rational.specs.Rational.{Rational, ◌≈◌, ◌-ʳ◌, ◌*ʳ◌, times};
 ghost use Rattle.iv_core.specs.Intervals.{Holds};
-ghost use Rattle.orbit_model.specs.Elements.{Constants, earth_rate, sent_at};
+ghost use Rattle.orbit_model.specs.Elements.{Constants, earth_rate, sent_at, elements_of, gps};
 ghost use Rattle.trig_box.specs.AnglePairs.{Pair};
 ghost use Rattle.orbit_model.specs.Solution.{Quantities, IsNearSolution, with_share, IsPairOf5};
-ghost use Rattle.orbit_clock.specs.Records.{elements_of, constants_of};
+ghost use Rattle.orbit_clock.specs.Records.{constants_of};
 ghost use Rattle.orbit_clock.specs.Timings.{HoldsTiming};
 ghost use Rattle.orbit_place.specs.Held.{HoldsOrbit};
 ghost use Rattle.orbit_place.specs.Rotations.{HoldsBoth};
-ghost use Rattle.sv_orbit.specs.Solutions.{HoldsSolution, gps};
+ghost use Rattle.sv_orbit.specs.Solutions.{HoldsSolution};
 
 use crate::SvBox;
 use decimal_box::decimal_box;

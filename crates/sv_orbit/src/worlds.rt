@@ -6,10 +6,9 @@ ghost use Rattle.std.specs.Prelude.{◌≡◌, ◌*◌, ◌^◌, ℕ, ℤ, pos, 
 ghost use Rattle.std.proofs.Common.{lit<};
 ghost use Rattle.rational.specs.Rational.{◌≈◌, ◌≤ʳ◌, of_whole, ◌-ʳ◌, divided};
 ghost use Rattle.eph_store.specs.Decimals.{decimal};
-ghost use Rattle.orbit_model.specs.Elements.{earth_rate, sent_at};
+ghost use Rattle.orbit_model.specs.Elements.{earth_rate, sent_at, gps, galileo, world_of};
 ghost use Rattle.orbit_clock.specs.Records.{constants_of};
-ghost use Rattle.sv_orbit.specs.Solutions.{gps};
-ghost use Rattle.sv_orbit.specs.Worlds.{galileo, world_of, squared_effect, four_mu};
+ghost use Rattle.sv_orbit.specs.Worlds.{squared_effect, four_mu};
 
 use orbit_clock::World;
 

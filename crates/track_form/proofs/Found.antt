@@ -26,7 +26,7 @@ use Rattle.track_data.specs.TrackTails.{AreTrackVectors, IsTrackTailOf, track_ta
 use Rattle.track_sum.specs.Fronts.{track_top}
 use Rattle.track_sum.specs.PairFronts.{IsFrontOfPair, move_at}
 use Rattle.track_sum.specs.Decided.{IsTrackForm, IsSearchedIn, AreFound, IsSumWide, pair_uppers}
-use Rattle.track_sum.proofs.StrictlyBest.{track_strictly_best}
+use Rattle.track_sum.proofs.BestByRatio.{track_best_by_ratio}
 use Rattle.track_form.specs.Decided.{IsFormRefused, track_tail_of, IsTrackWideAt, IsTrackDecision, IsTrackBestWhereFixed}
 use Rattle.track_form.specs.Uppers.{IsSomeWide}
 use Rattle.track_form.proofs.Lists.{none_mapped}
@@ -58,12 +58,12 @@ pub told_decision : (arcs : List Arc) (ss : List ℕ) (pairs : List PairRows) (r
 told_decision arcs ss pairs ratio budget h moves best top true found there back = (found, there refl)
 told_decision arcs ss pairs ratio budget h moves best top false found there back = (found, λ far. false≢true (back far))
 
--- where that says fixed, its integers are strictly best
+-- where that says fixed, its integers are best by the ratio
 pub told_best : (arcs : List Arc) (ss : List ℕ) (pairs : List PairRows) (ratio budget h : ℕ) (moves : List (List ℤ)) (best : TwoBest) (top : ℤ) (fixed : Bool) →
-    AreFound arcs ss pairs budget h moves best top →
-    1000 ≤ ratio → pos 0 ≤ℤ top → (IsTrue fixed → IsSeparated (pos ratio) top best.p2) → IsTrackBestWhereFixed arcs ss pairs (track_tail_of_vectors fixed h moves best top)
-told_best arcs ss pairs ratio budget h moves best top true found large from there = track_strictly_best arcs ss pairs ratio budget h moves best top found large from (there refl)
-told_best arcs ss pairs ratio budget h moves best top false found large from there = tt
+    AreFound arcs ss pairs budget h moves best top → (IsTrue fixed → IsSeparated (pos ratio) top best.p2) →
+    IsTrackBestWhereFixed ratio arcs ss pairs (track_tail_of_vectors fixed h moves best top)
+told_best arcs ss pairs ratio budget h moves best top true found there = track_best_by_ratio arcs ss pairs ratio budget h moves best top found (there refl)
+told_best arcs ss pairs ratio budget h moves best top false found there = tt
 
 -- an upper sum that is too wide
 pub sum_wide : (arcs : List Arc) (ss : List ℕ) (pairs : List PairRows) (budget : ℕ) (moves : List (List ℤ)) (best : TwoBest) (fs : List FrontForm) (f : Form) → IsTrackForm arcs ss pairs fs f →
@@ -96,7 +96,7 @@ told_fits ss arcs pairs budget h moves best top false fit = fit
 -- ---- a decision that ends with vectors
 pub record IsTold (arcs : List Arc) (signals : Signals) (pairs : List PairRows) (ratio : ℕ) (f : Form) (best : TwoBest) (t : TrackTail) : Type 0 where
   pub decision : (budget : ℕ) → IsSearchedIn f budget best → IsTrackDecision arcs (fine_signals signals) pairs ratio budget t
-  pub strictly_best : (budget : ℕ) → IsSearchedIn f budget best → IsTrackBestWhereFixed arcs (fine_signals signals) pairs t
+  pub by_ratio : (budget : ℕ) → IsSearchedIn f budget best → IsTrackBestWhereFixed ratio arcs (fine_signals signals) pairs t
   pub fits : (budget : ℕ) → IsTrackTailOf (fine_signals signals) arcs pairs budget t
 
 -- from the moves, the upper sum and the test of the ratio, each of them as the code hands it on
@@ -107,12 +107,12 @@ pub vectors_told : (arcs : List Arc) (signals : Signals) (pairs : List PairRows)
     pos 0 ≤ℤ top → top ≤ℤ pos (2 ^ 119) →
     slice ≡ moves → list ≡ moves → word ≡ top → second ≡ best.p2 → t ≡ track_tail_of_vectors fixed f.h list best word →
     (IsTrue fixed → IsSeparated (pos ratio) word second) → (IsSeparated (pos ratio) word second → IsTrue fixed) →
-    ((z : List ℤ) → length z ≡ integers_of f → neg_ℤ (pos (2 ^ 63)) ≤ℤ value_of f z) → 1000 ≤ ratio → IsTold arcs signals pairs ratio f best t
+    ((z : List ℤ) → length z ≡ integers_of f → neg_ℤ (pos (2 ^ 63)) ≤ℤ value_of f z) → IsTold arcs signals pairs ratio f best t
 vectors_told arcs signals pairs ratio fs f best moves list slice top word second fixed t some is two moves_are narrow bounded top_is from to slice_is list_is word_is second_is t_is there
-    back values large =
+    back values =
     record {
       decision = λ budget kept. subst (IsTrackDecision arcs ss pairs ratio budget) (sym same) (told_decision arcs ss pairs ratio budget f.h moves best top fixed (found budget kept) far near);
-      strictly_best = λ budget kept. subst (IsTrackBestWhereFixed arcs ss pairs) (sym same) (told_best arcs ss pairs ratio budget f.h moves best top fixed (found budget kept) large from far);
+      by_ratio = λ budget kept. subst (IsTrackBestWhereFixed ratio arcs ss pairs) (sym same) (told_best arcs ss pairs ratio budget f.h moves best top fixed (found budget kept) far);
       fits = λ budget. subst (IsTrackTailOf ss arcs pairs budget) (sym same)
           (told_fits ss arcs pairs budget f.h moves best top fixed (track_vectors_fit arcs signals pairs moves best top fs f some is two moves_are narrow values from to));
     }

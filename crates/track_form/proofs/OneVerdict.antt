@@ -1,5 +1,5 @@
 -- The rows of a track and the tail of a text have one verdict.
-use Rattle.std.proofs.Common.{◌≡◌, ℕ, ℤ, List, refl, sym, ap₂, ap, ◌∙◌, subst}
+use Rattle.std.proofs.Common.{◌≡◌, ◌≤◌, ℕ, ℤ, List, refl, sym, ap₂, ap, ◌∙◌, subst}
 use Rattle.obs_rows.specs.declared.arcs.Arc.{Arc}
 use Rattle.obs_rows.specs.declared.pair_rows.PairRows.{PairRows}
 use Rattle.int_search.specs.declared.answer.TwoBest.{TwoBest}
@@ -11,8 +11,8 @@ use Rattle.cert_check.specs.SameTails.{AreSameNumbers}
 use Rattle.cert_check.proofs.SameNumbers.{same_numbers_on, same_numbers_back}
 use Rattle.track_data.specs.declared.tails.TrackTail.{TrackTail}
 use Rattle.track_data.specs.declared.tails.TrackTail.TheVariants.{Fixed, Unseparated, Weak, Overwidth, Spent}
-use Rattle.track_sum.specs.Decided.{IsStrictlyBest, IsBestByRatio}
-use Rattle.track_sum.proofs.StrictlyBest.{track_best_by_ratio}
+use Rattle.track_sum.specs.Decided.{IsBestByRatio}
+use Rattle.track_sum.proofs.RatioLaws.{ratio_is_strict}
 use Rattle.track_form.specs.Decided.{IsSameTail, IsTrackDecision, IsTrackBestWhereFixed}
 use Rattle.track_form.specs.Verdicts.{IsSaidOf, IsTrackVerdict, IsTrackBestIn, IsTrackBestByRatioIn}
 use Rattle.track_form.proofs.OneDecision.{one_decision}
@@ -58,32 +58,25 @@ pub one_verdict : (arcs : List Arc) (ss : List ℕ) (pairs : List PairRows) (rat
 one_verdict arcs ss pairs ratio budget t v w a b = same_said a.decided b.decided t v w (one_decision arcs ss pairs ratio budget a.decided b.decided a.decision b.decision) a.said b.said
 
 -- ---- what is certified
--- what is strictly best is so in a text that says it
-pub best_said : (arcs : List Arc) (ss : List ℕ) (pairs : List PairRows) (d t : TrackTail) → IsTrackBestWhereFixed arcs ss pairs d → IsSaidOf d t Certified → IsTrackBestIn arcs ss pairs t
-best_said arcs ss pairs (Fixed h ms b x) (Fixed k ns c y) best said =
-    subst (λ (z : List ℤ). IsStrictlyBest arcs ss pairs z ns) (sym said.best_is.first_is) (subst (λ (moves : List (List ℤ)). IsStrictlyBest arcs ss pairs (first_of b) moves) (sym said.moved_is) best)
-best_said arcs ss pairs (Fixed h ms b x) (Unseparated k ns c y) best said = absurd said
-best_said arcs ss pairs (Fixed h ms b x) (Weak column pivot) best said = absurd said
-best_said arcs ss pairs (Fixed h ms b x) (Overwidth place) best said = absurd said
-best_said arcs ss pairs (Fixed h ms b x) (Spent budget) best said = absurd said
-best_said arcs ss pairs (Unseparated h ms b x) t best said = absurd cc
-best_said arcs ss pairs (Weak column pivot) t best said = absurd cc
-best_said arcs ss pairs (Overwidth place) t best said = absurd cc
-best_said arcs ss pairs (Spent budget) t best said = absurd cc
-
--- what is certified is best by the ratio
-pub certified_by_ratio : (arcs : List Arc) (ss : List ℕ) (pairs : List PairRows) (ratio budget : ℕ) (t : TrackTail) → IsTrackVerdict arcs ss pairs ratio budget t Certified →
+-- what is best by the ratio where the rows are fixed is so in a text that says the same
+pub ratio_said : (ratio : ℕ) (arcs : List Arc) (ss : List ℕ) (pairs : List PairRows) (d t : TrackTail) → IsTrackBestWhereFixed ratio arcs ss pairs d → IsSaidOf d t Certified →
     IsTrackBestByRatioIn ratio arcs ss pairs t
-certified_by_ratio arcs ss pairs ratio budget t is = by_ratio is.decided t is.decision is.said
-  where
-    by_ratio : (d u : TrackTail) → IsTrackDecision arcs ss pairs ratio budget d → IsSaidOf d u Certified → IsTrackBestByRatioIn ratio arcs ss pairs u
-    by_ratio (Fixed h ms b x) (Fixed k ns c y) decision said = subst (λ (z : List ℤ). IsBestByRatio ratio arcs ss pairs z ns) (sym said.best_is.first_is)
-        (subst (λ (moves : List (List ℤ)). IsBestByRatio ratio arcs ss pairs (first_of b) moves) (sym said.moved_is) (track_best_by_ratio arcs ss pairs ratio budget h ms b x decision.0 decision.1))
-    by_ratio (Fixed h ms b x) (Unseparated k ns c y) decision said = absurd said
-    by_ratio (Fixed h ms b x) (Weak column pivot) decision said = absurd said
-    by_ratio (Fixed h ms b x) (Overwidth place) decision said = absurd said
-    by_ratio (Fixed h ms b x) (Spent spent) decision said = absurd said
-    by_ratio (Unseparated h ms b x) u decision said = absurd cc
-    by_ratio (Weak column pivot) u decision said = absurd cc
-    by_ratio (Overwidth place) u decision said = absurd cc
-    by_ratio (Spent spent) u decision said = absurd cc
+ratio_said ratio arcs ss pairs (Fixed h ms b x) (Fixed k ns c y) best said =
+    subst (λ (z : List ℤ). IsBestByRatio ratio arcs ss pairs z ns) (sym said.best_is.first_is)
+    (subst (λ (moves : List (List ℤ)). IsBestByRatio ratio arcs ss pairs (first_of b) moves) (sym said.moved_is) best)
+ratio_said ratio arcs ss pairs (Fixed h ms b x) (Unseparated k ns c y) best said = absurd said
+ratio_said ratio arcs ss pairs (Fixed h ms b x) (Weak column pivot) best said = absurd said
+ratio_said ratio arcs ss pairs (Fixed h ms b x) (Overwidth place) best said = absurd said
+ratio_said ratio arcs ss pairs (Fixed h ms b x) (Spent spent) best said = absurd said
+ratio_said ratio arcs ss pairs (Unseparated h ms b x) t best said = absurd cc
+ratio_said ratio arcs ss pairs (Weak column pivot) t best said = absurd cc
+ratio_said ratio arcs ss pairs (Overwidth place) t best said = absurd cc
+ratio_said ratio arcs ss pairs (Spent spent) t best said = absurd cc
+
+-- and so strictly best
+pub strictly_in : (ratio : ℕ) (arcs : List Arc) (ss : List ℕ) (pairs : List PairRows) (t : TrackTail) → 1000 ≤ ratio → IsTrackBestByRatioIn ratio arcs ss pairs t → IsTrackBestIn arcs ss pairs t
+strictly_in ratio arcs ss pairs (Fixed h moves best top) large is = ratio_is_strict ratio arcs ss pairs (first_of best) moves large is
+strictly_in ratio arcs ss pairs (Unseparated h moves best top) large is = absurd is
+strictly_in ratio arcs ss pairs (Weak column pivot) large is = absurd is
+strictly_in ratio arcs ss pairs (Overwidth place) large is = absurd is
+strictly_in ratio arcs ss pairs (Spent spent) large is = absurd is

@@ -14,7 +14,7 @@ use Rattle.cert_check.specs.SameTails.{AreSameNumbers}
 use Rattle.track_data.specs.declared.tails.TrackTail.{TrackTail}
 use Rattle.track_data.specs.declared.tails.TrackTail.TheVariants.{Fixed, Unseparated, Weak, Overwidth, Spent}
 use Rattle.track_sum.specs.PairFronts.{IsFirstRefused}
-use Rattle.track_sum.specs.Decided.{IsTrackForm, IsFinishRefused, AreFound, IsMoveWide, IsSumWide, IsStrictlyBest}
+use Rattle.track_sum.specs.Decided.{IsTrackForm, IsFinishRefused, AreFound, IsMoveWide, IsSumWide, IsBestByRatio}
 
 -- the rows have no form: the front of some pair is refused, the first of these with this fault, or none is and the finish of their sum is
 abbrev pub IsFormRefused : List Arc → List ℕ → List PairRows → LowerFault → Type 0
@@ -47,10 +47,10 @@ IsTrackDecision arcs ss pairs ratio budget (Weak column pivot) = IsFormRefused a
 IsTrackDecision arcs ss pairs ratio budget (Overwidth place) = IsTrackWideAt arcs ss pairs budget place
 IsTrackDecision arcs ss pairs ratio budget (Spent spent) = (spent ≡ budget) × IsSearchEnded arcs ss pairs budget IsSpent
 
--- where the integers are fixed, they are with their moves strictly best for all data in the boxes
-abbrev pub IsTrackBestWhereFixed : List Arc → List ℕ → List PairRows → TrackTail → Type 0
-IsTrackBestWhereFixed arcs ss pairs (Fixed h moves best top) = IsStrictlyBest arcs ss pairs (first_of best) moves
-IsTrackBestWhereFixed arcs ss pairs _ = Unit {0}
+-- where the integers are fixed, they are with their moves best by the ratio for all data in the boxes
+abbrev pub IsTrackBestWhereFixed : ℕ → List Arc → List ℕ → List PairRows → TrackTail → Type 0
+IsTrackBestWhereFixed ratio arcs ss pairs (Fixed h moves best top) = IsBestByRatio ratio arcs ss pairs (first_of best) moves
+IsTrackBestWhereFixed ratio arcs ss pairs _ = Unit {0}
 
 -- a decision other than that the search ended without an answer: no greater budget changes it
 abbrev pub IsFinal : TrackTail → Type 0

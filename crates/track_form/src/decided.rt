@@ -50,8 +50,8 @@ fn decide_moved(
     ensures decision { (budget : ℕ) → IsSearchedIn form.now budget best.now →
         IsTrackDecision track.now.arcs
         (fine_signals track.now.signals) track.now.pairs ratio budget result }
-    ensures strictly_best { (budget : ℕ) → IsSearchedIn form.now budget best.now →
-        IsTrackBestWhereFixed track.now.arcs
+    ensures by_ratio { (budget : ℕ) → IsSearchedIn form.now budget best.now →
+        IsTrackBestWhereFixed ratio track.now.arcs
         (fine_signals track.now.signals) track.now.pairs result }
     ensures fits { (budget : ℕ) → IsTrackTailOf (fine_signals track.now.signals) track.now.arcs
         track.now.pairs budget result }
@@ -86,8 +86,9 @@ fn decide_best(
     ensures decision { IfOk result (λ t. (budget : ℕ) → IsSearchedIn form.now budget best.now →
         IsTrackDecision track.now.arcs
         (fine_signals track.now.signals) track.now.pairs ratio budget t) }
-    ensures strictly_best { IfOk result (λ t. (budget : ℕ) → IsSearchedIn form.now budget best.now →
-        IsTrackBestWhereFixed track.now.arcs (fine_signals track.now.signals) track.now.pairs t) }
+    ensures by_ratio { IfOk result (λ t. (budget : ℕ) → IsSearchedIn form.now budget best.now →
+        IsTrackBestWhereFixed ratio track.now.arcs
+        (fine_signals track.now.signals) track.now.pairs t) }
     ensures fits { IfOk result (λ t. (budget : ℕ) →
         IsTrackTailOf (fine_signals track.now.signals) track.now.arcs track.now.pairs budget t) }
 {
@@ -120,8 +121,8 @@ pub fn decide_track(
         (fine_signals track.now.signals) track.now.pairs ratio budget) }
     ensures only { IfOk result (λ t. (u : TrackTail) → IsTrackDecision track.now.arcs
         (fine_signals track.now.signals) track.now.pairs ratio budget u → IsSameTail u t) }
-    ensures strictly_best { IfOk result
-        (IsTrackBestWhereFixed track.now.arcs (fine_signals track.now.signals) track.now.pairs) }
+    ensures by_ratio { IfOk result (IsTrackBestWhereFixed ratio track.now.arcs
+        (fine_signals track.now.signals) track.now.pairs) }
     ensures fits { IfOk result
         (IsTrackTailOf (fine_signals track.now.signals) track.now.arcs track.now.pairs budget) }
 {

@@ -6,10 +6,8 @@ use Rattle.obs_rows.specs.declared.arcs.Arc.{Arc}
 use Rattle.obs_rows.specs.Arcs.{AreArcs}
 use Rattle.slip_arcs.specs.Linked.{IsCutOf}
 use Rattle.screening.specs.declared.screened.Screened.{Screened}
-use Rattle.screening.specs.Screening.{setting_of}
-use Rattle.sv_orbit.specs.Worlds.{world_of}
-use Rattle.obs_rows.specs.BandSets.{bands_of}
 use Rattle.run_options.specs.declared.options.Options.{Options}
+use Rattle.session.specs.Origins.{origin_of}
 use Rattle.session.proofs.RangeLaws.{able, no_shifts}
 use Rattle.track_data.specs.declared.certs.TrackCert.{TrackCert}
 use Rattle.track_job.specs.declared.answers.TrackOutcome.{TrackOutcome}
@@ -47,7 +45,6 @@ track_stands_for base rover nav o outcome cert is full =
       signals_are = is.signals_are;
       taken = is.taken;
       taken_are = is.taken_are;
-      stands = track_stands (setting_of base nav is.signals o.mask (world_of o.system)) base.epochs rover.epochs is.taken (bands_of o.bands) o.jump
-          o.arc is.short is.screened is.kept is.position is.signals o.system
-          (tracked_with cert.track outcome.lost) arcs.used_are arcs.boxes_are arcs.kept_are arcs.datums decided.1.0;
+      stands = track_stands (origin_of base rover nav o is.position is.signals is.taken) is.short is.screened is.kept (tracked_with cert.track outcome.lost)
+          arcs.used_are arcs.boxes_are arcs.kept_are arcs.datums decided.1.0;
     }

@@ -4,15 +4,17 @@ use Rattle.std.proofs.lemmas.Bool.{false≢true}
 use Rattle.eph_store.specs.File.{Records}
 use Rattle.obs_store.specs.declared.file.ObsFile.{ObsFile}
 use Rattle.obs_rows.specs.Signals.{fine_signals}
+use Rattle.fix_decide.specs.Decisions.{first_of}
 use Rattle.cert_data.specs.declared.verdicts.Verdict.{Verdict}
 use Rattle.cert_data.specs.declared.verdicts.Verdict.TheVariants.{Certified}
 use Rattle.run_options.specs.declared.options.Options.{Options}
 use Rattle.track_data.specs.declared.certs.TrackCert.{TrackCert}
 use Rattle.track_data.specs.declared.tails.TrackTail.{TrackTail}
 use Rattle.track_data.specs.declared.tails.TrackTail.TheVariants as tail
+use Rattle.track_sum.specs.Decided.{IsBestByRatio}
+use Rattle.track_sum.proofs.RatioLaws.{ratio_is_strict}
 use Rattle.track_form.specs.Decided.{IsTrackDecision, IsSameTail, IsTrackBestWhereFixed}
-use Rattle.track_form.specs.Verdicts.{IsTrackVerdict, IsTrackBestByRatioIn}
-use Rattle.track_form.proofs.OneVerdict.{certified_by_ratio}
+use Rattle.track_form.specs.Verdicts.{IsTrackVerdict}
 use Rattle.track_job.specs.declared.answers.TrackOutcome.{TrackOutcome}
 use Rattle.track_job.specs.declared.answers.TrackAnswer.{TrackAnswer}
 use Rattle.track_job.specs.declared.answers.TrackAnswer.TheVariants as answer
@@ -34,12 +36,28 @@ fixed_track (answer.Arcs free) fixed = absurd (false≢true fixed)
 fixed_track (answer.Lost pairs) fixed = absurd (false≢true fixed)
 fixed_track (answer.Full cert) fixed = record { cert = cert; is = refl; fixed = fixed }
 
-fixed_tail : (cert : TrackCert) (t : TrackTail) → cert.tail ≡ t → is_fixed_track t ≡ true → IsTrackBestWhereFixed cert.track.arcs (fine_signals cert.track.signals) cert.track.pairs t → IsTrackFix cert
-fixed_tail cert (tail.Fixed h moves best top) is fixed strictly = record { h = h; moves = moves; best = best; top = top; tail_is = is; strictly_best = strictly }
-fixed_tail cert (tail.Unseparated h moves best top) is fixed strictly = absurd (false≢true fixed)
-fixed_tail cert (tail.Weak column pivot) is fixed strictly = absurd (false≢true fixed)
-fixed_tail cert (tail.Overwidth place) is fixed strictly = absurd (false≢true fixed)
-fixed_tail cert (tail.Spent budget) is fixed strictly = absurd (false≢true fixed)
+-- the certificate of a track that says `fixed`, by the ratio
+record IsTrackFixByRatio (cert : TrackCert) : Type 0 where
+  fix : IsTrackFix cert
+  by_ratio : IsBestByRatio cert.ratio cert.track.arcs (fine_signals cert.track.signals) cert.track.pairs (first_of fix.best) fix.moves
+
+fixed_tail : (cert : TrackCert) (t : TrackTail) → cert.tail ≡ t → is_fixed_track t ≡ true →
+    IsTrackBestWhereFixed cert.ratio cert.track.arcs (fine_signals cert.track.signals) cert.track.pairs t → IsTrackFixByRatio cert
+fixed_tail cert (tail.Fixed h moves best top) is fixed by_ratio = record {
+  fix = record {
+    h = h;
+    moves = moves;
+    best = best;
+    top = top;
+    tail_is = is;
+    strictly_best = ratio_is_strict cert.ratio cert.track.arcs (fine_signals cert.track.signals) cert.track.pairs (first_of best) moves cert.ratio_from by_ratio;
+  };
+  by_ratio = by_ratio;
+}
+fixed_tail cert (tail.Unseparated h moves best top) is fixed by_ratio = absurd (false≢true fixed)
+fixed_tail cert (tail.Weak column pivot) is fixed by_ratio = absurd (false≢true fixed)
+fixed_tail cert (tail.Overwidth place) is fixed by_ratio = absurd (false≢true fixed)
+fixed_tail cert (tail.Spent budget) is fixed by_ratio = absurd (false≢true fixed)
 
 -- what a check says of a certificate that is decided as fixed
 record IsCertifiedAgain (cert : TrackCert) : Type 0 where
@@ -69,14 +87,13 @@ track_fixed_for b r n o outcome found is =
     let fixed_answer : IsFixedTrack outcome.answer = fixed_track outcome.answer is in
     let answered = subst (λ (a : TrackAnswer). IsTrackAnswer found.screened found.kept found.position found.signals o outcome.taken outcome.lost a) fixed_answer.is found.answer_is in
     let decided = answered.1.1 in
-    let fix : IsTrackFix fixed_answer.cert = fixed_tail fixed_answer.cert fixed_answer.cert.tail refl fixed_answer.fixed decided.best in
-    let again : IsCertifiedAgain fixed_answer.cert = certified_cert fixed_answer.cert fix decided.decision decided.only in
+    let fixed : IsTrackFixByRatio fixed_answer.cert = fixed_tail fixed_answer.cert fixed_answer.cert.tail refl fixed_answer.fixed decided.by_ratio in
+    let again : IsCertifiedAgain fixed_answer.cert = certified_cert fixed_answer.cert fixed.fix decided.decision decided.only in
     record {
       cert = fixed_answer.cert;
       answer_is = fixed_answer.is;
-      fix = fix;
-      by_ratio = subst (IsTrackBestByRatioIn fixed_answer.cert.ratio fixed_answer.cert.track.arcs (fine_signals fixed_answer.cert.track.signals) fixed_answer.cert.track.pairs) fix.tail_is
-          (certified_by_ratio fixed_answer.cert.track.arcs (fine_signals fixed_answer.cert.track.signals) fixed_answer.cert.track.pairs fixed_answer.cert.ratio fixed_answer.cert.budget fixed_answer.cert.tail again.certified);
+      fix = fixed.fix;
+      by_ratio = fixed.by_ratio;
       certified = again.certified;
       only = again.only;
       stands = track_stands_for b r n o outcome fixed_answer.cert found fixed_answer.is;

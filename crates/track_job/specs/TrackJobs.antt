@@ -5,8 +5,6 @@ use Rattle.eph_store.specs.File.{Records}
 use Rattle.obs_rows.specs.declared.bands.Signals.{Signals}
 use Rattle.obs_rows.specs.Signals.{fine_signals}
 use Rattle.epoch_pair.specs.declared.pairs.PairOf.{PairOf}
-use Rattle.sv_orbit.specs.Worlds.{world_of}
-use Rattle.screening.specs.Screening.{setting_of}
 use Rattle.int_search.specs.declared.answer.TwoBest.{TwoBest}
 use Rattle.fix_decide.specs.Decisions.{first_of}
 use Rattle.cert_data.specs.declared.verdicts.Verdict.{Verdict}
@@ -14,6 +12,7 @@ use Rattle.cert_data.specs.declared.verdicts.Verdict.TheVariants.{Certified}
 use Rattle.run_options.specs.declared.options.Options.{Options}
 use Rattle.obs_rows.specs.BandSets.{bands_of}
 use Rattle.epoch_pair.specs.Beginnings.{IsPosition, AreSignals, AreTaken}
+use Rattle.session.specs.Origins.{origin_of}
 use Rattle.job_answers.specs.declared.status.Status.{Status}
 use Rattle.job_answers.specs.Statuses.{verdict_status}
 use Rattle.job_answers.specs.Endings.{Ending, ending}
@@ -50,7 +49,7 @@ pub record TrackStandsForIts (b r : ObsFile) (n : Records) (o : Options) (cert :
   pub signals_are : AreSignals (bands_of o.bands) b r signals
   pub taken : List PairOf
   pub taken_are : AreTaken b r o taken
-  pub stands : TrackStands (setting_of b n signals o.mask (world_of o.system)) b.epochs r.epochs taken (bands_of o.bands) o.jump o.arc o.system position signals cert.track
+  pub stands : TrackStands (origin_of b r n o position signals taken) cert.track
 
 -- The answer is the certificate of a track that says `fixed` and stands for the files. All other integers have a sum of squares
 -- that is greater by the ratio. A check of it says that it is certified.

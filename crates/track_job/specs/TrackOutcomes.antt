@@ -42,7 +42,7 @@ pub record IsDecidedTrack (o : Options) (cert : TrackCert) : Type 0 where
   pub fronts : All (HasFront cert.track.arcs (fine_signals cert.track.signals)) cert.track.pairs
   pub decision : IsTrackDecision cert.track.arcs (fine_signals cert.track.signals) cert.track.pairs cert.ratio cert.budget cert.tail
   pub only : (t : TrackTail) → IsTrackDecision cert.track.arcs (fine_signals cert.track.signals) cert.track.pairs cert.ratio cert.budget t → IsSameTail t cert.tail
-  pub best : IsTrackBestWhereFixed cert.track.arcs (fine_signals cert.track.signals) cert.track.pairs cert.tail
+  pub by_ratio : IsTrackBestWhereFixed cert.ratio cert.track.arcs (fine_signals cert.track.signals) cert.track.pairs cert.tail
 
 -- no pair is tracked, though some has four satellites in kept arcs
 pub record HasNoTracked (screened : Screened) (kept : List Arc) (position : List ℤ) (signals : Signals) (o : Options) (lost : List Lost) : Type 0 where

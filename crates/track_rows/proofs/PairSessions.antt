@@ -5,7 +5,8 @@ use Rattle.obs_rows.specs.declared.pair_rows.PairRows.{PairRows}
 use Rattle.obs_rows.specs.declared.sessions.Session.{Session}
 use Rattle.row_build.specs.PairRows.{ArePairRows}
 use Rattle.round_steps.specs.Shifts.{AreSameArcs}
-use Rattle.round_steps.specs.Runs.{Round, IsSessionOf, round_of, round_at}
+use Rattle.round_steps.specs.Runs.{IsSessionOf, round_at}
+use Rattle.obs_rows.specs.Rounds.{Round, round_of}
 use Rattle.track_rows.specs.PairRules.{TrackSetting, rows_setting, rules_of_pair}
 
 -- there are rows where none is refuted

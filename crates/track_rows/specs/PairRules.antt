@@ -14,7 +14,8 @@ use Rattle.row_build.specs.Rows.{RowSetting, setting}
 use Rattle.row_build.specs.PairRows.{ArePairRows}
 use Rattle.row_build.specs.Far.{HasFarRow}
 use Rattle.round_steps.specs.Shifts.{AreSameArcs}
-use Rattle.round_steps.specs.Runs.{Rules, Round}
+use Rattle.round_steps.specs.Runs.{Rules}
+use Rattle.obs_rows.specs.Rounds.{Round}
 use Rattle.track_rows.specs.declared.files.TrackFiles.{TrackFiles}
 
 -- the satellites' boxes in all pairs, the kept arcs without shifts, the base's position, the signals and the system

@@ -6,9 +6,9 @@ use Rattle.rational.specs.Rational.{Rational}
 use Rattle.quadratic_form.specs.Rows.{value}
 use Rattle.quadratic_form.specs.TwoLeast.{TwoLeast}
 use Rattle.fix_decide.specs.Decisions.{IsSeparated}
+use Rattle.obs_rows.specs.Best.{IsLessByRatio}
 use Rattle.track_sum.specs.Fronts.{Front, track_form, track_top, BoundsPair, IsAtMost}
-use Rattle.fix_decide.proofs.DecisionLaws.{less_by_1000}
-use Rattle.track_sum.specs.Best.{pair_sums, track_sum, IsTrackBest, IsTrackBestByRatio, IsBoundedBy, AreBoundedAbove}
+use Rattle.track_sum.specs.Best.{pair_sums, IsTrackBestBy, IsBoundedBy, AreBoundedAbove}
 use Rattle.track_sum.proofs.Decision.{decided_by_ratio}
 
 bounded_below : {P D B : Type 0} (f : P → D → List ℤ → B → Rational) (is_data : P → D → Type 0) (n : ℕ) (z w : List ℤ) (ps : List P) (fs : List Front) (ds : List D) (bs : List B) →
@@ -32,17 +32,9 @@ bounded_above f is_data z (p ∷ ps) (m ∷ ms) (u ∷ us) (d ∷ ds) h k = (h.0
 
 pub best_by_ratio : {P D B : Type 0} (f : P → D → List ℤ → B → Rational) (is_data : P → D → Type 0) (n h : ℕ) (ps : List P) (fs : List Front) (ms : List B) (us : List ℤ) (ratio : ℕ) (z1 z2 : List ℤ) →
     All (λ g. g.h ≤ h) fs → pos 1 +ℤ len z1 ≡ pos n → TwoLeast (track_form n h fs) (len z1) z1 z2 → IsSeparated (pos ratio) (track_top h us) (value (track_form n h fs) z2) →
-    AllZip (IsBoundedBy f is_data n z1) ps fs → AreBoundedAbove f is_data z1 ps ms us → IsTrackBestByRatio ratio f is_data ps z1 ms
+    AllZip (IsBoundedBy f is_data n z1) ps fs → AreBoundedAbove f is_data z1 ps ms us → IsTrackBestBy (IsLessByRatio ratio) f is_data ps z1 ms
 best_by_ratio {P} {D} {B} f is_data n h ps fs ms us ratio z1 z2 all e least separated below above = record {
   best = λ (ds : List D) (data_are : AllZip is_data ps ds) (w : List ℤ) (l : len w ≡ len z1) (other : w ≢ z1) (bs : List B) (as_many : length bs ≡ length ps).
       decided_by_ratio n h fs ratio us z1 z2 w (pair_sums f ps ds z1 ms) (pair_sums f ps ds w bs) all e least separated l other
       (bounded_above f is_data z1 ps ms us ds above data_are) (bounded_below f is_data n z1 w ps fs ds bs below data_are l as_many);
-}
-
--- what is best by a ratio of 1000 is strictly best
-pub best_by_1000 : {P D B : Type 0} (f : P → D → List ℤ → B → Rational) (is_data : P → D → Type 0) (ps : List P) (z : List ℤ) (ms : List B) → IsTrackBestByRatio 1000 f is_data ps z ms
-    → IsTrackBest f is_data ps z ms
-best_by_1000 {P} {D} {B} f is_data ps z ms best = record {
-  best = λ (ds : List D) (data_are : AllZip is_data ps ds) (w : List ℤ) (l : len w ≡ len z) (other : w ≢ z) (bs : List B) (as_many : length bs ≡ length ps).
-      less_by_1000 (track_sum f ps ds z ms) (track_sum f ps ds w bs) (best.best ds data_are w l other bs as_many);
 }

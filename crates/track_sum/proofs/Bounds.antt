@@ -2,13 +2,13 @@
 use Rattle.std.proofs.Common.{◌≡◌, ℕ, ◌^◌, ◌≤◌, List, [], ◌∷◌, ◌++◌, All, ℤ, pos, ◌+ℤ◌, ◌*ℤ◌, ◌≤ℤ◌, refl, pow_pos}
 use Rattle.std.specs.List.{AllZip}
 use Rattle.whole_math.specs.Rounding.{ceil_div}
-use Rattle.whole_math.specs.Vectors.{len, sum}
+use Rattle.whole_math.specs.Vectors.{sum, len}
 use Rattle.whole_math.proofs.Ring.{◌⊕◌, ◌⊖◌, ◌⊗◌}
 use Rattle.whole_math.proofs.Inequalities.{le_by, both_nn, prod_nn, less_nn, pos_nn, nat}
 use Rattle.whole_math.proofs.Rounding.{ceil_close}
 use Rattle.rational.specs.Rational.{Rational, of_whole, ◌*ʳ◌, ◌≤ʳ◌}
 use Rattle.rational.proofs.Laws.{≤ʳ_trans, of_whole-le}
-use Rattle.quadratic_form.specs.RationalData.{sum_of_rationals}
+use Rattle.rational.specs.Spread.{sum_of_rationals}
 use Rattle.quadratic_form.specs.Rows.{value}
 use Rattle.track_sum.specs.Fronts.{Front, front_form, track_form, fronts_value, BoundsPair, IsAtMost}
 use Rattle.track_sum.proofs.SumOfForms.{sum_below}

@@ -4,13 +4,14 @@ use Rattle.std.specs.List.{AllZip}
 use Rattle.whole_math.specs.Vectors.{len}
 use Rattle.whole_math.proofs.Vectors.{len_last}
 use Rattle.rational.specs.Rational.{Rational, ◌<ʳ◌}
-use Rattle.quadratic_form.specs.RationalData.{sum_of_rationals}
+use Rattle.rational.specs.Spread.{sum_of_rationals}
 use Rattle.quadratic_form.specs.Rows.{value}
 use Rattle.quadratic_form.specs.TwoLeast.{TwoLeast}
 use Rattle.quadratic_form.proofs.Decision.{second_value}
 use Rattle.fix_decide.specs.Decisions.{IsSeparated}
-use Rattle.fix_decide.specs.Ratios.{IsLessByRatio}
-use Rattle.fix_decide.proofs.DecisionLaws.{room, below_by_ratio, less_by_1000}
+use Rattle.obs_rows.specs.Best.{IsLessByRatio}
+use Rattle.obs_rows.proofs.RatioLaws.{less_by_1000}
+use Rattle.fix_decide.proofs.DecisionLaws.{room, below_by_ratio}
 use Rattle.track_sum.specs.Fronts.{Front, track_form, track_top, BoundsPair, IsAtMost}
 use Rattle.track_sum.proofs.Bounds.{bound_of_track, top_at_most}
 

@@ -9,5 +9,5 @@ pub mod TrackEntries
 pub mod FrontLists
 pub mod OneForm
 pub mod SumTables
-pub mod StrictlyBest
+pub mod BestByRatio
 pub mod RatioLaws

@@ -5,13 +5,12 @@ use Rattle.whole_math.specs.Vectors.{len}
 use Rattle.whole_math.proofs.Order.{lins}
 use Rattle.whole_math.proofs.Inequalities.{both_nn, prod_nn, pos_nn}
 use Rattle.rational.specs.Rational.{Rational}
-use Rattle.quadratic_form.specs.RationalData.{Baseline}
+use Rattle.rational.specs.Spread.{Baseline}
 use Rattle.obs_rows.specs.declared.arcs.Arc.{Arc}
 use Rattle.obs_rows.specs.declared.pair_rows.PairRows.{PairRows}
 use Rattle.obs_rows.specs.Best.{moved}
 use Rattle.obs_rows.specs.Data.{Observed}
-use Rattle.fix_decide.proofs.DecisionLaws.{less_by_1000}
-use Rattle.fix_decide.proofs.RatioLaws.{sum_from, less_by_more}
+use Rattle.obs_rows.proofs.RatioLaws.{sum_from, less_by_ratio}
 use Rattle.track_sum.specs.Best.{track_sum}
 use Rattle.track_sum.specs.Decided.{pair_sum, IsPairData, IsStrictlyBest, IsBestByRatio}
 
@@ -32,6 +31,6 @@ ratio_is_strict ratio arcs ss pairs z moves large best = record {
     best = λ (ds : List (List Observed)) (held : AllZip (IsPairData ss) pairs ds) (w : List ℤ) (l : len w ≡ len z) (other : w ≢ z) (bs : List Baseline) (as_many : length bs ≡ length pairs).
         let ours : Rational = track_sum (pair_sum arcs ss) pairs ds z (map moved moves) in
         let theirs : Rational = track_sum (pair_sum arcs ss) pairs ds w bs in
-        less_by_1000 ours theirs (less_by_more ratio ours theirs large (track_sum_from arcs ss z pairs ds (map moved moves) held) (best.best.best ds held w l other bs as_many));
+        less_by_ratio ratio large ours theirs (track_sum_from arcs ss z pairs ds (map moved moves) held) (best.best.best ds held w l other bs as_many);
   };
 }

@@ -3,9 +3,8 @@
 use Rattle.std.specs.Prelude.{◌≡◌, ◌≢◌, ℕ, List, [], ◌∷◌, length, ℤ}
 use Rattle.std.specs.List.{AllZip}
 use Rattle.whole_math.specs.Vectors.{len}
-use Rattle.rational.specs.Rational.{Rational, ◌<ʳ◌}
-use Rattle.quadratic_form.specs.RationalData.{sum_of_rationals}
-use Rattle.fix_decide.specs.Ratios.{IsLessByRatio}
+use Rattle.rational.specs.Rational.{Rational}
+use Rattle.rational.specs.Spread.{sum_of_rationals}
 use Rattle.track_sum.specs.Fronts.{Front, BoundsPair, IsAtMost}
 
 -- the sum of squares of each pair, at its own data and baseline
@@ -19,16 +18,12 @@ pair_sums f (p ∷ ps) (d ∷ ds) z (b ∷ bs) = f p d z b ∷ pair_sums f ps ds
 abbrev pub track_sum : {P D B : Type 0} → (P → D → List ℤ → B → Rational) → List P → List D → List ℤ → List B → Rational
 track_sum f ps ds z bs = sum_of_rationals (pair_sums f ps ds z bs)
 
--- for all data of the pairs every other vector of whole numbers of any size, with any list of baselines, one for each pair, has a greater
--- sum of squares than z with these moves
-pub record IsTrackBest {P D B : Type 0} (f : P → D → List ℤ → B → Rational) (is_data : P → D → Type 0) (ps : List P) (z : List ℤ) (moves : List B) : Type 0 where
+-- For all data of the pairs the sum at z with these moves is below that at every other vector of whole numbers of any size with any list of
+-- baselines, one for each pair. What below means is said by the first argument.
+pub record IsTrackBestBy {P D B : Type 0} (Below : Rational → Rational → Type 0) (f : P → D → List ℤ → B → Rational)
+    (is_data : P → D → Type 0) (ps : List P) (z : List ℤ) (moves : List B) : Type 0 where
   pub best : (ds : List D) → AllZip is_data ps ds → (w : List ℤ) → len w ≡ len z → w ≢ z → (bs : List B) → length bs ≡ length ps →
-      track_sum f ps ds z moves <ʳ track_sum f ps ds w bs
-
--- the same by a ratio in thousandths
-pub record IsTrackBestByRatio {P D B : Type 0} (ratio : ℕ) (f : P → D → List ℤ → B → Rational) (is_data : P → D → Type 0) (ps : List P) (z : List ℤ) (moves : List B) : Type 0 where
-  pub best : (ds : List D) → AllZip is_data ps ds → (w : List ℤ) → len w ≡ len z → w ≢ z → (bs : List B) → length bs ≡ length ps →
-      IsLessByRatio ratio (track_sum f ps ds z moves) (track_sum f ps ds w bs)
+      Below (track_sum f ps ds z moves) (track_sum f ps ds w bs)
 
 -- What is known of a pair whose form has n columns: for all data, integers and baselines the bound of its front
 abbrev pub IsBoundedBy : {P D B : Type 0} → (P → D → List ℤ → B → Rational) → (P → D → Type 0) → ℕ → List ℤ → P → Front → Type 0

@@ -1,11 +1,11 @@
 -- What the rows of the pairs of a track say together: the sum of their fronts, and the decision by it.
 use Rattle.std.specs.Prelude.{◌≡◌, ℕ, ◌+◌, ◌-◌, ◌<◌, List, [], ◌∷◌, length, map, replicate, get_or, All, Any, ℤ, pos}
 use Rattle.std.specs.List.{AllZip}
-use Rattle.rational.specs.Rational.{Rational}
-use Rattle.quadratic_form.specs.RationalData.{Baseline}
+use Rattle.rational.specs.Rational.{Rational, ◌<ʳ◌}
+use Rattle.rational.specs.Spread.{Baseline}
 use Rattle.obs_rows.specs.declared.arcs.Arc.{Arc}
 use Rattle.obs_rows.specs.declared.pair_rows.PairRows.{PairRows}
-use Rattle.obs_rows.specs.Best.{moved}
+use Rattle.obs_rows.specs.Best.{moved, IsLessByRatio}
 use Rattle.obs_rows.specs.Data.{Observed, AreData}
 use Rattle.obs_rows.specs.Integers.{integer_count}
 use Rattle.obs_rows.specs.SumOfSquares.{sum_of_squares}
@@ -26,7 +26,7 @@ use Rattle.fix_decide.specs.Widths.{IsWide}
 use Rattle.fix_decide.specs.Decisions.{first_of}
 use Rattle.track_sum.specs.Fronts.{AreExponents, track_form, track_top}
 use Rattle.track_sum.specs.PairFronts.{AreFronts, brief, move_at}
-use Rattle.track_sum.specs.Best.{IsTrackBest, IsTrackBestByRatio}
+use Rattle.track_sum.specs.Best.{IsTrackBestBy}
 
 -- the fronts of all pairs, brought over one power of 2 and added, with no factors of the baseline's columns
 pub record IsSumOfFronts (arcs : List Arc) (ss : List ℕ) (pairs : List PairRows) (fs : List FrontForm) (sum : FrontForm) : Type 0 where
@@ -105,15 +105,18 @@ pair_sum arcs ss p observed z b = sum_of_squares arcs ss (p ∷ []) z b (observe
 abbrev pub IsPairData : List ℕ → PairRows → List Observed → Type 0
 IsPairData ss p observed = AreData ss (p ∷ []) (observed ∷ [])
 
--- z has one entry for each free arc and phase, and there is one move for each pair. For all data every other such vector, of whole
--- numbers of any size, with any list of rational baselines, one for each pair, has a greater sum of squares than z with these moves
-pub record IsStrictlyBest (arcs : List Arc) (ss : List ℕ) (pairs : List PairRows) (z : List ℤ) (moves : List (List ℤ)) : Type 0 where
+-- z has one entry for each free arc and phase, and there is one move for each pair. For all data the sum of squares of z with these
+-- moves is below that of every other such vector, of whole numbers of any size, with any list of rational baselines, one for each pair
+pub record IsBestBy (Below : Rational → Rational → Type 0) (arcs : List Arc) (ss : List ℕ) (pairs : List PairRows)
+    (z : List ℤ) (moves : List (List ℤ)) : Type 0 where
   pub entries : length z ≡ integer_count arcs ss
   pub move_each : length moves ≡ length pairs
-  pub best : IsTrackBest (pair_sum arcs ss) (IsPairData ss) pairs z (map moved moves)
+  pub best : IsTrackBestBy Below (pair_sum arcs ss) (IsPairData ss) pairs z (map moved moves)
 
--- the same, where each such sum of squares is greater by a ratio in thousandths
-pub record IsBestByRatio (ratio : ℕ) (arcs : List Arc) (ss : List ℕ) (pairs : List PairRows) (z : List ℤ) (moves : List (List ℤ)) : Type 0 where
-  pub entries : length z ≡ integer_count arcs ss
-  pub move_each : length moves ≡ length pairs
-  pub best : IsTrackBestByRatio ratio (pair_sum arcs ss) (IsPairData ss) pairs z (map moved moves)
+-- strictly best: it is less
+abbrev pub IsStrictlyBest : List Arc → List ℕ → List PairRows → List ℤ → List (List ℤ) → Type 0
+IsStrictlyBest = IsBestBy ◌<ʳ◌
+
+-- best by the ratio: it is less by the ratio
+abbrev pub IsBestByRatio : ℕ → List Arc → List ℕ → List PairRows → List ℤ → List (List ℤ) → Type 0
+IsBestByRatio ratio = IsBestBy (IsLessByRatio ratio)

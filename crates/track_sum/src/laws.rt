@@ -4,7 +4,7 @@ ghost use Rattle.std.specs.List.{AllZip};
 ghost use Rattle.rational.specs.Rational.{Rational, of_whole, ◌*ʳ◌, ◌≤ʳ◌, ◌<ʳ◌};
 ghost use Rattle.whole_math.specs.Vectors.{len};
 ghost use Rattle.quadratic_form.specs.Rows.{value};
-ghost use Rattle.quadratic_form.specs.RationalData.{sum_of_rationals};
+ghost use Rattle.rational.specs.Spread.{sum_of_rationals};
 ghost use Rattle.quadratic_form.specs.TwoLeast.{TwoLeast};
 ghost use Rattle.fix_decide.specs.Decisions.{IsSeparated};
 ghost use Rattle.obs_rows.specs.declared.arcs.Arc.{Arc};

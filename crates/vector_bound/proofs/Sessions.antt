@@ -12,7 +12,7 @@ use Rattle.rational.proofs.Laws.{≤ʳ_trans}
 use Rattle.quadratic_form.specs.Places.{list_from}
 use Rattle.quadratic_form.specs.MatrixEntries.{matrix_entry}
 use Rattle.quadratic_form.specs.Rows.{SignalGroup, radii, columns_at}
-use Rattle.quadratic_form.specs.RationalData.{Baseline}
+use Rattle.rational.specs.Spread.{Baseline}
 use Rattle.quadratic_form.specs.UpperSum.{size}
 use Rattle.quadratic_form.proofs.Places.{list_same}
 use Rattle.form_tables.specs.Tables.{entry}

@@ -6,7 +6,7 @@ use Rattle.whole_math.specs.Vectors.{dot}
 use Rattle.rational.specs.Rational.{Rational, ◌≤ʳ◌, AreWithin}
 use Rattle.quadratic_form.specs.Places.{list_from}
 use Rattle.quadratic_form.specs.Rows.{columns_at}
-use Rattle.quadratic_form.specs.RationalData.{Baseline}
+use Rattle.rational.specs.Spread.{Baseline}
 use Rattle.quadratic_form.specs.UpperSum.{size}
 use Rattle.form_tables.specs.Tables.{entry}
 use Rattle.obs_rows.specs.declared.arcs.Arc.{Arc}

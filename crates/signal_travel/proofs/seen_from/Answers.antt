@@ -1,5 +1,6 @@
 use Rattle.std.proofs.Common.{subst}
-use Rattle.orbit_model.specs.SeenPlaces.{Place, point_of, HasSeenPlace}
+use Rattle.orbit_model.specs.SeenPlaces.{Place, point_of}
+use Rattle.orbit_model.specs.Places.{HasSeenPlace}
 use Rattle.orbit_model.proofs.Exists.{seen_place_exists}
 use Rattle.signal_travel.proofs.Handed.{same_point, held}
 use Rattle.signal_travel.proofs.Sights.{point_place}

@@ -51,11 +51,11 @@ returns-in-Ok-decide-clause-decision c =
     (λ h. subst (λ (x : TwoBest). IsSeparated (pos c.args.ratio) decision.top x.p2) (sym same) (c.in-Ok-decide.ensures.fixed.0 h))
     (λ h. c.in-Ok-decide.ensures.fixed.1 (subst (λ (x : TwoBest). IsSeparated (pos c.args.ratio) decision.top x.p2) same h))
 
-pub returns-in-Ok-decide-clause-strictly_best : goal.returns-in-Ok-decide-clause-strictly_best
-returns-in-Ok-decide-clause-strictly_best c =
+pub returns-in-Ok-decide-clause-by_ratio : goal.returns-in-Ok-decide-clause-by_ratio
+returns-in-Ok-decide-clause-by_ratio c =
     let decision = c.in-Ok-decide.decision in
-    told_best c.args.session.now c.args.form.now.h decision.moved decision.best c.in-Ok.best (to_z w128 (of_z w128 decision.top)) decision.fixed c.of_vectors.result
-    c.of_vectors.ensures.value c.in-Ok-decide.ensures.best c.in-Ok-decide.ensures.strictly_best
+    told_best c.args.session.now c.args.ratio c.args.form.now.h decision.moved decision.best c.in-Ok.best (to_z w128 (of_z w128 decision.top)) decision.fixed c.of_vectors.result
+    c.of_vectors.ensures.value c.in-Ok-decide.ensures.best c.in-Ok-decide.ensures.by_ratio
 
 pub returns-in-Ok-decide-clause-fits : goal.returns-in-Ok-decide-clause-fits
 returns-in-Ok-decide-clause-fits c =

@@ -1,5 +1,6 @@
 use Rattle.std.proofs.Common.{◌≡◌, ℕ, List, ◌++◌, ap, ◌∙◌}
 use Rattle.cert_data.specs.declared.certs.Cert.{Cert}
+use Rattle.cert_check.proofs.Checked.{strictly_where_fixed}
 use Rattle.cert_spelling.specs.Spelling.{spelling}
 use Rattle.job_answers.specs.Endings.{ending}
 use Rattle.cert_jobs.proofs.migrations.answer_migrate.Goals as goal
@@ -18,7 +19,7 @@ returns-clause-answer c =
         session = law.session;
         tail = law.tail;
         only = law.only;
-        new_best = law.new_best;
+        new_best = strictly_where_fixed cert.ratio cert.session cert.tail cert.ratio_from law.new_by_ratio;
         new_by_ratio = law.new_by_ratio;
         boxes = law.boxes;
         sums = law.sums;

@@ -1,11 +1,9 @@
 use Rattle.std.proofs.Common.{◌++◌, ◌∙◌, ◌≤◌, ℕ, List, pos, ap, ap₂, subst, arith}
 use Rattle.std.proofs.lemmas.Int.{ints}
 use Rattle.std.specs.Int.{abs_diff}
-use Rattle.orbit_model.specs.Elements.{Constants, sent_at}
-use Rattle.orbit_model.specs.Solution.{Quantities, IsNearSolution}
-use Rattle.orbit_exists.specs.Usable.{HasNearSolution}
+use Rattle.orbit_model.specs.Elements.{Constants, sent_at, elements_of}
+use Rattle.orbit_model.specs.Solution.{Quantities, IsNearSolution, HasNearSolution}
 use Rattle.orbit_exists.proofs.Ranges.{near}
-use Rattle.orbit_clock.specs.Records.{elements_of}
 use Rattle.sv_orbit.specs.Solutions.{HoldsSolution}
 use Rattle.report_text.specs.Orbit.{orbit_lines}
 use Rattle.report_text.proofs.OrbitLaws.{numbers_hold, numbers_narrow}

@@ -4,7 +4,6 @@ use Rattle.std.proofs.lemmas.Int.{ints}
 use Rattle.std.proofs.lemmas.Result.{err_from_is_err_and}
 use Rattle.std.specs.Int.{w128}
 use Rattle.std.specs.Prelude.{IsErrAnd}
-use Rattle.whole_math.proofs.Order.{le_pos}
 use Rattle.obs_rows.specs.Ranges.{IsBelow}
 use Rattle.obs_rows.specs.Signals.{fine_signals}
 use Rattle.integer_form.specs.declared.faults.Overwidth.{Overwidth}
@@ -66,8 +65,8 @@ pub returns-clause-strictly_best : goal.returns-clause-strictly_best
 returns-clause-strictly_best c =
     let top = c.in_ok-top.ensures in
     let fits : FitsSigned w128 c.args.best.now.p2 = search rules in
-    λ yes. strictly_best c.args.session.now c.args.form.now c.args.best.now (pos c.args.ratio) c.in_ok-top.top c.in_ok-moved.moved c.requires.fine c.requires.form c.requires.best top.value
-    (le_pos 1000 c.args.ratio c.requires.ratio_from) top.from
+    λ yes. strictly_best c.args.session.now c.args.form.now c.args.best.now c.args.ratio c.in_ok-top.top c.in_ok-moved.moved c.requires.fine c.requires.form c.requires.best top.value
+    c.requires.ratio_from
     (in_words (pos c.args.ratio) c.in_ok-top.top c.args.best.now.p2 top.from top.to fits (c.is_separated.ensures.0 yes))
 
 pub returns-clause-float : goal.returns-clause-float

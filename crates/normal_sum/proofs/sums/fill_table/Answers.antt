@@ -9,7 +9,7 @@ use Rattle.obs_rows.specs.declared.arcs.Arc.{Arc}
 use Rattle.obs_rows.specs.declared.pair_rows.PairRows.{PairRows}
 use Rattle.obs_rows.specs.declared.units.TheConstants.{MOST_FREE_ARCS}
 use Rattle.obs_rows.specs.Arcs.{free_count}
-use Rattle.obs_rows.specs.Signals.{AreCounted}
+use Rattle.obs_rows.specs.CountedSignals.{AreCounted}
 use Rattle.obs_rows.specs.Pairs.{HasItsArcs}
 use Rattle.form_tables.specs.declared.sizes.TheConstants.{MOST_COLUMNS}
 use Rattle.form_tables.specs.Tables.{entry, HasShape}

@@ -4,8 +4,7 @@ use Rattle.std.specs.Int.{w64}
 use Rattle.rational.specs.Rational.{◌-ʳ◌}
 use Rattle.iv_core.specs.declared.Iv.{Iv}
 use Rattle.iv_core.specs.Intervals.{Holds}
-use Rattle.orbit_model.specs.Elements.{sent_at}
-use Rattle.orbit_clock.specs.Records.{seconds}
+use Rattle.orbit_model.specs.Elements.{sent_at, seconds}
 use Rattle.orbit_clock.specs.Terms.{part}
 use Rattle.orbit_clock.proofs.correction.offset_of.Goals as goal
 

@@ -2,8 +2,7 @@ use Rattle.std.proofs.Common.{ℤ, pos, ◌-ℤ◌, ◌*ℤ◌, refl, ap, ◌∙
 use Rattle.std.proofs.lemmas.Int.{to_z-of_z}
 use Rattle.std.specs.Int.{w64, w128}
 use Rattle.rational.specs.Rational.{◌-ʳ◌}
-use Rattle.orbit_model.specs.Elements.{sent_at}
-use Rattle.orbit_clock.specs.Records.{seconds}
+use Rattle.orbit_model.specs.Elements.{sent_at, seconds}
 use Rattle.orbit_clock.specs.Terms.{part}
 use Rattle.orbit_clock.proofs.Values.{sent_ratio}
 use Rattle.orbit_clock.proofs.correction.time_since.Goals as goal

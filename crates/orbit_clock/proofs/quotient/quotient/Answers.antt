@@ -4,7 +4,8 @@ use Rattle.std.proofs.lemmas.Int.{to_z-of_z}
 use Rattle.std.proofs.lemmas.Result.{IfOk-at_ok}
 use Rattle.std.specs.Int.{w128}
 use Rattle.whole_math.specs.Rounding.{floor_div, ceil_div}
-use Rattle.rational.specs.Rational.{Rational, IsRatio}
+use Rattle.rational.specs.Rational.{Rational}
+use Rattle.rational.specs.Boxes.{IsRatio}
 use Rattle.iv_core.specs.declared.Iv.{Iv}
 use Rattle.iv_core.specs.Intervals.{Holds, width_of}
 use Rattle.iv_core.proofs.BoxLaws.{ok_of}

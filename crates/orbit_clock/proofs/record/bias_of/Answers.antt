@@ -3,7 +3,8 @@ use Rattle.std.proofs.lemmas.Int.{to_z-of_z}
 use Rattle.std.specs.Int.{w64}
 use Rattle.whole_math.proofs.Ring.{va, ko, ◌⊕◌, ◌⊗◌, ng}
 use Rattle.whole_math.proofs.Order.{le_pos}
-use Rattle.rational.specs.Rational.{Rational, ◌≈◌, of_whole, of_scale, two_to_minus, ◌+ʳ◌, ◌*ʳ◌}
+use Rattle.rational.specs.Rational.{Rational, ◌≈◌, of_whole, two_to_minus, ◌+ʳ◌, ◌*ʳ◌}
+use Rattle.rational.specs.Boxes.{of_scale}
 use Rattle.rational.proofs.Boxes.{InBox-along}
 use Rattle.rational.proofs.Orders.{equal_r, ◌≐◌}
 use Rattle.rational.proofs.Sizes.{size_mul, size_looser}

@@ -3,7 +3,8 @@ use Rattle.std.proofs.lemmas.Int.{ints}
 use Rattle.whole_math.proofs.Ring.{va, ◌⊕◌, ◌⊖◌, ng}
 use Rattle.whole_math.proofs.Order.{le_pos}
 use Rattle.whole_math.proofs.Certificates.{◌≼◌, hy}
-use Rattle.rational.specs.Rational.{Rational, InBox, ◌+ʳ◌, of_scale, IsAtMostInSize, AreWithin}
+use Rattle.rational.specs.Rational.{Rational, ◌+ʳ◌, IsAtMostInSize, AreWithin, InBox}
+use Rattle.rational.specs.Boxes.{of_scale}
 use Rattle.rational.proofs.Orders.{order_r}
 use Rattle.rational.proofs.Ends.{box_of_near}
 use Rattle.iv_core.specs.declared.Iv.{Iv}

@@ -2,10 +2,11 @@
 use Rattle.std.proofs.Common.{ℤ, subst}
 use Rattle.std.proofs.lemmas.Int.{to_z-of_z}
 use Rattle.std.specs.Int.{w64}
-use Rattle.rational.specs.Rational.{Rational, ◌*ʳ◌, ◌-ʳ◌, times, of_scale, two_to_minus, IsNearBox}
+use Rattle.rational.specs.Rational.{Rational, ◌*ʳ◌, ◌-ʳ◌, times, two_to_minus}
+use Rattle.rational.specs.Boxes.{of_scale, IsNearBox}
 use Rattle.iv_core.specs.Intervals.{Holds}
 use Rattle.eph_store.specs.Decimals.{decimal, value_of}
-use Rattle.orbit_clock.specs.Records.{seconds}
+use Rattle.orbit_model.specs.Elements.{seconds}
 use Rattle.orbit_clock.specs.Terms.{part}
 use Rattle.orbit_clock.proofs.NearMean.{mean_at, mean_near}
 use Rattle.orbit_clock.proofs.timing.effect_of.Goals as goal

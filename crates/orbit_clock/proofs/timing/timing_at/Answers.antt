@@ -3,14 +3,15 @@ use Rattle.std.proofs.Common.{ℤ, pos, subst, lit≤}
 use Rattle.std.proofs.lemmas.Int.{to_z-of_z}
 use Rattle.std.specs.Int.{w64}
 use Rattle.whole_math.proofs.Order.{le_pos}
-use Rattle.rational.specs.Rational.{Rational, ◌+ʳ◌, ◌*ʳ◌, ◌-ʳ◌, times, of_whole, of_scale, two_to_minus}
+use Rattle.rational.specs.Rational.{Rational, ◌+ʳ◌, ◌*ʳ◌, ◌-ʳ◌, times, of_whole, two_to_minus}
+use Rattle.rational.specs.Boxes.{of_scale}
 use Rattle.rational.proofs.Boxes.{InBox-along}
 use Rattle.rational.proofs.Sizes.{size_looser}
 use Rattle.iv_core.specs.Intervals.{Holds}
 use Rattle.eph_store.specs.Decimals.{decimal}
-use Rattle.orbit_model.specs.Elements.{Elements, sent_at}
+use Rattle.orbit_model.specs.Elements.{Elements, sent_at, elements_of}
 use Rattle.orbit_model.specs.Solution.{with_share}
-use Rattle.orbit_clock.specs.Records.{elements_of, constants_of}
+use Rattle.orbit_clock.specs.Records.{constants_of}
 use Rattle.orbit_clock.specs.Terms.{part, HoldsTerms, correction}
 use Rattle.orbit_clock.proofs.FirstBounds.{clock_small, sent_size, effect_size}
 use Rattle.orbit_clock.proofs.NearMean.{clock_is, epoch_time_is, mean_is}

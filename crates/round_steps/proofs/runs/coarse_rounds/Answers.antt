@@ -6,7 +6,8 @@ use Rattle.obs_rows.specs.Signals.{fine_signals}
 use Rattle.obs_rows.specs.Unused.{HasUsedShifts}
 use Rattle.round_steps.specs.Shifts.{without_shifts}
 use Rattle.round_steps.specs.Steps.{IsCoarseStep, IsSettledForm, IsMoved}
-use Rattle.round_steps.specs.Runs.{Rules, IsSessionOf, coarse, most_rounds}
+use Rattle.round_steps.specs.Runs.{Rules, IsSessionOf, most_rounds}
+use Rattle.obs_rows.specs.Rounds.{coarse}
 use Rattle.round_steps.proofs.RunLaws.{session_at, one_more, coarse_begins, coarse_settles, coarse_declines, coarse_moves}
 use Rattle.round_steps.proofs.SameRules.{stays, stays_on, same_session}
 use Rattle.round_steps.proofs.runs.coarse_rounds.Goals as goal

@@ -5,8 +5,9 @@ use Rattle.obs_rows.specs.Signals.{fine_signals}
 use Rattle.obs_rows.specs.Unused.{HasUsedShifts}
 use Rattle.round_steps.specs.Shifts.{AreGrown, AreShiftsBelow}
 use Rattle.round_steps.specs.Steps.{IsStep, IsSettledForm, IsMoved}
-use Rattle.round_steps.specs.Runs.{Rules, IsSessionOf, IsSessionAt, fine, most_rounds}
-use Rattle.round_steps.proofs.StepLaws.{narrow_numbers}
+use Rattle.round_steps.specs.Runs.{Rules, IsSessionOf, IsSessionAt, most_rounds}
+use Rattle.obs_rows.specs.Rounds.{fine}
+use Rattle.round_steps.proofs.StepLaws.{narrow_numbers, declined_best}
 use Rattle.round_steps.proofs.ShiftLaws.{wider_shifts}
 use Rattle.round_steps.proofs.RunLaws.{session_at, fine_begins, fine_at_y, fine_decides, fine_declines, fine_moves}
 use Rattle.round_steps.proofs.SameRules.{stays, stays_on, same_session}
@@ -103,3 +104,6 @@ rounds-preserved g c =
 
 pub returns-in-Err-clause-fits : goal.returns-in-Err-clause-fits
 returns-in-Err-clause-fits g c = c.in-Err.ensures.fits (fine_signals c.in-Some.session.signals) c.args.budget
+
+pub returns-in-Err-clause-by_ratio : goal.returns-in-Err-clause-by_ratio
+returns-in-Err-clause-by_ratio g c = declined_best (nat_eq c.rounds.fine (most_rounds 0)) c.args.ratio c.in-Some.session c.in-Err.tail c.in-Err.ensures.declined

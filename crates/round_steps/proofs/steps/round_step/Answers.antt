@@ -4,7 +4,7 @@ use Rattle.std.proofs.lemmas.Result.{err_from_is_err_and}
 use Rattle.obs_rows.specs.ReceiverPoints.{IsReceiverPoint}
 use Rattle.round_steps.specs.Limits.{IsFirstOver}
 use Rattle.round_steps.specs.Steps.{IsFloatOf}
-use Rattle.round_steps.proofs.StepLaws.{entry_word, declined_fits, declined_best}
+use Rattle.round_steps.proofs.StepLaws.{entry_word, declined_fits}
 use Rattle.round_steps.proofs.steps.round_step.Goals as goal
 
 pub returns-then-last-clause-declined : goal.returns-then-last-clause-declined
@@ -61,8 +61,3 @@ pub returns-in_err-solved-clause-fits : goal.returns-in_err-solved-clause-fits
 returns-in_err-solved-clause-fits c =
     let err_parts = err_from_is_err_and c.from_residual.result c.from_residual.ensures.1 in
     rw (err_parts.1, err_parts.2) (declined_fits c.args.last c.args.session.now c.in_err-solved.field-0.0 (c.in_err-solved.ensures.refused c.args.last))
-
-pub returns-in_err-solved-clause-never_fixed : goal.returns-in_err-solved-clause-never_fixed
-returns-in_err-solved-clause-never_fixed c =
-    let err_parts = err_from_is_err_and c.from_residual.result c.from_residual.ensures.1 in
-    rw (err_parts.1, err_parts.2) (declined_best c.args.last c.args.session.now c.in_err-solved.field-0.0 (c.in_err-solved.ensures.refused c.args.last))

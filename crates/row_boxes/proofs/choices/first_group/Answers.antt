@@ -6,8 +6,8 @@ use Rattle.rational.specs.Rational.{of_whole, ◌-ʳ◌, InBox}
 use Rattle.rational.proofs.Boxes.{InBox-along, Near-along}
 use Rattle.orbit_model.specs.SeenPlaces.{range_of}
 use Rattle.obs_rows.specs.Signals.{wavelength}
-use Rattle.row_boxes.specs.Terms.{prefit_width, pseudorange, in_row_unit, iota_exponent}
-use Rattle.row_boxes.specs.Sightings.{Sighting, y_of, y_in_rows}
+use Rattle.row_boxes.specs.Terms.{prefit_width, pseudorange, iota_exponent}
+use Rattle.row_boxes.specs.Sightings.{in_row_unit, Sighting, y_of, y_in_rows}
 use Rattle.row_boxes.specs.YBoxes.{Pairing, AreSightings, HoldsBoth, IsWithinHalf, IsAllowedGroup}
 use Rattle.row_boxes.proofs.Ends.{plain_size}
 use Rattle.row_boxes.proofs.Boxes.{AreYEnds, middle_ends, y_holds, y_radius, y_meets}

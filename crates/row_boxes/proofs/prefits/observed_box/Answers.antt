@@ -6,7 +6,8 @@ use Rattle.rational.specs.Rational.{InBox}
 use Rattle.obs_rows.specs.Signals.{wavelength, is_phase}
 use Rattle.row_boxes.specs.declared.pseudoranges.TheConstants.{HALF_LIGHT_SPEED}
 use Rattle.row_boxes.specs.declared.prefits.TheConstants.{MILLIMETRE_UNITS}
-use Rattle.row_boxes.specs.Terms.{observed, iota_exponent}
+use Rattle.row_boxes.specs.Terms.{iota_exponent}
+use Rattle.row_boxes.specs.Sightings.{observed}
 use Rattle.row_boxes.proofs.Boxes.{observed_code}
 use Rattle.row_boxes.proofs.prefits.observed_box.Goals as goal
 use Rattle.obs_rows.specs.declared.units.TheConstants.{SIGNALS}

@@ -1,10 +1,11 @@
 use Rattle.std.proofs.Common.{◌≡◌, List, [], ◌∷◌, ℤ, length, get_or, pos, arith, sym, subst}
 use Rattle.whole_math.proofs.Lists.{three_items}
-use Rattle.rational.specs.Rational.{of_scale}
+use Rattle.rational.specs.Boxes.{of_scale}
 use Rattle.iv_core.specs.declared.Iv.{Iv}
 use Rattle.iv_core.specs.Intervals.{Holds}
 use Rattle.iv_core.proofs.BoxLaws.{low_held}
-use Rattle.orbit_model.specs.SeenPlaces.{Place, HasSeenPlace, IsReceiverPlace, HoldsPlace, place_at}
+use Rattle.orbit_model.specs.SeenPlaces.{Place, place_at}
+use Rattle.orbit_model.specs.Places.{HasSeenPlace, IsReceiverPlace, HoldsPlace}
 use Rattle.orbit_model.proofs.Exists.{seen_place_exists}
 use Rattle.obs_rows.specs.ReceiverPoints.{IsReceiverPoint}
 use Rattle.signal_travel.proofs.Sights.{receiver_place}

@@ -6,8 +6,8 @@ use Rattle.rational.proofs.Boxes.{Near-along}
 use Rattle.orbit_model.specs.SeenPlaces.{range_of}
 use Rattle.obs_rows.specs.Signals.{wavelength, band}
 use Rattle.obs_rows.specs.Data.{number_at}
-use Rattle.row_boxes.specs.Terms.{pseudorange, in_row_unit, iota_exponent}
-use Rattle.row_boxes.specs.Sightings.{y_in_rows}
+use Rattle.row_boxes.specs.Terms.{pseudorange, iota_exponent}
+use Rattle.row_boxes.specs.Sightings.{in_row_unit, y_in_rows}
 use Rattle.row_boxes.proofs.Ends.{read_small}
 use Rattle.row_boxes.proofs.Ys.{less_pseudoranges, y_in_rows_is}
 use Rattle.row_boxes.proofs.terms.y_of_signal.Goals as goal

@@ -2,7 +2,8 @@ use Rattle.std.proofs.Common.{ℕ, List, IsTrue, ℤ, sym, subst}
 use Rattle.std.proofs.lemmas.Int.{to_z-of_z}
 use Rattle.std.specs.Int.{w64}
 use Rattle.obs_rows.specs.Data.{number_at}
-use Rattle.obs_rows.specs.Signals.{wavelength, band, phase_bands}
+use Rattle.obs_rows.specs.Signals.{wavelength, band}
+use Rattle.obs_rows.specs.CountedSignals.{phase_bands}
 use Rattle.obs_rows.specs.Unused.{IsZeroOff}
 use Rattle.row_boxes.specs.Sightings.{y_of}
 use Rattle.row_boxes.specs.YBoxes.{IsWithinHalf}

@@ -1,7 +1,8 @@
 use Rattle.std.proofs.Common.{◌≡◌, List, [], ◌∷◌, ℤ, pos, length, get_or, arith, refl, sym, ◌∙◌}
 use Rattle.whole_math.proofs.Lists.{three_items}
 use Rattle.iv_core.specs.declared.Iv.{Iv}
-use Rattle.orbit_model.specs.SeenPlaces.{Place, point_of, HasSeenPlace, IsAboveMask, IsBelowMask, HoldsPlace, place_at}
+use Rattle.orbit_model.specs.SeenPlaces.{Place, point_of, IsAboveMask, IsBelowMask, place_at}
+use Rattle.orbit_model.specs.Places.{HasSeenPlace, HoldsPlace}
 use Rattle.screening.specs.Sightings.{Setting, Sighting, IsSighting, WasSent, setting_with, code_of}
 use Rattle.screening.proofs.ChosenOnce.{none_chosen}
 use Rattle.screening.proofs.SightLaws.{match_none, match_some, if_some, code_range, from_record, sees_sent, was_sent, base_near, rover_near, left_out_as, sees_near}

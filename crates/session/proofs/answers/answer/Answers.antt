@@ -47,5 +47,5 @@ run-requires-clause-ready g c = c.requires.ready (record {
   not_many = λ many. false≢true (c.if-are_many.ensures.1 (subst AreMany (sym c.requires.begins.arcs_are) many));
 })
 
-pub returns-in-Full-clause-strictly_best : goal.returns-in-Full-clause-strictly_best
-returns-in-Full-clause-strictly_best g c = subst IsBestEnd c.in-Full.is c.in_ok-made.ensures.strictly_best
+pub returns-in-Full-clause-by_ratio : goal.returns-in-Full-clause-by_ratio
+returns-in-Full-clause-by_ratio g c = subst (IsBestEnd c.args.options.now.ratio) c.in-Full.is c.in_ok-made.ensures.by_ratio

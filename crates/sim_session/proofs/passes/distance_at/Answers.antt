@@ -1,8 +1,8 @@
 use Rattle.std.proofs.Common.{◌≡◌, List, [], ◌∷◌, ℤ, pos, length, get_or, refl, arith, sym, subst}
 use Rattle.whole_math.proofs.Lists.{three_items}
-use Rattle.orbit_model.specs.Elements.{sent_at}
+use Rattle.orbit_model.specs.Elements.{sent_at, elements_of}
 use Rattle.orbit_model.specs.Solution.{Quantities, IsNearSolution}
-use Rattle.orbit_clock.specs.Records.{constants_of, elements_of}
+use Rattle.orbit_clock.specs.Records.{constants_of}
 use Rattle.orbit_model.specs.SeenPlaces.{range_of, sent_place}
 use Rattle.orbit_exists.proofs.Ranges.{near}
 use Rattle.sim_session.specs.Observed.{distance}

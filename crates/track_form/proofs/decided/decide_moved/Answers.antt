@@ -52,8 +52,8 @@ returns-in-Ok c =
     (to_z w128 (of_z w128 c.in-Ok.top)) (to_z w128 (of_z w128 best.p2)) c.is_separated-fixed.result c.of_vectors.result
     track.arcs_in.some_free c.requires.form.1.0 c.requires.best c.requires.form.1.1 c.requires.narrow upper_stands.bounded upper_stands.value upper_stands.from upper_stands.to c.as_slice.ensures.value c.new.ensures
     (top_word c.in-Ok.top upper_stands.from upper_stands.to) (to_z-of_z w128 best.p2 fits) c.of_vectors.ensures.value
-    c.is_separated-fixed.ensures.0 c.is_separated-fixed.ensures.1 c.values_from.ensures c.requires.ratio_from in
-    record { decision = told.decision; strictly_best = told.strictly_best; fits = told.fits }
+    c.is_separated-fixed.ensures.0 c.is_separated-fixed.ensures.1 c.values_from.ensures in
+    record { decision = told.decision; by_ratio = told.by_ratio; fits = told.fits }
 
 pub returns-in-Err-clause-decision : goal.returns-in-Err-clause-decision
 returns-in-Err-clause-decision c =

@@ -86,12 +86,12 @@ returns-in-Ok-two_best-clause-only c =
     IfOk-weaker c.decide_best.result (λ x. (n : ℕ) → IsSearchedIn c.in-Ok.made.form n c.in-Ok-two_best.best → is_decision n x) (λ x. (u : TrackTail) → is_decision c.args.budget u → IsSameTail u x)
     (λ x h u is. one_decision track.arcs signals track.pairs c.args.ratio c.args.budget u x is (h c.args.budget (c.in-Ok-two_best.ensures.visits, c.in-Ok-two_best.ensures.end))) c.decide_best.ensures.decision
 
-pub returns-in-Ok-two_best-clause-strictly_best : goal.returns-in-Ok-two_best-clause-strictly_best
-returns-in-Ok-two_best-clause-strictly_best c =
+pub returns-in-Ok-two_best-clause-by_ratio : goal.returns-in-Ok-two_best-clause-by_ratio
+returns-in-Ok-two_best-clause-by_ratio c =
     let track = c.args.track.now in
-    let is_best : TrackTail → Type 0 = IsTrackBestWhereFixed track.arcs (fine_signals track.signals) track.pairs in
+    let is_best : TrackTail → Type 0 = IsTrackBestWhereFixed c.args.ratio track.arcs (fine_signals track.signals) track.pairs in
     IfOk-weaker c.decide_best.result (λ x. (n : ℕ) → IsSearchedIn c.in-Ok.made.form n c.in-Ok-two_best.best → is_best x) is_best (λ x h. h c.args.budget (c.in-Ok-two_best.ensures.visits, c.in-Ok-two_best.ensures.end))
-    c.decide_best.ensures.strictly_best
+    c.decide_best.ensures.by_ratio
 
 -- ---- no answer of the search
 pub returns-in-Err-Spent-clause-decision : goal.returns-in-Err-Spent-clause-decision

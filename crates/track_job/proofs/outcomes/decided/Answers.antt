@@ -21,7 +21,7 @@ returns c = λ screened kept position signals on is. (
       fronts = tracked_fronts screened kept position signals c.args.options.now.system c.args.tracked is;
       decision = c.in_ok-tail.ensures.decision;
       only = c.in_ok-tail.ensures.only;
-      best = c.in_ok-tail.ensures.strictly_best;
+      by_ratio = c.in_ok-tail.ensures.by_ratio;
     },
   ),
 )

@@ -6,7 +6,8 @@ use Rattle.obs_rows.specs.declared.arcs.Arc.{Arc}
 use Rattle.obs_rows.specs.declared.pair_rows.PairRows.{PairRows}
 use Rattle.obs_rows.specs.declared.units.TheConstants.{MOST_FREE_ARCS}
 use Rattle.obs_rows.specs.Arcs.{free_count}
-use Rattle.obs_rows.specs.Signals.{AreCounted, fine_signals}
+use Rattle.obs_rows.specs.Signals.{fine_signals}
+use Rattle.obs_rows.specs.CountedSignals.{AreCounted}
 use Rattle.obs_rows.specs.Integers.{integer_count}
 use Rattle.form_tables.specs.Tables.{entry}
 use Rattle.normal_sum.proofs.PlaceLaws.{count_within}

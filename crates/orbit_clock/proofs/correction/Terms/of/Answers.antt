@@ -3,8 +3,7 @@ use Rattle.std.proofs.lemmas.Int.{to_z-of_z}
 use Rattle.std.specs.Int.{w64}
 use Rattle.rational.specs.Rational.{◌-ʳ◌}
 use Rattle.iv_core.specs.Intervals.{Holds}
-use Rattle.orbit_model.specs.Elements.{sent_at}
-use Rattle.orbit_clock.specs.Records.{seconds}
+use Rattle.orbit_model.specs.Elements.{sent_at, seconds}
 use Rattle.orbit_clock.specs.Terms.{part}
 use Rattle.orbit_clock.proofs.correction.Terms.of.Goals as goal
 

@@ -14,7 +14,7 @@ returns-clause-answered c =
       verdict = written.verdict;
       answer = record {
         outcome = outcome;
-        holds = outcome_for files.base files.rover files.nav c.args.options.now outcome outcome_holds c.in_ok-outcome.ensures.strictly_best;
+        holds = outcome_for files.base files.rover files.nav c.args.options.now outcome outcome_holds c.in_ok-outcome.ensures.by_ratio;
         whole = written.whole;
         end_is = written.ended;
       };

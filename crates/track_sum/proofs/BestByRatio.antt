@@ -1,11 +1,11 @@
 -- Where a track's second value is far enough above the upper sum, the least integers with the moves are best by the ratio.
-use Rattle.std.proofs.Common.{◌≡◌, ℕ, ◌+◌, ◌-◌, ◌≤◌, List, [], ◌∷◌, length, map, get_or, All, ℤ, pos, ◌+ℤ◌, ◌≤ℤ◌, arith, sym, ap, ap₂, ◌∙◌, subst}
+use Rattle.std.proofs.Common.{◌≡◌, ℕ, ◌+◌, ◌-◌, ◌≤◌, List, [], ◌∷◌, length, map, get_or, All, ℤ, pos, ◌+ℤ◌, arith, sym, ap, ap₂, ◌∙◌, subst}
 use Rattle.std.specs.List.{AllZip}
 use Rattle.std.proofs.lemmas.Slice.Zip.{AllZip-long}
 use Rattle.std.proofs.Math.IntN.{+ℤ_idr}
 use Rattle.whole_math.specs.Vectors.{len}
 use Rattle.whole_math.proofs.Vectors.{len_is}
-use Rattle.whole_math.proofs.Order.{lins, le_pos}
+use Rattle.whole_math.proofs.Order.{lins}
 use Rattle.quadratic_form.specs.Forms.{Column}
 use Rattle.quadratic_form.specs.Elimination.{form_small, steps}
 use Rattle.quadratic_form.specs.Rows.{value}
@@ -28,13 +28,12 @@ use Rattle.fix_decide.specs.UpperSums.{pair_upper}
 use Rattle.fix_decide.specs.Widths.{IsWide}
 use Rattle.fix_decide.specs.Decisions.{IsSeparated, first_of, second_of}
 use Rattle.fix_decide.proofs.UpperLaws.{stays_at_most}
-use Rattle.fix_decide.proofs.DecisionLaws.{room}
 use Rattle.fix_decide.proofs.SessionForms.{taken}
 use Rattle.track_sum.specs.Fronts.{Front, track_form, track_top}
 use Rattle.track_sum.specs.Best.{IsBoundedBy, AreBoundedAbove}
 use Rattle.track_sum.specs.PairFronts.{IsFrontOfPair, AreFronts, brief}
-use Rattle.track_sum.specs.Decided.{IsSumOfFronts, AreFound, pair_uppers, pair_sum, IsPairData, IsStrictlyBest, IsBestByRatio}
-use Rattle.track_sum.proofs.Best.{best_by_ratio, best_by_1000}
+use Rattle.track_sum.specs.Decided.{IsSumOfFronts, AreFound, pair_uppers, pair_sum, IsPairData, IsBestByRatio}
+use Rattle.track_sum.proofs.Best.{best_by_ratio}
 
 -- ---- one pair
 pair_bounded : (arcs : List Arc) (ss : List ℕ) (p : PairRows) (f : FrontForm) → IsFrontOfPair arcs ss p f → BoundsAllData arcs ss (p ∷ []) f.h (form_of_table f.p (f.columns - 3))
@@ -137,12 +136,3 @@ track_best_by_ratio arcs ss pairs ratio budget h moves best top found far = reco
     separated : IsSeparated (pos ratio) (track_top h us) (value (track_form n h (map brief found.fronts)) z2)
     separated = subst (λ (t : ℤ). IsSeparated (pos ratio) t (value (track_form n h (map brief found.fronts)) z2)) found.top_is
         (subst (λ (x : ℤ). IsSeparated (pos ratio) top x) (found.best_is.p2 ∙ ap (λ (a : List Column). value a z2) form_is) far)
-
--- and where the ratio is 1000 or more
-pub track_strictly_best : (arcs : List Arc) (ss : List ℕ) (pairs : List PairRows) (ratio budget h : ℕ) (moves : List (List ℤ)) (best : TwoBest) (top : ℤ) →
-    AreFound arcs ss pairs budget h moves best top →
-    1000 ≤ ratio → pos 0 ≤ℤ top → IsSeparated (pos ratio) top best.p2 → IsStrictlyBest arcs ss pairs (first_of best) moves
-track_strictly_best arcs ss pairs ratio budget h moves best top found large from far =
-    let by_ratio : IsBestByRatio 1000 arcs ss pairs (first_of best) moves =
-    track_best_by_ratio arcs ss pairs 1000 budget h moves best top found (room top (pos ratio) best.p2 (le_pos 1000 ratio large) from far) in
-    record { entries = by_ratio.entries; move_each = by_ratio.move_each; best = best_by_1000 (pair_sum arcs ss) (IsPairData ss) pairs (first_of best) (map moved moves) by_ratio.best }
