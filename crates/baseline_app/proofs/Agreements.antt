@@ -10,32 +10,32 @@ use Rattle.cert_data.specs.declared.tails.Tail.TheVariants.{Fixed, Unseparated, 
 use Rattle.cert_data.specs.declared.verdicts.Verdict.{Verdict}
 use Rattle.cert_data.specs.declared.verdicts.Verdict.TheVariants.{Certified, Not}
 use Rattle.cert_lines.specs.declared.version.Version.TheVariants.{Two}
-use Rattle.cert_spelling.specs.Spelling.{spelling}
-use Rattle.cert_spelling.specs.Lengths.{IsWhole}
+use Rattle.cert_text.specs.Spelling.{spelling}
+use Rattle.cert_text.specs.Lengths.{IsWhole}
 use Rattle.cert_text.proofs.SameSpelling.{spelling_same}
 use Rattle.cert_text.proofs.Versions.{of_two}
 use Rattle.cert_check.specs.RowDecisions.{IsRowDecision}
 use Rattle.cert_check.specs.Verdicts.{IsVerdictOf}
 use Rattle.cert_check.proofs.SameNumbers.{same_numbers}
 use Rattle.cert_check.proofs.MoreBudget.{certified_more}
-use Rattle.cert_report.specs.VerdictText.{verdict_text}
-use Rattle.cert_jobs.specs.CertJobs.{CheckEnd, status_of, check_job}
-use Rattle.cert_jobs.specs.Migrations.{status_of as migrated_status, migrate_job}
-use Rattle.outcome_report.specs.OutcomeText.{answer_text, IsWholeAnswer, is_fixed}
-use Rattle.run_options.specs.declared.options.Options.{Options}
+use Rattle.report_text.specs.VerdictText.{verdict_text}
+use Rattle.file_jobs.specs.CertJobs.{CheckEnd, status_of, check_job}
+use Rattle.file_jobs.specs.Migrations.{status_of as migrated_status, migrate_job}
+use Rattle.report_text.specs.OutcomeText.{answer_text, IsWholeAnswer, is_fixed}
+use Rattle.obs_rows.specs.declared.options.Options.{Options}
 use Rattle.job_answers.specs.declared.status.Status.{Status}
 use Rattle.job_answers.specs.declared.status.Status.TheVariants.{Done}
 use Rattle.job_answers.specs.Statuses.{verdict_status}
 use Rattle.job_answers.specs.Endings.{Ending, ending, IsTextOf}
 use Rattle.job_answers.specs.Delivered.{SinkChange}
 use Rattle.job_answers.specs.TextJobs.{SaysOfText}
-use Rattle.session_files.specs.SessionJobs.{SaysOfSession}
+use Rattle.job_answers.specs.SessionJobs.{SaysOfSession}
 use Rattle.session_jobs.specs.FixJobs.{AnswersFix}
 use Rattle.track_data.specs.declared.certs.TrackCert.{TrackCert}
 use Rattle.track_data.specs.declared.tails.TrackTail.{TrackTail}
 use Rattle.track_data.specs.declared.tracks.Track.{Track}
-use Rattle.track_spelling.specs.Spelling.{track_spelling}
-use Rattle.track_spelling.specs.Lengths.{IsWholeTrackCert}
+use Rattle.track_text.specs.Spelling.{track_spelling}
+use Rattle.track_text.specs.Lengths.{IsWholeTrackCert}
 use Rattle.track_text.proofs.SameTrack.{spelling_same as track_spelling_same}
 use Rattle.track_form.specs.Verdicts.{IsTrackVerdict}
 use Rattle.track_form.proofs.MoreBudget.{certified_more as track_certified_more}

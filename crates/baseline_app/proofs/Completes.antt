@@ -9,12 +9,12 @@ use Rattle.job_answers.specs.Endings.{Ending}
 use Rattle.job_answers.specs.Delivered.{SinkChange}
 use Rattle.job_answers.specs.Works.{FileWork, EndsOver}
 use Rattle.job_answers.proofs.TextLaws.{text_status, text_verdict}
-use Rattle.session_files.proofs.SessionLaws.{session_status, session_verdict}
+use Rattle.job_answers.proofs.SessionLaws.{session_status, session_verdict}
 use Rattle.file_jobs.specs.Zero.{zero_job}
 use Rattle.file_jobs.specs.Listing.{list_job}
 use Rattle.file_jobs.specs.Orbits.{orbit_job}
-use Rattle.cert_jobs.specs.CertJobs.{check_job, residuals_job}
-use Rattle.cert_jobs.specs.Migrations.{migrate_job}
+use Rattle.file_jobs.specs.CertJobs.{check_job, residuals_job}
+use Rattle.file_jobs.specs.Migrations.{migrate_job}
 use Rattle.session_jobs.specs.ArcJobs.{AnswersArcs}
 use Rattle.session_jobs.specs.FixJobs.{AnswersFix}
 use Rattle.track_job.specs.TrackJobs.{AnswersTrack}

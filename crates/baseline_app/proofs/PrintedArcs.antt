@@ -9,11 +9,11 @@ use Rattle.slip_arcs.specs.Runs.{Precedes, is_long, run_of, AreKept}
 use Rattle.slip_arcs.specs.Linked.{HaveDatums, IsFirstLinked}
 use Rattle.slip_arcs.proofs.Kept.{kept_at, kept_each, precedes_at}
 use Rattle.slip_arcs.proofs.Chains.{AreRising, IsFresh, share_first, chain_stays}
-use Rattle.run_options.specs.declared.options.Options.{Options}
+use Rattle.obs_rows.specs.declared.options.Options.{Options}
 use Rattle.cert_data.specs.declared.certs.Cert.{Cert}
 use Rattle.cert_data.specs.declared.outcomes.Answer.{Answer}
 use Rattle.cert_data.specs.declared.outcomes.Answer.TheVariants as answer
-use Rattle.outcome_report.specs.OutcomeText.{answer_text, IsWholeAnswer}
+use Rattle.report_text.specs.OutcomeText.{answer_text, IsWholeAnswer}
 use Rattle.track_data.specs.declared.certs.TrackCert.{TrackCert}
 use Rattle.track_job.specs.declared.answers.TrackAnswer.{TrackAnswer}
 use Rattle.track_job.specs.declared.answers.TrackAnswer.TheVariants as track_answer
@@ -22,7 +22,7 @@ use Rattle.track_job.specs.TrackJobs.{AnswersTrack}
 use Rattle.job_answers.specs.declared.status.Status.{Status}
 use Rattle.job_answers.specs.Endings.{Ending}
 use Rattle.job_answers.specs.Delivered.{SinkChange}
-use Rattle.session_files.specs.SessionJobs.{SaysOfSession}
+use Rattle.job_answers.specs.SessionJobs.{SaysOfSession}
 use Rattle.session_jobs.specs.FixJobs.{AnswersFix}
 use Rattle.baseline_app.specs.PrintedArcs.{AreArcsInOrder, SpellsOrdered, SpellsOrderedTrack}
 

@@ -3,9 +3,9 @@ use Rattle.std.proofs.Common.{◌≡◌, true, ℕ, suc, ℤ, List, [], ◌∷�
 use Rattle.std.specs.List.{AllZip}
 use Rattle.whole_math.proofs.Ring.{va, ◌⊕◌}
 use Rattle.whole_math.proofs.Certificates.{◌≼◌, hy}
-use Rattle.rational.specs.Rational.{Rational, ◌+ʳ◌, ◌≤ʳ◌}
-use Rattle.rational.proofs.Orders.{order_r}
-use Rattle.rational.specs.Spread.{Baseline}
+use Rattle.whole_math.specs.Rational.{Rational, ◌+ʳ◌, ◌≤ʳ◌}
+use Rattle.whole_math.proofs.RationalOrders.{order_r}
+use Rattle.whole_math.specs.Spread.{Baseline}
 use Rattle.obs_rows.specs.declared.arcs.Arc.{Arc}
 use Rattle.obs_rows.specs.declared.pair_rows.PairRows.{PairRows}
 use Rattle.obs_rows.specs.Signals.{fine_signals}
@@ -17,17 +17,17 @@ use Rattle.track_data.specs.declared.tails.TrackTail.{TrackTail}
 use Rattle.track_data.specs.declared.tails.TrackTail.TheVariants.{Fixed, Unseparated, Weak, Overwidth, Spent}
 use Rattle.track_form.specs.Verdicts.{IsTrackBestIn}
 use Rattle.track_form.proofs.Lists.{all_zip_from}
-use Rattle.track_sum.specs.Best.{track_sum}
-use Rattle.track_sum.specs.Decided.{IsStrictlyBest, pair_sum, IsPairData}
+use Rattle.track_form.specs.Best.{track_sum}
+use Rattle.track_form.specs.SumDecided.{IsStrictlyBest, pair_sum, IsPairData}
 use Rattle.vector_bound.specs.VectorBounds.{move_units, hundredths_of_mm}
 use Rattle.vector_bound.proofs.Sessions.{wider_distance, rounded_hundredths}
 use Rattle.vector_bound.proofs.PairLaws.{pair_near}
-use Rattle.run_options.specs.declared.options.Options.{Options}
+use Rattle.obs_rows.specs.declared.options.Options.{Options}
 use Rattle.job_answers.specs.declared.status.Status.TheVariants.{Done}
 use Rattle.job_answers.specs.Endings.{Ending}
 use Rattle.job_answers.specs.Delivered.{SinkChange}
 use Rattle.job_answers.specs.TextJobs.{SaysOfText}
-use Rattle.session_files.specs.SessionJobs.{SaysOfSession}
+use Rattle.job_answers.specs.SessionJobs.{SaysOfSession}
 use Rattle.track_job.specs.declared.answers.TrackAnswer.{TrackAnswer}
 use Rattle.track_job.specs.TrackTexts.{track_answer_text, IsWholeTrackAnswer, is_track_fixed}
 use Rattle.track_job.specs.TrackJobs.{AnswersTrack}

@@ -21,15 +21,15 @@ use Rattle.cert_check.specs.Verdicts.{IsSaidOf, IsVerdictOf}
 use Rattle.vector_bound.specs.VectorBounds.{move_units, hundredths_of_mm}
 use Rattle.vector_bound.proofs.Sessions.{near_for_rows, wider_distance, rounded_hundredths}
 use Rattle.cert_data.specs.declared.outcomes.Answer.{Answer}
-use Rattle.outcome_report.specs.OutcomeText.{answer_text, IsWholeAnswer, is_fixed}
-use Rattle.run_options.specs.declared.options.Options.{Options}
+use Rattle.report_text.specs.OutcomeText.{answer_text, IsWholeAnswer, is_fixed}
+use Rattle.obs_rows.specs.declared.options.Options.{Options}
 use Rattle.job_answers.specs.declared.status.Status.TheVariants.{Done}
 use Rattle.job_answers.specs.Endings.{Ending}
 use Rattle.job_answers.specs.Delivered.{SinkChange}
 use Rattle.job_answers.specs.TextJobs.{SaysOfText}
-use Rattle.session_files.specs.SessionJobs.{SaysOfSession}
+use Rattle.job_answers.specs.SessionJobs.{SaysOfSession}
 use Rattle.session_jobs.specs.FixJobs.{AnswersFix}
-use Rattle.cert_jobs.specs.CertJobs.{check_job}
+use Rattle.file_jobs.specs.CertJobs.{check_job}
 use Rattle.cert_data.specs.declared.verdicts.Verdict.{Verdict}
 use Rattle.baseline_app.specs.PrintedVectors.{KeepsItsBounds, IsNearLeastSquares, SpellsNear}
 use Rattle.baseline_app.proofs.Agreements.{done_true, done_certified}

@@ -7,7 +7,7 @@ use Rattle.job_answers.specs.Endings.{Ending}
 use Rattle.job_answers.specs.Delivered.{SinkChange}
 use Rattle.job_answers.specs.Works.{FileWork}
 use Rattle.job_answers.proofs.TextLaws.{text_says}
-use Rattle.session_files.proofs.SessionLaws.{session_says}
+use Rattle.job_answers.proofs.SessionLaws.{session_says}
 use Rattle.command_words.specs.declared.jobs.Job.{Job}
 use Rattle.command_words.specs.declared.jobs.Job.TheVariants as job
 use Rattle.command_words.specs.declared.sims.Part.TheVariants as part
@@ -16,8 +16,8 @@ use Rattle.command_words.proofs.OneJob.{one_job}
 use Rattle.file_jobs.specs.Zero.{zero_job}
 use Rattle.file_jobs.specs.Listing.{list_job}
 use Rattle.file_jobs.specs.Orbits.{orbit_job}
-use Rattle.cert_jobs.specs.CertJobs.{check_job, residuals_job}
-use Rattle.cert_jobs.specs.Migrations.{migrate_job}
+use Rattle.file_jobs.specs.CertJobs.{check_job, residuals_job}
+use Rattle.file_jobs.specs.Migrations.{migrate_job}
 use Rattle.session_jobs.specs.ArcJobs.{AnswersArcs}
 use Rattle.session_jobs.specs.FixJobs.{AnswersFix}
 use Rattle.track_job.specs.TrackJobs.{AnswersTrack}

@@ -12,8 +12,8 @@ use Rattle.job_answers.specs.Endings.{Ending, ending}
 use Rattle.job_answers.specs.Delivered.{SinkChange}
 use Rattle.job_answers.specs.Works.{FileWork, NoLine, EndsOver}
 use Rattle.job_answers.specs.TextJobs.{TextEnds, IsTextAdmitted, SaysOfText}
-use Rattle.session_files.specs.Admitted.{AreAdmitted}
-use Rattle.session_files.specs.SessionJobs.{SessionEnds, SaysOfSession, IsPairLine}
+use Rattle.job_answers.specs.Admitted.{AreAdmitted}
+use Rattle.job_answers.specs.SessionJobs.{SessionEnds, SaysOfSession, IsPairLine}
 use Rattle.command_words.specs.declared.jobs.Job.{Job}
 use Rattle.command_words.specs.declared.jobs.Job.TheVariants as job
 use Rattle.command_words.specs.declared.sims.Part.{Part}
@@ -22,8 +22,8 @@ use Rattle.command_words.specs.Words.{file_words, IsJob}
 use Rattle.file_jobs.specs.Zero.{zero_job}
 use Rattle.file_jobs.specs.Listing.{list_job}
 use Rattle.file_jobs.specs.Orbits.{orbit_job}
-use Rattle.cert_jobs.specs.CertJobs.{check_job, residuals_job}
-use Rattle.cert_jobs.specs.Migrations.{migrate_job}
+use Rattle.file_jobs.specs.CertJobs.{check_job, residuals_job}
+use Rattle.file_jobs.specs.Migrations.{migrate_job}
 use Rattle.session_jobs.specs.ArcJobs.{AnswersArcs}
 use Rattle.session_jobs.specs.FixJobs.{AnswersFix}
 use Rattle.track_job.specs.TrackJobs.{AnswersTrack}

@@ -3,11 +3,11 @@ use Rattle.std.specs.Prelude.{◌≡◌, ◌<◌, ◌↔◌, ℕ, IsTrue, Some, 
 use Rattle.obs_rows.specs.declared.arcs.Arc.{Arc}
 use Rattle.slip_arcs.specs.Runs.{Precedes, run_of}
 use Rattle.cert_data.specs.declared.certs.Cert.{Cert}
-use Rattle.cert_spelling.specs.Spelling.{spelling}
-use Rattle.cert_spelling.specs.Lengths.{IsWhole}
+use Rattle.cert_text.specs.Spelling.{spelling}
+use Rattle.cert_text.specs.Lengths.{IsWhole}
 use Rattle.track_data.specs.declared.certs.TrackCert.{TrackCert}
-use Rattle.track_spelling.specs.Spelling.{track_spelling}
-use Rattle.track_spelling.specs.Lengths.{IsWholeTrackCert}
+use Rattle.track_text.specs.Spelling.{track_spelling}
+use Rattle.track_text.specs.Lengths.{IsWholeTrackCert}
 
 -- The arcs stand in the order of first pair, then satellite. One is a datum exactly where its first pair is after the last pair of
 -- every arc before it

@@ -1,8 +1,8 @@
 -- How near the moves of a track's text are to the least-squares baselines of its pairs.
 use Rattle.std.specs.Prelude.{◌≡◌, ℕ, List, [], ◌∷◌, length, ℤ}
 use Rattle.std.specs.List.{AllZip}
-use Rattle.rational.specs.Rational.{◌≤ʳ◌}
-use Rattle.rational.specs.Spread.{Baseline}
+use Rattle.whole_math.specs.Rational.{◌≤ʳ◌}
+use Rattle.whole_math.specs.Spread.{Baseline}
 use Rattle.obs_rows.specs.declared.arcs.Arc.{Arc}
 use Rattle.obs_rows.specs.declared.pair_rows.PairRows.{PairRows}
 use Rattle.obs_rows.specs.Signals.{fine_signals}
@@ -13,10 +13,10 @@ use Rattle.track_data.specs.declared.certs.TrackCert.{TrackCert}
 use Rattle.track_data.specs.declared.tracks.Track.{Track}
 use Rattle.track_data.specs.declared.tails.TrackTail.{TrackTail}
 use Rattle.track_data.specs.declared.tails.TrackTail.TheVariants.{Fixed}
-use Rattle.track_sum.specs.Best.{track_sum}
-use Rattle.track_sum.specs.Decided.{pair_sum, IsPairData}
-use Rattle.track_spelling.specs.Spelling.{track_spelling}
-use Rattle.track_spelling.specs.Lengths.{IsWholeTrackCert}
+use Rattle.track_form.specs.Best.{track_sum}
+use Rattle.track_form.specs.SumDecided.{pair_sum, IsPairData}
+use Rattle.track_text.specs.Spelling.{track_spelling}
+use Rattle.track_text.specs.Lengths.{IsWholeTrackCert}
 use Rattle.vector_bound.specs.VectorBounds.{AreNear, IsInHundredths, move_units, hundredths_of_mm}
 use Rattle.vector_bound.specs.PairBounds.{KeepsPairNear, IsPairBound}
 

@@ -5,8 +5,8 @@ use Rattle.fix_decide.specs.Decisions.{first_of}
 use Rattle.cert_data.specs.declared.certs.Cert.{Cert}
 use Rattle.cert_data.specs.declared.tails.Tail.{Tail}
 use Rattle.cert_data.specs.declared.tails.Tail.TheVariants.{Fixed}
-use Rattle.cert_spelling.specs.Spelling.{spelling}
-use Rattle.cert_spelling.specs.Lengths.{IsWhole}
+use Rattle.cert_text.specs.Spelling.{spelling}
+use Rattle.cert_text.specs.Lengths.{IsWhole}
 use Rattle.vector_bound.specs.VectorBounds.{KeepsSessionNear, IsSessionBound, IsInHundredths, move_units, hundredths_of_mm}
 
 -- Each number that the definition gives to these rows and numbers of a tail is one: for all data in the boxes, the least-squares

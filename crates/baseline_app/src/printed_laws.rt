@@ -1,10 +1,10 @@
 //! What is proved of each text that is printed or certified, as the contracts of functions that do nothing.
 ghost use Rattle.std.specs.Prelude.{◌≡◌, List, ℕ};
 ghost use Rattle.std.specs.declared.option.Option.{Option};
-ghost use Rattle.cert_jobs.specs.CertJobs.{check_job};
+ghost use Rattle.file_jobs.specs.CertJobs.{check_job};
 ghost use Rattle.session_jobs.specs.FixJobs.{AnswersFix};
-ghost use Rattle.session_files.specs.SessionJobs.{SaysOfSession};
-ghost use Rattle.run_options.specs.declared.options.Options.{Options};
+ghost use Rattle.job_answers.specs.SessionJobs.{SaysOfSession};
+ghost use Rattle.obs_rows.specs.declared.options.Options.{Options};
 ghost use Rattle.job_answers.specs.declared.status.Status.TheVariants.{Done};
 ghost use Rattle.job_answers.specs.TextJobs.{SaysOfText};
 ghost use Rattle.job_answers.specs.Delivered.{SinkChange};

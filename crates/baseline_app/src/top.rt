@@ -7,18 +7,18 @@ ghost use Rattle.job_answers.specs.Delivered.{sink_change, IsDelivered};
 ghost use Rattle.job_answers.specs.Works.{known_between, file_work, IsDoneOver};
 ghost use Rattle.command_words.specs.declared.jobs.Job.{Job};
 ghost use Rattle.command_words.specs.Words.{texts_of, file_words, IsJob, IsInRange, IsSimInRange};
-ghost use Rattle.session_files.specs.SessionJobs.{SessionEnds, IsPairLine};
+ghost use Rattle.job_answers.specs.SessionJobs.{SessionEnds, IsPairLine};
 ghost use Rattle.baseline_app.specs.Jobs.{PartEnds, JobEnds, IsLineOf, IsReadable, SaysOfJob, AnswersJob, AnswersUsage, stop_end, end_of};
 ghost use Rattle.baseline_app.specs.Calls.{AnswersByCalls, RefusesByCalls};
 ghost use Rattle.baseline_app.specs.Runs.{IsRun, UsesFiles, IsComplete, IsStarted, HasNoWords};
 
-use cert_jobs::{CertCheck, Migration, Residuals};
 use command_words::{Job, Part, Word, WordFault, read_words};
-use file_jobs::{Claim, Orbit, list};
-use job_answers::{JobOutput, JobStop, Status, answer_file, deliver, usage};
+use file_jobs::{CertCheck, Claim, Migration, Orbit, Residuals, list};
+use job_answers::{
+    JobOutput, JobStop, SessionCommand, Status, answer_file, answer_session, deliver, usage,
+};
 use line_source::{Files, HostFiles, HostSink, Sink};
-use run_options::Options;
-use session_files::{SessionCommand, answer_session};
+use obs_rows::Options;
 use session_jobs::{Fix, KeptArcs};
 use sim_jobs::{sim, sim_run};
 use std::alloc::{AllocError, Global};

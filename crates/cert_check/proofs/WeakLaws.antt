@@ -11,7 +11,7 @@ use Rattle.integer_form.specs.ReportedRefusals.{fault_of, IsReportedAs}
 use Rattle.lower_form.specs.FirstRounding.{first_form}
 use Rattle.lower_form.specs.Forms.{elimination_of}
 use Rattle.obs_rows.specs.declared.sessions.Session.{Session}
-use Rattle.form_tables.specs.declared.sizes.TheConstants.{MOST_COLUMNS, MOST_FACTORS}
+use Rattle.quadratic_form.specs.declared.sizes.TheConstants.{MOST_COLUMNS, MOST_FACTORS}
 use Rattle.cert_data.specs.Tails.{IsWeak}
 use Rattle.cert_check.specs.Settled.{IsRefused}
 

@@ -1,6 +1,6 @@
 //! Lists of arcs.
 use obs_rows::{Arc, ArcList, is_system};
-use session_jobs::write_arcs;
+use report_text::write_arcs;
 use slip_arcs::Arcs;
 use std::alloc::{AllocError, Global};
 

@@ -1,7 +1,7 @@
 //! What is printed of ends without a session.
 use cert_data::{Answer, Outcome, RoundCounts, Stage, Tail};
 use integer_form::Place;
-use outcome_report::{is_fixed, push_place, write_outcome};
+use report_text::{is_fixed, push_place, write_outcome};
 use std::alloc::{AllocError, Global};
 
 // Whether these texts are printed of an outcome, on standard output and on standard error.

@@ -1,7 +1,7 @@
 //! What is printed of certificates: the residuals of their rows, and verdicts.
 use crate::texts::{SMALL, cert_of, text_of};
 use cert_data::{Cause, Verdict};
-use cert_report::{write_residuals, write_verdict};
+use report_text::{write_residuals, write_verdict};
 use std::alloc::{AllocError, Global};
 
 const HEAD: [&str; 3] = ["baseline-cert 2", "ratio 2000", "budget 1000"];

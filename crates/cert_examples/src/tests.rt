@@ -2,7 +2,7 @@
 use crate::outcome_report_tests::is_printed;
 use crate::texts::{NOTHING, SESSION, SMALL, cert_of, text_of};
 use cert_data::{Answer, Cert, Outcome, RoundCounts};
-use outcome_report::is_fixed;
+use report_text::is_fixed;
 use std::alloc::{AllocError, Global};
 
 // A run that ends with this certificate.

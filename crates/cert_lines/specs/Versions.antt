@@ -1,6 +1,6 @@
 -- What the forms of a certificate's text differ in, but for the lines of the system and of the signals.
 use Rattle.std.specs.Prelude.{ℕ, ◌^◌, ◌-◌, List, codes}
-use Rattle.form_tables.specs.declared.sizes.TheConstants.{MOST_FACTORS}
+use Rattle.quadratic_form.specs.declared.sizes.TheConstants.{MOST_FACTORS}
 use Rattle.cert_words.specs.declared.ranges.Range.{Range}
 use Rattle.cert_lines.specs.declared.ranges.TheConstants.{GROUPS, OLD_GROUPS}
 use Rattle.cert_lines.specs.declared.version.Version.{Version}

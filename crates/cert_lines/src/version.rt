@@ -1,11 +1,11 @@
 //! The forms of a certificate's text.
 ghost use Rattle.std.specs.Prelude.{◌≡◌, ◌≤◌, ◌<◌};
-ghost use Rattle.form_tables.specs.declared.sizes.TheConstants.{MOST_FACTORS};
+ghost use Rattle.quadratic_form.specs.declared.sizes.TheConstants.{MOST_FACTORS};
 ghost use Rattle.cert_lines.specs.Versions.{form_line, most_sat, groups, last_column};
 
 use crate::ranges::{GROUPS, OLD_GROUPS};
 use cert_words::Range;
-use form_tables::MOST_FACTORS;
+use quadratic_form::MOST_FACTORS;
 
 /// The form of a text: the first knew neither systems nor the band L5, and had a coarser unit.
 #[derive(Clone, Copy, Debug, PartialEq, Eq)]

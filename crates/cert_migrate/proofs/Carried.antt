@@ -14,8 +14,8 @@ use Rattle.obs_rows.specs.declared.bands.TheConstants.{L2_LETTERS}
 use Rattle.obs_rows.specs.Letters.{is_letter}
 use Rattle.obs_rows.specs.Ranges.{IsWithin}
 use Rattle.obs_rows.specs.declared.limits.TheConstants.{MOST_SATELLITES}
-use Rattle.form_tables.specs.declared.sizes.TheConstants.{MOST_INTEGERS}
-use Rattle.form_tables.proofs.TableLaws.{zero_item}
+use Rattle.quadratic_form.specs.declared.sizes.TheConstants.{MOST_INTEGERS}
+use Rattle.quadratic_form.proofs.TableLaws.{zero_item}
 use Rattle.int_search.specs.declared.answer.TwoBest.{TwoBest}
 use Rattle.int_search.specs.Vectors.{IsSmall}
 use Rattle.cert_data.specs.declared.tails.Tail.{Tail}
@@ -24,8 +24,8 @@ use Rattle.cert_data.specs.declared.certs.Cert.{Cert}
 use Rattle.cert_data.specs.Tails.{AreVectors, IsTailOf}
 use Rattle.cert_lines.specs.Lengths.{IsWholeArc, IsWholeRow, IsWholePair}
 use Rattle.cert_lines.specs.declared.version.Version.TheVariants.{One}
-use Rattle.cert_spelling.specs.Lengths.{IsWholeTail, IsWhole}
-use Rattle.cert_spelling.specs.Editions.{IsColumnOf, IsOfVersion}
+use Rattle.cert_text.specs.Lengths.{IsWholeTail, IsWhole}
+use Rattle.cert_text.specs.Editions.{IsColumnOf, IsOfVersion}
 use Rattle.cert_migrate.specs.declared.old_arcs.OldArc.{OldArc}
 use Rattle.cert_migrate.specs.declared.old_rows.OldRow.{OldRow}
 use Rattle.cert_migrate.specs.declared.old_pairs.OldPair.{OldPair}

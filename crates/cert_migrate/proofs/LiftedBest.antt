@@ -2,7 +2,7 @@
 use Rattle.std.proofs.Common.{◌≡◌, ℕ, ◌*◌, ◌^◌, List, [], ◌∷◌, ℤ, pos, ◌*ℤ◌, refl, sym, ap, ap₂, ◌∙◌}
 use Rattle.whole_math.proofs.Ring.{◌⊗◌}
 use Rattle.whole_math.proofs.Inequalities.{same_by, nat, pos_nn}
-use Rattle.rational.specs.Rational.{Rational, ◌≈◌, ◌<ʳ◌, ◌*ʳ◌, times}
+use Rattle.whole_math.specs.Rational.{Rational, ◌≈◌, ◌<ʳ◌, ◌*ʳ◌, times}
 use Rattle.obs_rows.specs.declared.arcs.Arc.{Arc}
 use Rattle.obs_rows.specs.declared.sessions.Session.{Session}
 use Rattle.obs_rows.specs.Signals.{fine_signals}

@@ -8,7 +8,7 @@ use Rattle.whole_math.proofs.Order.{mul_le_right}
 use Rattle.whole_math.proofs.Inequalities.{pos_nn, same_by, nat}
 use Rattle.whole_math.proofs.Rounding.{nearest_is, ceil_is}
 use Rattle.whole_math.specs.Rounding.{nearest_div, ceil_div, IsNearest, IsCeil}
-use Rattle.rational.specs.Rational.{Rational, ◌*ʳ◌, Near}
+use Rattle.whole_math.specs.Rational.{Rational, ◌*ʳ◌, Near}
 use Rattle.obs_rows.specs.Ranges.{IsWithin, IsRadius}
 use Rattle.cert_migrate.specs.Lifted.{lifted_y, lifted_radius, unit_ratio}
 

@@ -4,8 +4,8 @@ use Rattle.std.specs.List.{AllZip}
 use Rattle.std.proofs.lemmas.Slice.Zip.{AllZip-long}
 use Rattle.whole_math.proofs.Ring.{◌⊗◌}
 use Rattle.whole_math.proofs.Inequalities.{same_by, nat}
-use Rattle.rational.specs.Rational.{Rational, ◌≈◌, of_whole, ◌*ʳ◌}
-use Rattle.rational.specs.Spread.{Baseline, spread_of_rationals}
+use Rattle.whole_math.specs.Rational.{Rational, ◌≈◌, of_whole, ◌*ʳ◌}
+use Rattle.whole_math.specs.Spread.{Baseline, spread_of_rationals}
 use Rattle.obs_rows.specs.declared.arcs.Arc.{Arc}
 use Rattle.obs_rows.specs.declared.rows.Row.{Row}
 use Rattle.obs_rows.specs.declared.pair_rows.PairRows.{PairRows}

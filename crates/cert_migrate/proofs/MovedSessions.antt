@@ -25,7 +25,7 @@ use Rattle.cert_data.specs.declared.tails.Tail.TheVariants as now
 use Rattle.cert_data.specs.declared.certs.Cert.{Cert}
 use Rattle.cert_data.specs.Tails.{AreVectors, IsTailOf}
 use Rattle.cert_lines.specs.declared.version.Version.TheVariants.{One}
-use Rattle.cert_spelling.specs.Editions.{IsColumnOf}
+use Rattle.cert_text.specs.Editions.{IsColumnOf}
 use Rattle.cert_migrate.specs.declared.old_arcs.OldArc.{OldArc}
 use Rattle.cert_migrate.specs.declared.old_rows.OldRow.{OldRow}
 use Rattle.cert_migrate.specs.declared.old_pairs.OldPair.{OldPair}

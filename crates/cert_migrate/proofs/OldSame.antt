@@ -15,7 +15,7 @@ use Rattle.cert_data.specs.declared.tails.Tail.{Tail}
 use Rattle.cert_data.specs.declared.tails.Tail.TheVariants as now
 use Rattle.cert_data.specs.declared.certs.Cert.{Cert}
 use Rattle.cert_lines.proofs.SameStructs.{within_prop, true_prop}
-use Rattle.cert_spelling.proofs.SameVectors.{zero_prop}
+use Rattle.cert_text.proofs.SameVectors.{zero_prop}
 use Rattle.cert_text.proofs.SameStructs.{fine_prop}
 use Rattle.cert_migrate.specs.declared.old_arcs.OldArc.{OldArc}
 use Rattle.cert_migrate.specs.declared.old_rows.OldRow.{OldRow}

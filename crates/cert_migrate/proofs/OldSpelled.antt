@@ -15,7 +15,7 @@ use Rattle.cert_lines.specs.declared.version.Version.TheVariants.{One}
 use Rattle.cert_data.specs.declared.tails.Tail.{Tail}
 use Rattle.cert_data.specs.declared.tails.Tail.TheVariants as now
 use Rattle.cert_data.specs.declared.certs.Cert.{Cert}
-use Rattle.cert_spelling.specs.Spelling.{all_pair_lines, vectors_lines, tail_lines, lines_of_cert, spelling_as}
+use Rattle.cert_text.specs.Spelling.{all_pair_lines, vectors_lines, tail_lines, lines_of_cert, spelling_as}
 use Rattle.cert_migrate.specs.declared.old_rows.OldRow.{OldRow}
 use Rattle.cert_migrate.specs.declared.old_pairs.OldPair.{OldPair}
 use Rattle.cert_migrate.specs.declared.old_tails.OldBest.{OldBest}

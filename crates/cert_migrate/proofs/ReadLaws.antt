@@ -1,7 +1,7 @@
 -- What is read in the form of version 1 is the only certificate of that version with its text.
 use Rattle.std.proofs.Common.{◌≡◌, ℕ, ◌≤◌, List, length, map, take, All, ℤ, arith, refl, sym, ap, ◌∙◌, subst}
 use Rattle.std.proofs.lemmas.List.{length-take-le}
-use Rattle.form_tables.specs.declared.sizes.TheConstants.{MOST_INTEGERS}
+use Rattle.quadratic_form.specs.declared.sizes.TheConstants.{MOST_INTEGERS}
 use Rattle.obs_rows.specs.declared.arcs.Arc.{Arc}
 use Rattle.obs_rows.specs.declared.rows.Row.{Row}
 use Rattle.obs_rows.specs.declared.pair_rows.PairRows.{PairRows}
@@ -10,10 +10,10 @@ use Rattle.cert_data.specs.declared.tails.Tail.TheVariants as now
 use Rattle.cert_data.specs.declared.certs.Cert.{Cert}
 use Rattle.cert_lines.specs.Lengths.{IsWholeRow, IsWholePair}
 use Rattle.cert_lines.specs.declared.version.Version.TheVariants.{One}
-use Rattle.cert_spelling.specs.Spelling.{spelling_as}
-use Rattle.cert_spelling.specs.Lengths.{IsWholeTail, IsWhole}
-use Rattle.cert_spelling.specs.Editions.{IsOfVersion, IsCertificateAs}
-use Rattle.grammar_lines.specs.Beginnings.{NoneBegins}
+use Rattle.cert_text.specs.Spelling.{spelling_as}
+use Rattle.cert_text.specs.Lengths.{IsWholeTail, IsWhole}
+use Rattle.cert_text.specs.Editions.{IsOfVersion, IsCertificateAs}
+use Rattle.cert_text.specs.Beginnings.{NoneBegins}
 use Rattle.cert_text.proofs.SameSpelling.{spelling_same}
 use Rattle.cert_migrate.specs.declared.old_rows.OldRow.{OldRow}
 use Rattle.cert_migrate.specs.declared.old_pairs.OldPair.{OldPair}

@@ -2,10 +2,10 @@
 use Rattle.std.proofs.Common.{◌≡◌, ⊎_elim, List, [], ◌∷◌, ℤ, pos, ◌+ℤ◌, ◌≤ℤ◌, ap, refl, subst}
 use Rattle.whole_math.proofs.Ring.{va, ko, ng, ◌⊕◌, ◌⊖◌, ◌⊗◌}
 use Rattle.whole_math.specs.Vectors.{len}
-use Rattle.rational.specs.Rational.{Rational, ◌≈◌, ◌≤ʳ◌, ◌<ʳ◌, of_whole, ◌+ʳ◌, ◌-ʳ◌, ◌*ʳ◌}
-use Rattle.rational.proofs.Laws.{≤ʳ_along, mul_r-mono, <ʳ_not, not_≤ʳ}
-use Rattle.rational.proofs.Orders.{equal_r, ◌≐◌}
-use Rattle.rational.specs.Spread.{Baseline, sum_of_rationals, squared_norm_of_rationals, spread_of_rationals}
+use Rattle.whole_math.specs.Rational.{Rational, ◌≈◌, ◌≤ʳ◌, ◌<ʳ◌, of_whole, ◌+ʳ◌, ◌-ʳ◌, ◌*ʳ◌}
+use Rattle.whole_math.proofs.RationalLaws.{≤ʳ_along, mul_r-mono, <ʳ_not, not_≤ʳ}
+use Rattle.whole_math.proofs.RationalOrders.{equal_r, ◌≐◌}
+use Rattle.whole_math.specs.Spread.{Baseline, sum_of_rationals, squared_norm_of_rationals, spread_of_rationals}
 
 -- each of the second list is k times that of the first
 abbrev pub AreScaled : Rational → List Rational → List Rational → Type 0

@@ -3,8 +3,8 @@ use Rattle.std.specs.Prelude.{◌≡◌, ℕ, ◌*◌, ◌^◌, ℤ, pos, ◌+�
 use Rattle.std.specs.List.{AllZip}
 use Rattle.std.proofs.Common.{lit<}
 use Rattle.whole_math.specs.Rounding.{nearest_div, ceil_div}
-use Rattle.rational.specs.Rational.{Rational, ◌≈◌, ◌*ʳ◌}
-use Rattle.rational.specs.Spread.{Baseline}
+use Rattle.whole_math.specs.Rational.{Rational, ◌≈◌, ◌*ʳ◌}
+use Rattle.whole_math.specs.Spread.{Baseline}
 use Rattle.obs_rows.specs.declared.arcs.Arc.{Arc}
 use Rattle.obs_rows.specs.declared.rows.Row.{Row}
 use Rattle.obs_rows.specs.declared.pair_rows.PairRows.{PairRows}

@@ -2,8 +2,8 @@
 -- it stands here, whatever later versions say: the unit κ, of which the wavelengths are 60 and 77, and rows in 2^-18 κ.
 use Rattle.std.specs.Prelude.{◌≡◌, ◌≢◌, ℕ, ◌*◌, ◌/◌, ◌+◌, ◌^◌, ℤ, pos, ◌*ℤ◌, Bool, false, if◌then◌else◌, nat_lt, Option, Some, None, List, [], ◌∷◌, ◌++◌, length, take, map, All, slice_get, slice_index_or}
 use Rattle.std.specs.List.{AllZip}
-use Rattle.rational.specs.Rational.{Rational, Near, ◌<ʳ◌, of_whole, ◌+ʳ◌, ◌-ʳ◌, ◌*ʳ◌, times}
-use Rattle.rational.specs.Spread.{Baseline, sum_of_rationals, spread_of_rationals}
+use Rattle.whole_math.specs.Rational.{Rational, Near, ◌<ʳ◌, of_whole, ◌+ʳ◌, ◌-ʳ◌, ◌*ʳ◌, times}
+use Rattle.whole_math.specs.Spread.{Baseline, sum_of_rationals, spread_of_rationals}
 use Rattle.cert_migrate.specs.declared.old_arcs.OldArc.{OldArc}
 use Rattle.cert_migrate.specs.declared.old_rows.OldRow.{OldRow}
 use Rattle.cert_migrate.specs.declared.old_pairs.OldPair.{OldPair}

@@ -1,7 +1,7 @@
 //! A certificate that was read in the form of the first version, moved into its types.
 ghost use Rattle.std.specs.Prelude.{IfOk};
 ghost use Rattle.cert_lines.specs.declared.version.Version.TheVariants.{One};
-ghost use Rattle.cert_spelling.specs.Editions.{IsOfVersion};
+ghost use Rattle.cert_text.specs.Editions.{IsOfVersion};
 ghost use Rattle.cert_migrate.specs.Carriers.{IsSessionOf, IsCarrierOf};
 
 use crate::moved_rows::{old_arcs, old_pairs};

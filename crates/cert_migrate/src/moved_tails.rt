@@ -4,7 +4,7 @@ ghost use Rattle.cert_migrate.specs.Carriers.{IsBestOf, IsEndOf, HasFewEntries};
 
 use crate::{OldBest, OldTail};
 use cert_data::{Tail, TwoBest};
-use form_tables::MOST_INTEGERS;
+use quadratic_form::MOST_INTEGERS;
 
 fn first_entries(entries: &[i64; MOST_INTEGERS]) -> [i64; 40]
     ensures { result ≡ take 40 entries.now }

@@ -3,7 +3,7 @@ ghost use Rattle.std.specs.Prelude.{◌≡◌, ◌≤◌, length, IfOk};
 ghost use Rattle.line_source.specs.declared.transfer.TheConstants.{MAX_FILE};
 ghost use Rattle.rinex_head.specs.LineRules.{Gives, OnRefusal, IfRefused};
 ghost use Rattle.cert_lines.specs.declared.version.Version.TheVariants.{One};
-ghost use Rattle.grammar_lines.specs.Beginnings.{NoneBegins};
+ghost use Rattle.cert_text.specs.Beginnings.{NoneBegins};
 ghost use Rattle.cert_text.specs.BeforePairs.{BeginsBefore};
 ghost use Rattle.cert_text.specs.Rules.{reading_as};
 ghost use Rattle.cert_migrate.specs.declared.old_certs.OldCert.{OldCert};

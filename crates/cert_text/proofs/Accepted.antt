@@ -15,7 +15,7 @@ use Rattle.cert_lines.specs.Versions.{form_line, group_limit, groups}
 use Rattle.obs_rows.specs.Signals.{fine_signals}
 use Rattle.obs_rows.specs.declared.limits.TheConstants.{MOST_PAIRS, MOST_RATIO, MOST_BUDGET, MOST_ARCS}
 use Rattle.cert_data.specs.declared.certs.Cert.{Cert}
-use Rattle.cert_spelling.specs.Spelling.{system_lines, head_lines, all_pair_lines, counted_pairs, tail_lines, lines_of_cert, spelling_as}
+use Rattle.cert_text.specs.Spelling.{system_lines, head_lines, all_pair_lines, counted_pairs, tail_lines, lines_of_cert, spelling_as}
 use Rattle.rinex_head.specs.Places.{and_then}
 use Rattle.rinex_head.specs.declared.place.Flaw.{Flaw}
 use Rattle.rinex_head.specs.LineRules.{walk, Gives, OnRefusal, IfRefused}
@@ -27,12 +27,12 @@ use Rattle.cert_words.proofs.TextLaws.{lines_of_text}
 use Rattle.cert_lines.specs.Forms.{Letters as LettersOf, signals_of}
 use Rattle.cert_lines.proofs.Spreading.{signals_good}
 use Rattle.cert_lines.specs.Lengths.{IsWholePair}
-use Rattle.cert_spelling.specs.Lengths.{IsWhole}
-use Rattle.cert_spelling.specs.Editions.{IsOfVersion, IsCertificateAs}
+use Rattle.cert_text.specs.Lengths.{IsWhole}
+use Rattle.cert_text.specs.Editions.{IsOfVersion, IsCertificateAs}
 use Rattle.cert_text.proofs.FeedLaws.{cert_feed}
-use Rattle.grammar_lines.specs.Beginnings.{NoneBegins}
-use Rattle.grammar_lines.proofs.Accepts.{step, AreAccepted, RisesFrom, rises, rows_accepted, counted_arcs_accepted}
-use Rattle.grammar_lines.proofs.FirstLines.{none_agrees}
+use Rattle.cert_text.specs.Beginnings.{NoneBegins}
+use Rattle.cert_text.proofs.Accepts.{step, AreAccepted, RisesFrom, rises, rows_accepted, counted_arcs_accepted}
+use Rattle.cert_text.proofs.FirstLines.{none_agrees}
 use Rattle.cert_text.proofs.TailSpells.{tail_accepted}
 use Rattle.cert_lines.proofs.LetterLaws.{letters_spell, letters_length, system_spells}
 use Rattle.cert_lines.proofs.Sizes.{pair_small}

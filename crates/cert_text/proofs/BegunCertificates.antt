@@ -22,12 +22,12 @@ use Rattle.cert_lines.specs.Versions.{form_line}
 use Rattle.cert_lines.specs.Lines.{count_line, vector_line, system_line, signals_line, arc_line, arc_lines, counted_arcs}
 use Rattle.cert_lines.specs.Forms.{count_in, vector_in, system_in, Letters as LettersOf, signals_in, signals_of, arc_in}
 use Rattle.cert_lines.specs.TailForms.{begins}
-use Rattle.grammar_lines.specs.LineParts.{word_in}
-use Rattle.grammar_lines.proofs.ArcSteps.{arcs_took}
+use Rattle.cert_text.specs.LineParts.{word_in}
+use Rattle.cert_text.proofs.ArcSteps.{arcs_took}
 use Rattle.cert_data.specs.declared.certs.Cert.{Cert}
-use Rattle.cert_spelling.specs.Spelling.{system_lines, head_lines, counted_pairs, tail_lines, lines_of_cert, spelling_as}
-use Rattle.cert_spelling.specs.Lengths.{IsWhole}
-use Rattle.cert_spelling.specs.Editions.{IsOfVersion, IsCertificateAs}
+use Rattle.cert_text.specs.Spelling.{system_lines, head_lines, counted_pairs, tail_lines, lines_of_cert, spelling_as}
+use Rattle.cert_text.specs.Lengths.{IsWhole}
+use Rattle.cert_text.specs.Editions.{IsOfVersion, IsCertificateAs}
 use Rattle.cert_lines.proofs.LetterLaws.{not_one}
 use Rattle.cert_text.specs.Rules.{Expected, Frame, frame, behind_budget, before_arcs, Form, Ratio, Budget, SystemLine, Base, Point, Letters, ArcCount, NextArc, PairCount, NextPair, NextRow, Tail, Second, Move, Values, Last, End, admit, before_pairs, cert_rules, reading_as}
 use Rattle.cert_text.specs.BeforePairs.{lines_before, SomeBegins, BeginsBefore}

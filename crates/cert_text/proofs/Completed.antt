@@ -5,7 +5,7 @@ use Rattle.std.proofs.lemmas.Bool.Decides.{nat_tests}
 use Rattle.std.proofs.lemmas.List.{append-nil}
 use Rattle.std.proofs.lemmas.List.Elements.{All-nil, All-cons, All-head, All-push, All-replicate}
 use Rattle.std.proofs.lemmas.Bool.{or_right}
-use Rattle.form_tables.proofs.TableLaws.{zero_item}
+use Rattle.quadratic_form.proofs.TableLaws.{zero_item}
 use Rattle.integer_form.specs.declared.faults.Place.TheVariants.{Y}
 use Rattle.obs_rows.specs.declared.arcs.Arc.{Arc}
 use Rattle.obs_rows.specs.declared.rows.Row.{Row}
@@ -24,12 +24,12 @@ use Rattle.cert_lines.specs.declared.version.Version.TheVariants.{One, Two}
 use Rattle.cert_lines.specs.Versions.{most_sat, group_limit}
 use Rattle.cert_lines.specs.Lengths.{IsWholeRow, IsWholePair}
 use Rattle.cert_lines.specs.Forms.{arc_of, may_stand}
-use Rattle.grammar_lines.specs.Parts.{free_by}
-use Rattle.grammar_lines.proofs.ArcSteps.{free_push, few_stand, some_stand}
+use Rattle.cert_text.specs.Parts.{free_by}
+use Rattle.cert_text.proofs.ArcSteps.{free_push, few_stand, some_stand}
 use Rattle.cert_data.specs.declared.certs.Cert.{Cert}
 use Rattle.cert_data.specs.declared.tails.Tail.TheVariants.{Overwidth}
-use Rattle.cert_spelling.specs.Lengths.{IsWhole}
-use Rattle.cert_spelling.specs.Editions.{IsOfVersion}
+use Rattle.cert_text.specs.Lengths.{IsWhole}
+use Rattle.cert_text.specs.Editions.{IsOfVersion}
 use Rattle.cert_text.proofs.ReadBack.{IsArcOf}
 
 -- ---- the head

@@ -18,11 +18,11 @@ use Rattle.cert_data.specs.declared.certs.Cert.{Cert}
 use Rattle.cert_data.specs.declared.tails.Tail.{Tail}
 use Rattle.cert_data.specs.declared.tails.Tail.TheVariants.{Fixed, Unseparated, Weak, Overwidth, Unsettled, Spent}
 use Rattle.cert_data.specs.Tails.{AreVectors, IsTailOf}
-use Rattle.cert_spelling.specs.Spelling.{system_lines, head_lines, all_pair_lines, counted_pairs, session_lines, vectors_lines, tail_lines, lines_of_cert}
+use Rattle.cert_text.specs.Spelling.{system_lines, head_lines, all_pair_lines, counted_pairs, session_lines, vectors_lines, tail_lines, lines_of_cert}
 use Rattle.cert_lines.proofs.Sizes.{below_small, moves_small}
 use Rattle.cert_lines.proofs.Feeds.{worded, rows_feed, count_feed, point_feed, entries_feed, pair_line_feed, counted_arcs_feed, values_feed, weak_feed}
 use Rattle.cert_lines.proofs.LetterLaws.{signals_feed, system_line_feed}
-use Rattle.grammar_lines.proofs.PlaceLaws.{place_feed}
+use Rattle.cert_text.proofs.PlaceLaws.{place_feed}
 
 form_feed : (version : Version) → has_no_feed (form_line version) ≡ true
 form_feed One = refl

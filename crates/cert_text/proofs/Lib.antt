@@ -10,3 +10,11 @@ pub mod Versions
 pub mod ReadBack
 pub mod Completed
 pub mod BegunCertificates
+pub mod GrammarLaws
+pub mod ArcSteps
+pub mod RowSteps
+pub mod Accepts
+pub mod FirstLines
+pub mod PlaceLaws
+pub mod Texts
+pub mod SameVectors

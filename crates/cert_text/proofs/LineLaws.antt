@@ -10,8 +10,8 @@ use Rattle.cert_lines.specs.TailForms.{begins, values_in, last_in}
 use Rattle.cert_lines.specs.declared.ranges.TheConstants.{COORDINATES, ENTRIES, MOVES}
 use Rattle.cert_lines.specs.declared.version.Version.{Version}
 use Rattle.cert_lines.specs.Versions.{form_line}
-use Rattle.grammar_lines.specs.LineParts.{word_in, TakesLine}
-use Rattle.grammar_lines.specs.Parts.{ArcsAreTaken, RowsAreTaken}
+use Rattle.cert_text.specs.LineParts.{word_in, TakesLine}
+use Rattle.cert_text.specs.Parts.{ArcsAreTaken, RowsAreTaken}
 use Rattle.cert_text.specs.TailForms.{declined_in}
 use Rattle.cert_text.specs.Rules.{Expected, Frame, frame, behind_budget, Form, Ratio, Budget, Base, Point, Letters, ArcCount, PairCount, Tail, Second, Move, Values, Last, End, cert_rules, admit, before_arcs, before_pairs, before_rows}
 

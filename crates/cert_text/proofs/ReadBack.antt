@@ -41,7 +41,7 @@ use Rattle.cert_lines.proofs.Spelled.{behind_word, some_l2, some_l5, spelled_15,
 use Rattle.cert_lines.proofs.Spreading.{bands_good, spread_all, spread_off, spread_length}
 use Rattle.cert_lines.proofs.ArcLaws.{arc_read, words_count, arc_parts}
 use Rattle.cert_lines.proofs.LetterLaws.{not_one, letters_of_signals}
-use Rattle.grammar_lines.specs.LineParts.{word_in}
+use Rattle.cert_text.specs.LineParts.{word_in}
 
 -- ---- a word
 

@@ -13,16 +13,16 @@ use Rattle.cert_data.specs.declared.certs.Cert.{Cert}
 use Rattle.cert_data.specs.declared.tails.Tail.{Tail}
 use Rattle.cert_data.specs.declared.tails.Tail.TheVariants.{Fixed, Unseparated, Weak, Overwidth, Unsettled, Spent}
 use Rattle.cert_data.specs.Tails.{AreVectors, IsTailOf, tail_of_vectors}
-use Rattle.cert_spelling.specs.Spelling.{system_lines, all_pair_lines, counted_pairs, vectors_lines, tail_lines, lines_of_cert, unsettled_line, spent_line, spelling_as}
+use Rattle.cert_text.specs.Spelling.{system_lines, all_pair_lines, counted_pairs, vectors_lines, tail_lines, lines_of_cert, unsettled_line, spent_line, spelling_as}
 use Rattle.obs_rows.specs.Unused.{HasUsedShifts, HasUsedRows}
 use Rattle.obs_rows.specs.declared.limits.TheConstants.{MOST_BUDGET, MOST_ARCS}
 use Rattle.cert_lines.specs.TailForms.{last_in}
 use Rattle.cert_text.specs.TailForms.{declined_in}
-use Rattle.cert_spelling.specs.Lengths.{AreWholeVectors, IsWholeTail, IsWhole}
+use Rattle.cert_text.specs.Lengths.{AreWholeVectors, IsWholeTail, IsWhole}
 use Rattle.line_source.specs.EndedLines.{ended_lines}
 use Rattle.cert_words.proofs.TextLaws.{lines_of_text}
 use Rattle.cert_lines.specs.Lengths.{IsWholePair}
-use Rattle.cert_spelling.specs.Editions.{IsOfVersion}
+use Rattle.cert_text.specs.Editions.{IsOfVersion}
 use Rattle.cert_lines.proofs.Sizes.{point_small, moves_small}
 use Rattle.cert_text.proofs.FeedLaws.{cert_feed}
 use Rattle.cert_text.proofs.TailSpells.{weak_read, place_line, place_read, unsettled_read, spent_read}
@@ -31,7 +31,7 @@ use Rattle.cert_lines.proofs.SameStructs.{pair_same}
 use Rattle.cert_text.proofs.SameStructs.{session_same, certs_same}
 use Rattle.cert_lines.proofs.TailSpells.{last_read}
 use Rattle.cert_lines.proofs.SameLines.{cons_same, numbers_same, count_same, rows_same, counted_arcs_same, pair_line_same, signals_line_same, system_line_same}
-use Rattle.cert_spelling.proofs.SameVectors.{bests_same}
+use Rattle.cert_text.proofs.SameVectors.{bests_same}
 
 -- ---- pairs
 

@@ -4,9 +4,9 @@ use Rattle.int_search.specs.declared.answer.TwoBest.{TwoBest}
 use Rattle.cert_lines.specs.Lines.{last_line}
 use Rattle.cert_lines.specs.declared.version.Version.{Version}
 use Rattle.cert_data.specs.declared.tails.Tail.{Tail}
-use Rattle.cert_spelling.specs.Spelling.{vectors_lines, tail_lines}
-use Rattle.cert_spelling.specs.Lengths.{AreWholeVectors, IsWholeTail}
-use Rattle.cert_spelling.specs.Editions.{IsColumnOf}
+use Rattle.cert_text.specs.Spelling.{vectors_lines, tail_lines}
+use Rattle.cert_text.specs.Lengths.{AreWholeVectors, IsWholeTail}
+use Rattle.cert_text.specs.Editions.{IsColumnOf}
 use Rattle.cert_data.specs.Tails.{tail_of_vectors}
 
 -- the lines of two vectors as a tail

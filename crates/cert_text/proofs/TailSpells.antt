@@ -15,7 +15,7 @@ use Rattle.cert_text.specs.Rules.{Tail, Frame, Second, Move, Values, Last, End, 
 use Rattle.cert_data.specs.declared.tails.Tail.TheVariants.{Fixed, Unseparated, Weak, Overwidth, Unsettled, Spent}
 use Rattle.cert_data.specs.Tails.{AreVectors, IsTailOf, IsWeak}
 use Rattle.cert_data.specs.Places.{name_of_place}
-use Rattle.cert_spelling.specs.Spelling.{vectors_lines, tail_lines, unsettled_line, spent_line}
+use Rattle.cert_text.specs.Spelling.{vectors_lines, tail_lines, unsettled_line, spent_line}
 use Rattle.rinex_head.specs.Places.{and_then}
 use Rattle.rinex_head.specs.declared.place.Flaw.{Flaw}
 use Rattle.cert_lines.proofs.Sizes.{below_small, entries_small, values_small, moves_small, weak_small}
@@ -25,13 +25,13 @@ use Rattle.cert_lines.specs.declared.tails.WeakPivot.{WeakPivot}
 use Rattle.cert_lines.specs.Versions.{last_column}
 use Rattle.cert_data.specs.declared.tails.Tail.{Tail as CertTail}
 use Rattle.cert_text.specs.TailForms.{declined_in}
-use Rattle.cert_spelling.specs.Lengths.{AreWholeVectors, IsWholeTail}
-use Rattle.cert_spelling.specs.Editions.{IsColumnOf}
+use Rattle.cert_text.specs.Lengths.{AreWholeVectors, IsWholeTail}
+use Rattle.cert_text.specs.Editions.{IsColumnOf}
 use Rattle.cert_text.proofs.LineLaws.{admits_vectors, admits_declined}
 use Rattle.cert_lines.proofs.LineSpells.{line_length, count_spells, vector_spells, below_is, entries_in, moves_in}
-use Rattle.grammar_lines.proofs.Accepts.{step, AreAccepted, end_accepted}
+use Rattle.cert_text.proofs.Accepts.{step, AreAccepted, end_accepted}
 use Rattle.cert_lines.proofs.TailSpells.{values_spell, weak_spells, last_read, last_length}
-use Rattle.grammar_lines.proofs.PlaceLaws.{place_length}
+use Rattle.cert_text.proofs.PlaceLaws.{place_length}
 
 -- ---- tails
 

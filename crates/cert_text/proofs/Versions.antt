@@ -7,7 +7,7 @@ use Rattle.cert_data.specs.declared.tails.Tail.{Tail}
 use Rattle.cert_data.specs.declared.tails.Tail.TheVariants.{Fixed, Unseparated, Weak, Overwidth, Unsettled, Spent}
 use Rattle.cert_data.specs.Tails.{IsTailOf}
 use Rattle.cert_lines.proofs.LetterLaws.{not_one}
-use Rattle.cert_spelling.specs.Editions.{IsColumnOf, IsOfVersion}
+use Rattle.cert_text.specs.Editions.{IsColumnOf, IsOfVersion}
 
 column_of_two : (ss : List ℕ) (arcs : List Arc) (budget : ℕ) (t : Tail) → IsTailOf ss arcs budget t → IsColumnOf Two t
 column_of_two ss arcs budget (Fixed h moved best top) fits = tt

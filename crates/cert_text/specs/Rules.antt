@@ -16,7 +16,7 @@ use Rattle.cert_lines.specs.declared.version.Version.{Version}
 use Rattle.cert_lines.specs.declared.version.Version.TheVariants.{One, Two}
 use Rattle.cert_lines.specs.Versions.{form_line}
 use Rattle.cert_lines.specs.TailForms.{begins, values_in, last_in}
-use Rattle.grammar_lines.specs.LineParts.{word_in}
+use Rattle.cert_text.specs.LineParts.{word_in}
 use Rattle.cert_text.specs.TailForms.{declined_in}
 
 -- what the head says of the lines after it: the form of the text, the budget, and the signals that count

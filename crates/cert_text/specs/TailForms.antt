@@ -7,7 +7,7 @@ use Rattle.cert_lines.specs.TailForms.{begins, weak_in}
 use Rattle.cert_lines.specs.declared.ranges.TheConstants.{MOVES}
 use Rattle.cert_lines.specs.declared.version.Version.{Version}
 use Rattle.cert_lines.specs.Versions.{last_column}
-use Rattle.grammar_lines.specs.TailParts.{place_in}
+use Rattle.cert_text.specs.TailParts.{place_in}
 use Rattle.cert_data.specs.declared.tails.Tail.{Tail}
 use Rattle.cert_data.specs.declared.tails.Tail.TheVariants.{Weak, Overwidth, Unsettled, Spent}
 

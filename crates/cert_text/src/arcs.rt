@@ -33,5 +33,5 @@ pub(crate) fn read_arcs(
     ensures used { IfOk result (All (HasUsedShifts (fine_signals signals))) }
     ensures whole { IfOk result (All IsWholeArc) }
 {
-    grammar_lines::read_arcs::<CertText>(alloc, lines, version, signals)
+    crate::read_arcs::<CertText>(alloc, lines, version, signals)
 }

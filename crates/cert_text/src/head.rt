@@ -2,14 +2,14 @@
 ghost use Rattle.std.specs.Prelude.{◌≡◌, ◌≤◌, ◌++◌, ℕ, length, IfOk};
 ghost use Rattle.obs_rows.specs.Ranges.{IsPoint, IsSystem};
 ghost use Rattle.rinex_head.specs.LineRules.{ReadsFree};
-ghost use Rattle.cert_spelling.specs.Spelling.{system_lines, head_lines};
+ghost use Rattle.cert_text.specs.Spelling.{system_lines, head_lines};
 ghost use Rattle.cert_text.specs.Rules.{cert_rules, frame, behind_budget, Form, Base, ArcCount};
 ghost use Rattle.obs_rows.specs.Signals.{fine_signals};
 ghost use Rattle.cert_lines.specs.declared.version.Version.TheVariants.{One};
 
 use crate::grammar::CertText;
+use crate::{next_count, next_letters, next_system, next_triple, next_word};
 use cert_lines::{COORDINATES, Version};
-use grammar_lines::{next_count, next_letters, next_system, next_triple, next_word};
 use line_source::Lines;
 use obs_rows::{MOST_BUDGET, MOST_RATIO, Signals};
 use rinex_head::At;

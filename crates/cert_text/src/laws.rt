@@ -4,8 +4,8 @@ ghost use Rattle.rinex_head.specs.declared.place.At.{At};
 ghost use Rattle.rinex_head.specs.OwnFlaws.{IsOwnFlaw};
 ghost use Rattle.line_source.specs.EndedLines.{ended_lines};
 ghost use Rattle.cert_data.specs.declared.certs.Cert.{Cert};
-ghost use Rattle.cert_spelling.specs.Spelling.{spelling};
-ghost use Rattle.cert_spelling.specs.Lengths.{IsWhole};
+ghost use Rattle.cert_text.specs.Spelling.{spelling};
+ghost use Rattle.cert_text.specs.Lengths.{IsWhole};
 ghost use Rattle.cert_text.specs.Rules.{cert_rules, reading_of};
 
 /// No two certificates have the same spelling: what is written of one determines it.

@@ -8,13 +8,13 @@ ghost use Rattle.obs_rows.specs.declared.limits.TheConstants.{MOST_ARCS};
 ghost use Rattle.cert_lines.specs.Versions.{group_limit};
 ghost use Rattle.rinex_head.specs.LineRules.{Reads};
 ghost use Rattle.cert_lines.specs.Lines.{pair_lines};
-ghost use Rattle.cert_spelling.specs.Spelling.{all_pair_lines, counted_pairs};
+ghost use Rattle.cert_text.specs.Spelling.{all_pair_lines, counted_pairs};
 ghost use Rattle.cert_lines.specs.Lengths.{IsWholePair};
 ghost use Rattle.cert_text.specs.Rules.{cert_rules, frame, before_pairs, PairCount, Tail};
 
 use crate::grammar::CertText;
+use crate::{next_count, next_pair_head, read_rows};
 use cert_lines::Version;
-use grammar_lines::{next_count, next_pair_head, read_rows};
 use line_source::Lines;
 use obs_rows::{Arc, MOST_PAIRS, PairRows, Session, SessionBuilder, Signals};
 use rinex_head::TextFault;

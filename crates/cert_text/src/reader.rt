@@ -3,10 +3,10 @@ ghost use Rattle.std.specs.Prelude.{◌≡◌, ◌≤◌, [], length, Ok, Err, I
 ghost use Rattle.line_source.specs.declared.transfer.TheConstants.{MAX_FILE};
 ghost use Rattle.rinex_head.specs.LineRules.{rest_gives, Gives, OnRefusal, IfRefused};
 ghost use Rattle.cert_data.specs.declared.certs.Cert.{Cert};
-ghost use Rattle.cert_spelling.specs.Spelling.{lines_of_cert, spelling_as, spelling};
-ghost use Rattle.cert_spelling.specs.Lengths.{IsWhole, IsCertificate};
-ghost use Rattle.cert_spelling.specs.Editions.{IsOfVersion, IsCertificateAs};
-ghost use Rattle.grammar_lines.specs.Beginnings.{NoneBegins};
+ghost use Rattle.cert_text.specs.Spelling.{lines_of_cert, spelling_as, spelling};
+ghost use Rattle.cert_text.specs.Lengths.{IsWhole, IsCertificate};
+ghost use Rattle.cert_text.specs.Editions.{IsOfVersion, IsCertificateAs};
+ghost use Rattle.cert_text.specs.Beginnings.{NoneBegins};
 ghost use Rattle.cert_text.specs.BeforePairs.{BeginsBefore};
 ghost use Rattle.cert_text.specs.Rules.{cert_rules, reading_as, reading_of, Form, End};
 
@@ -28,7 +28,7 @@ fn read_end(lines: &mut Lines<'_>) -> Result<(), At>
         (λ u. (rest_gives cert_rules lines.old End ≡ Ok tt) × (lines.old.left ≡ []))
         (λ at. rest_gives cert_rules lines.old End ≡ Err at) }
 {
-    grammar_lines::read_end::<CertText>(lines)
+    crate::read_end::<CertText>(lines)
 }
 
 fn read_lines(alloc: Global, version: Version, mut lines: Lines<'_>) -> Result<Cert, TextFault>

@@ -7,19 +7,19 @@ ghost use Rattle.int_search.specs.Vectors.{IsSmall};
 ghost use Rattle.rinex_head.specs.LineRules.{ReadsFree};
 ghost use Rattle.cert_lines.specs.Lines.{vector_line};
 ghost use Rattle.cert_data.specs.Tails.{IsTailOf};
-ghost use Rattle.cert_spelling.specs.Spelling.{tail_lines};
-ghost use Rattle.cert_spelling.specs.Lengths.{IsWholeTail};
-ghost use Rattle.cert_spelling.specs.Editions.{IsColumnOf};
+ghost use Rattle.cert_text.specs.Spelling.{tail_lines};
+ghost use Rattle.cert_text.specs.Lengths.{IsWholeTail};
+ghost use Rattle.cert_text.specs.Editions.{IsColumnOf};
 ghost use Rattle.cert_lines.specs.declared.version.Version.{Version};
 ghost use Rattle.cert_text.specs.Rules.{cert_rules, frame, Tail as TailStart, Second, End};
 
 use crate::grammar::CertText;
 use crate::tail_lines::declined_in;
+use crate::{integers_in, next_integers, next_last, next_triple, next_values};
 use cert_data::{Tail, TwoBest};
 use cert_lines::{MOVES, Version, begins};
-use form_tables::MOST_INTEGERS;
-use grammar_lines::{integers_in, next_integers, next_last, next_triple, next_values};
 use line_source::Lines;
+use quadratic_form::MOST_INTEGERS;
 use rinex_head::{At, What, next_line};
 
 // A tail with vectors, after its first line.

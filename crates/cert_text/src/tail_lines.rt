@@ -2,15 +2,15 @@
 ghost use Rattle.std.specs.Prelude.{◌≡◌, ◌≤◌, ◌∷◌, [], ℕ, List, length, IfOk};
 ghost use Rattle.obs_rows.specs.declared.arcs.Arc.{Arc};
 ghost use Rattle.cert_data.specs.Tails.{IsTailOf};
-ghost use Rattle.cert_spelling.specs.Spelling.{tail_lines};
-ghost use Rattle.cert_spelling.specs.Lengths.{IsWholeTail};
-ghost use Rattle.cert_spelling.specs.Editions.{IsColumnOf};
+ghost use Rattle.cert_text.specs.Spelling.{tail_lines};
+ghost use Rattle.cert_text.specs.Lengths.{IsWholeTail};
+ghost use Rattle.cert_text.specs.Editions.{IsColumnOf};
 ghost use Rattle.cert_lines.specs.declared.version.Version.{Version};
 ghost use Rattle.cert_text.specs.TailForms.{weak_tail_in, unsettled_in, spent_in, overwidth_in, declined_in};
 
+use crate::place_in;
 use cert_data::Tail;
 use cert_lines::{MOVES, Version, WeakPivot, begins, count_in, vector_in, weak_in};
-use grammar_lines::place_in;
 use rinex_head::Flaw;
 
 fn weak_tail_in(version: Version, line: &[u8]) -> Result<Tail, Flaw>

@@ -12,11 +12,11 @@ use Rattle.command_words.specs.declared.jobs.Job.{Job}
 use Rattle.command_words.specs.declared.jobs.Job.TheVariants as job
 use Rattle.obs_rows.specs.Ranges.{IsSystem}
 use Rattle.obs_rows.specs.declared.limits.TheConstants.{MOST_PAIRS, MOST_RATIO, MOST_BUDGET}
-use Rattle.run_options.specs.declared.defaults.TheConstants.{DEFAULT_SYSTEM, DEFAULT_RATIO, DEFAULT_BUDGET, DEFAULT_MASK, DEFAULT_GAP, DEFAULT_JUMP, DEFAULT_ARC, DEFAULT_STEP, DEFAULT_FIRST, DEFAULT_COUNT}
-use Rattle.run_options.specs.Defaults.{default_bands}
+use Rattle.obs_rows.specs.declared.defaults.TheConstants.{DEFAULT_SYSTEM, DEFAULT_RATIO, DEFAULT_BUDGET, DEFAULT_MASK, DEFAULT_GAP, DEFAULT_JUMP, DEFAULT_ARC, DEFAULT_STEP, DEFAULT_FIRST, DEFAULT_COUNT}
+use Rattle.obs_rows.specs.Defaults.{default_bands}
 use Rattle.command_words.specs.Settings.{name_of, place_of, is_same, numbers_for, AreBandsOf, IsChosenBy, IsSetBy, IsSignalChoice, IsValue, AreOptions}
 use Rattle.command_words.specs.Words.{name_of_command, IsPlainJob, IsJobOf}
-use Rattle.run_options.specs.declared.options.Options.{Options}
+use Rattle.obs_rows.specs.declared.options.Options.{Options}
 use Rattle.command_words.proofs.SettingLaws.{one_value}
 use Rattle.command_words.proofs.SplitLaws.{is_itself, same_setting}
 

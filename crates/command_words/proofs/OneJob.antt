@@ -13,15 +13,15 @@ use Rattle.command_words.specs.declared.jobs.Job.TheVariants as job
 use Rattle.command_words.specs.Numbers.{IsNumber, IsSatellite}
 use Rattle.command_words.specs.Parts.{AreParted}
 use Rattle.command_words.specs.Words.{name_of_command, name_of_part, sim_with, IsPlainJob, IsOrbitJob, IsSim, IsSimJob, IsRunJob, IsArcsJob, IsJobOf, IsJob, IsInRange}
-use Rattle.run_options.specs.declared.options.Options.{Options}
-use Rattle.run_options.specs.Defaults.{numbers_of}
-use Rattle.run_options.proofs.OneOptions.{one_options}
+use Rattle.obs_rows.specs.declared.options.Options.{Options}
+use Rattle.obs_rows.specs.Defaults.{numbers_of}
+use Rattle.obs_rows.proofs.OneOptions.{one_options}
 use Rattle.command_words.specs.declared.settings.Setting.{Setting}
 use Rattle.command_words.specs.declared.settings.Setting.TheVariants.{Ratio, Budget, Mask, Gap, Jump, Arc, Step, First, Count, Bands, System}
 use Rattle.obs_rows.specs.Ranges.{IsSystem}
 use Rattle.obs_rows.specs.declared.limits.TheConstants.{MOST_PAIRS, MOST_RATIO, MOST_BUDGET}
-use Rattle.run_options.specs.declared.defaults.TheConstants.{DEFAULT_SYSTEM, DEFAULT_RATIO, DEFAULT_BUDGET, DEFAULT_MASK, DEFAULT_GAP, DEFAULT_JUMP, DEFAULT_ARC, DEFAULT_STEP, DEFAULT_FIRST, DEFAULT_COUNT}
-use Rattle.run_options.specs.Defaults.{default_bands}
+use Rattle.obs_rows.specs.declared.defaults.TheConstants.{DEFAULT_SYSTEM, DEFAULT_RATIO, DEFAULT_BUDGET, DEFAULT_MASK, DEFAULT_GAP, DEFAULT_JUMP, DEFAULT_ARC, DEFAULT_STEP, DEFAULT_FIRST, DEFAULT_COUNT}
+use Rattle.obs_rows.specs.Defaults.{default_bands}
 use Rattle.command_words.specs.Settings.{numbers_for, AreBandsOf, IsChosenBy, IsSet, IsSignalChoice, AreOptions}
 use Rattle.command_words.proofs.SettingLaws.{one_number, one_system, one_satellite, one_choice, choice_admitted}
 use Rattle.command_words.proofs.PartLaws.{one_parting}

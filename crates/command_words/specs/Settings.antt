@@ -1,10 +1,10 @@
 -- The options: how they are spelled, and what is set by those that are given.
 use Rattle.std.specs.Prelude.{◌≡◌, ℕ, ◌==◌, ◌&&◌, ◌≤◌, Bool, true, false, List, [], ◌∷◌, codes, get_or, if◌then◌else◌, None, Some}
 use Rattle.std.specs.declared.option.Option.{Option}
-use Rattle.run_options.specs.declared.defaults.TheConstants.{DEFAULT_RATIO, DEFAULT_BUDGET, DEFAULT_MASK, DEFAULT_GAP, DEFAULT_JUMP, DEFAULT_ARC, DEFAULT_STEP, DEFAULT_FIRST, DEFAULT_COUNT, DEFAULT_SYSTEM}
-use Rattle.run_options.specs.declared.options.TheConstants.{GALILEO}
-use Rattle.run_options.specs.Defaults.{default_bands}
-use Rattle.run_options.specs.declared.options.Options.{Options}
+use Rattle.obs_rows.specs.declared.defaults.TheConstants.{DEFAULT_RATIO, DEFAULT_BUDGET, DEFAULT_MASK, DEFAULT_GAP, DEFAULT_JUMP, DEFAULT_ARC, DEFAULT_STEP, DEFAULT_FIRST, DEFAULT_COUNT, DEFAULT_SYSTEM}
+use Rattle.obs_rows.specs.declared.options.TheConstants.{GALILEO}
+use Rattle.obs_rows.specs.Defaults.{default_bands}
+use Rattle.obs_rows.specs.declared.options.Options.{Options}
 use Rattle.obs_rows.specs.declared.band_sets.TheConstants.{BANDS_L1_L5}
 use Rattle.obs_rows.specs.BandSets.{IsBandsNumber}
 use Rattle.obs_rows.specs.Ranges.{IsSystem}

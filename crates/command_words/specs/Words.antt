@@ -15,7 +15,7 @@ use Rattle.command_words.specs.declared.jobs.Job.{Job}
 use Rattle.command_words.specs.declared.jobs.Job.TheVariants as job
 use Rattle.command_words.specs.Numbers.{IsNumber, IsNumberIn, IsSatellite}
 use Rattle.command_words.specs.Parts.{AreParted}
-use Rattle.run_options.specs.declared.options.Options.{Options}
+use Rattle.obs_rows.specs.declared.options.Options.{Options}
 use Rattle.command_words.specs.Settings.{AreBandsOf, AreOptions, ArePairOptions, IsSimChoice}
 
 abbrev pub texts_of : List (String Global) → List (List ℕ)

@@ -1,13 +1,12 @@
 //! The system and the bands by what is given.
 ghost use Rattle.std.specs.Prelude.{ℕ, ◌↔◌, IsTrue, IfSome, MatchOption};
 ghost use Rattle.obs_rows.specs.Ranges.{IsSystem};
-ghost use Rattle.run_options.specs.declared.defaults.TheConstants.{DEFAULT_SYSTEM};
-ghost use Rattle.run_options.specs.Defaults.{default_bands};
+ghost use Rattle.obs_rows.specs.declared.defaults.TheConstants.{DEFAULT_SYSTEM};
+ghost use Rattle.obs_rows.specs.Defaults.{default_bands};
 ghost use Rattle.command_words.specs.Settings.{numbers_for, AreBandsOf, IsChosenBy, IsSignalChoice, IsSimChoice};
 
 use crate::settings::{Found, Given, Setting, are_of_sim, numbers_found};
-use obs_rows::{BANDS_L1_L5, is_bands_number};
-use run_options::{DEFAULT_SYSTEM, GALILEO, GPS, default_bands};
+use obs_rows::{BANDS_L1_L5, DEFAULT_SYSTEM, GALILEO, GPS, default_bands, is_bands_number};
 
 /// A satellite system by its letter, and the number of the bands that are used of it.
 #[derive(Clone, Copy, Debug)]

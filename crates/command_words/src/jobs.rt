@@ -14,7 +14,7 @@ use crate::sims::{Part, sim_of};
 use crate::split::split;
 use crate::word::Word;
 use gps_time::Tick;
-use run_options::Options;
+use obs_rows::Options;
 use std::alloc::Global;
 
 /// What is to be done.

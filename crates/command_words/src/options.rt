@@ -1,14 +1,13 @@
 //! The options of a run by what is given.
 ghost use Rattle.std.specs.Prelude.{MatchOption};
-ghost use Rattle.run_options.specs.declared.options.Options.{Options};
+ghost use Rattle.obs_rows.specs.declared.options.Options.{Options};
 ghost use Rattle.command_words.specs.Settings.{AreOptions, ArePairOptions};
 
 use crate::choices::signal_choice_of;
 use crate::settings::{Given, Limits, Setting, is_left_out, number_for};
-use obs_rows::{MOST_BUDGET, MOST_PAIRS, MOST_RATIO};
-use run_options::{
+use obs_rows::{
     DEFAULT_ARC, DEFAULT_BUDGET, DEFAULT_COUNT, DEFAULT_FIRST, DEFAULT_GAP, DEFAULT_JUMP,
-    DEFAULT_MASK, DEFAULT_RATIO, DEFAULT_STEP, Options,
+    DEFAULT_MASK, DEFAULT_RATIO, DEFAULT_STEP, MOST_BUDGET, MOST_PAIRS, MOST_RATIO, Options,
 };
 
 const RATIO: Limits = Limits {

@@ -7,10 +7,10 @@ use Rattle.quadratic_form.specs.Elimination.{steps, StepsAnswer}
 use Rattle.quadratic_form.specs.LowerSums.{Small, SmallList, SmallForm}
 use Rattle.quadratic_form.specs.Places.{list_from, form_from}
 use Rattle.quadratic_form.proofs.Ranges.{AllInRange, steps_range}
-use Rattle.form_tables.specs.declared.sizes.TheConstants.{BASELINE_COLUMNS, MOST_COLUMNS}
-use Rattle.form_tables.specs.Tables.{entry, IsZeroOutside}
-use Rattle.form_tables.specs.Matrices.{EntriesBelow}
-use Rattle.form_tables.proofs.TableLaws.{zero_small}
+use Rattle.quadratic_form.specs.declared.sizes.TheConstants.{BASELINE_COLUMNS, MOST_COLUMNS}
+use Rattle.quadratic_form.specs.Tables.{entry, IsZeroOutside}
+use Rattle.quadratic_form.specs.Matrices.{EntriesBelow}
+use Rattle.quadratic_form.proofs.TableLaws.{zero_small}
 use Rattle.integer_form.specs.Factors.{stored}
 use Rattle.integer_form.specs.Kept.{form_of_table, constant_form, IsEliminated, AreKept, IsZeroFrom, IsBelowDiagonal}
 use Rattle.integer_form.proofs.StoredPlaces.{stored_same}

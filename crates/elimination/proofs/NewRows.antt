@@ -3,7 +3,7 @@ use Rattle.std.proofs.Common.{◌≡◌, ◌≢◌, ◌⊎◌, inl, inr, ℕ, �
 use Rattle.std.specs.Int.{w64, w128}
 use Rattle.whole_math.specs.Rounding.{nearest_div}
 use Rattle.whole_math.proofs.Words.{as_w64, as_w128}
-use Rattle.form_tables.specs.Tables.{entry}
+use Rattle.quadratic_form.specs.Tables.{entry}
 use Rattle.elimination.specs.StepEntries.{other_entry, new_entry}
 use Rattle.elimination.specs.RowSteps.{left_own, left_other}
 use Rattle.elimination.proofs.NewEntries.{new_own, new_other, other_same}

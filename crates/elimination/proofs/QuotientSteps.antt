@@ -1,6 +1,6 @@
 -- The steps of the baseline's columns for a row, by the quotients of its entries.
 use Rattle.std.proofs.Common.{◌≡◌, ◌⊎◌, ⊎_elim, ℕ, suc, ◌-◌, ◌^◌, ◌<◌, ◌≤◌, true, List, ℤ, pos, ◌-ℤ◌, unsigned_abs, Option, Some, None, IfSome, arith, sym, ap, ap₂, ◌∙◌, refl, subst, below_more}
-use Rattle.form_tables.specs.Tables.{entry}
+use Rattle.quadratic_form.specs.Tables.{entry}
 use Rattle.elimination.specs.StepEntries.{is_small, nearest_quotient}
 use Rattle.elimination.specs.Quotients.{factor_by, own_by, other_by, quotient_in, IsQuotientOf, AreQuotients}
 use Rattle.elimination.specs.RowSteps.{left_own, left_entry, left_after, IsLeft, HasFactors}

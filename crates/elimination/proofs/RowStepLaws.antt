@@ -7,7 +7,7 @@ use Rattle.quadratic_form.specs.Forms.{Column}
 use Rattle.quadratic_form.specs.Elimination.{factors, kept, next, Factor, Refusal, all_small, form_small, step, steps, with_factor}
 use Rattle.quadratic_form.specs.Places.{list_from, form_from}
 use Rattle.quadratic_form.proofs.Places.{list_factors, form_next, form_same, len_list}
-use Rattle.form_tables.specs.Tables.{entry}
+use Rattle.quadratic_form.specs.Tables.{entry}
 use Rattle.integer_form.specs.Factors.{factor_at, stored}
 use Rattle.elimination.specs.StepEntries.{is_small}
 use Rattle.elimination.specs.RowSteps.{left_own, left_other, left_entry, left_after, row_entry, HasFactors, ArePivotRows}

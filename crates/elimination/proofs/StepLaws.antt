@@ -6,7 +6,7 @@ use Rattle.quadratic_form.specs.Forms.{Column}
 use Rattle.quadratic_form.specs.Elimination.{factors, kept, next, Factor, Refusal, weak, wide_factor, wide_entry, all_small, form_small, step, StepAnswer}
 use Rattle.quadratic_form.specs.Places.{list_from, form_from}
 use Rattle.quadratic_form.proofs.Places.{list_factors, form_next, len_list}
-use Rattle.form_tables.specs.Tables.{entry}
+use Rattle.quadratic_form.specs.Tables.{entry}
 use Rattle.elimination.specs.StepEntries.{is_small, factor_entry, new_entry}
 use Rattle.elimination.specs.Stops.{form_after}
 use Rattle.elimination.proofs.NewEntries.{new_own, new_other}

@@ -6,9 +6,9 @@ use Rattle.quadratic_form.specs.Forms.{Column}
 use Rattle.quadratic_form.specs.LowerSums.{Small, SmallList, SmallForm}
 use Rattle.quadratic_form.specs.Places.{list_from, form_from}
 use Rattle.quadratic_form.proofs.Places.{later}
-use Rattle.form_tables.specs.Tables.{entry, IsZeroOutside}
-use Rattle.form_tables.specs.Matrices.{IsSymmetric, EntriesBelow}
-use Rattle.form_tables.proofs.TableLaws.{zero_small}
+use Rattle.quadratic_form.specs.Tables.{entry, IsZeroOutside}
+use Rattle.quadratic_form.specs.Matrices.{IsSymmetric, EntriesBelow}
+use Rattle.quadratic_form.proofs.TableLaws.{zero_small}
 
 -- ---- a form that stands elsewhere
 list_moved : (f g : ℕ → ℤ) (i j k : ℕ) → ((c : ℕ) → c < k → f (i + c) ≡ g (j + c)) → list_from f i k ≡ list_from g j k

@@ -1,6 +1,6 @@
 -- What a row's steps write into the form that the baseline's columns leave.
 use Rattle.std.specs.Prelude.{◌≡◌, ◌≢◌, ℕ}
-use Rattle.form_tables.specs.Tables.{entry}
+use Rattle.quadratic_form.specs.Tables.{entry}
 use Rattle.integer_form.specs.declared.front_form.FrontForm.{FrontForm}
 
 -- the new form differs from the old one in nothing but the factors of row r

@@ -1,6 +1,6 @@
 -- Quotients, and the entries that they are of. A table q holds the rows of the first columns.
 use Rattle.std.specs.Prelude.{◌≡◌, ◌<◌, ◌≤◌, ◌^◌, ℕ, zero, suc, List, ℤ, pos, ◌<ℤ◌, unsigned_abs}
-use Rattle.form_tables.specs.Tables.{entry}
+use Rattle.quadratic_form.specs.Tables.{entry}
 use Rattle.elimination.specs.StepEntries.{nearest_quotient}
 use Rattle.elimination.specs.RowSteps.{left_own, left_other, IsLeft, HasFactors}
 use Rattle.elimination.specs.declared.quotients.Quotient.{Quotient}

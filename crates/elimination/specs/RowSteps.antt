@@ -3,7 +3,7 @@
 use Rattle.std.specs.Prelude.{◌≡◌, ℕ, zero, suc, ◌-◌, ◌^◌, ◌<◌, ◌≤◌, true, false, int_lt, nat_eq, cond, List, ℤ, pos, ◌-ℤ◌, ◌*ℤ◌, unsigned_abs, slice_index_or}
 use Rattle.whole_math.specs.Rounding.{nearest_div, ceil_div}
 use Rattle.quadratic_form.specs.Elimination.{kept}
-use Rattle.form_tables.specs.Tables.{entry}
+use Rattle.quadratic_form.specs.Tables.{entry}
 use Rattle.elimination.specs.StepEntries.{is_small, factor_entry}
 
 -- what a step with the pivot a leaves of an own entry x, where p stands in its column and m columns come after that of the pivot

@@ -1,7 +1,7 @@
 -- The entries of one step, by their places in a table.
 use Rattle.std.specs.Prelude.{◌≡◌, ℕ, ◌^◌, ◌≤◌, Bool, true, false, nat_lt, nat_eq, cond, Option, IfSome, IsNone, List, ℤ, pos, ◌-ℤ◌, ◌*ℤ◌, unsigned_abs}
 use Rattle.whole_math.specs.Rounding.{nearest_div, ceil_div}
-use Rattle.form_tables.specs.Tables.{entry}
+use Rattle.quadratic_form.specs.Tables.{entry}
 
 -- below 2^52 in size
 abbrev pub is_small : ℤ → Bool

@@ -3,7 +3,7 @@ use Rattle.std.specs.Prelude.{ℕ, suc, List, ℤ}
 use Rattle.quadratic_form.specs.Forms.{Column}
 use Rattle.quadratic_form.specs.Elimination.{Refusal, weak, wide_factor, wide_entry}
 use Rattle.quadratic_form.specs.Places.{list_from, form_from}
-use Rattle.form_tables.specs.Tables.{entry}
+use Rattle.quadratic_form.specs.Tables.{entry}
 use Rattle.elimination.specs.declared.step.StepFault.{StepFault}
 use Rattle.elimination.specs.declared.step.StepFault.TheVariants.{Weak, WideFactor, WideEntry}
 

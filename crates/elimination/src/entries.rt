@@ -5,7 +5,7 @@ ghost use Rattle.elimination.specs.StepEntries.{is_small, square_over, IsSmallOn
 ghost use Rattle.elimination.specs.Quotients.{factor_by, own_by, other_by};
 
 use crate::quotients::Quotient;
-use form_tables::MOST_COLUMNS;
+use quadratic_form::MOST_COLUMNS;
 use whole_math::{ceil, ceil_shift, nearest, product};
 
 /// Every factor and every entry after a rounding is below this in size.

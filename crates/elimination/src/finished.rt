@@ -5,8 +5,8 @@ ghost use Rattle.elimination.specs.Finish.{IsFinishOf, finish_of};
 
 use crate::steps::take_steps;
 use crate::tables::{kept_list, put_form};
-use form_tables::{BASELINE_COLUMNS, FactorTable, NormalTable};
 use integer_form::{Form, FrontForm, LowerFault, put_factors};
+use quadratic_form::{BASELINE_COLUMNS, FactorTable, NormalTable};
 
 /// The steps of the integer columns, from the form that the front left.
 // Never inlined: these tables would then lie on the stack for as long as its caller runs.

@@ -3,7 +3,7 @@
 //! false, and nothing is said of why: the steps column by column say that.
 ghost use Rattle.std.specs.Prelude.{◌≡◌, ◌≢◌, ℕ, suc, ◌+◌, ◌-◌, ◌^◌, ◌<◌, ◌≤◌, true, false, ℤ, int_lt, pos, ◌-ℤ◌, ◌<ℤ◌, unsigned_abs, IsTrue, IfSome};
 ghost use Rattle.quadratic_form.specs.Elimination.{kept};
-ghost use Rattle.form_tables.specs.Tables.{entry, item};
+ghost use Rattle.quadratic_form.specs.Tables.{entry, item};
 ghost use Rattle.elimination.specs.StepEntries.{is_small};
 ghost use Rattle.elimination.specs.RowSteps.{left_after, AreLeft, HasFactors};
 ghost use Rattle.elimination.specs.FrontSteps.{DifferInFactors};
@@ -11,8 +11,8 @@ ghost use Rattle.elimination.specs.Quotients.{quotient_in, IsQuotientOf, AreQuot
 
 use crate::entries::kept_of;
 use crate::quotients::{Quotient, Reciprocal, RowQuotients};
-use form_tables::{BASELINE_COLUMNS, MOST_COLUMNS, Table};
 use integer_form::FrontForm;
+use quadratic_form::{BASELINE_COLUMNS, MOST_COLUMNS, Table};
 
 /// The rows of the baseline's columns, each as the steps of the columns before it left it.
 pub type PivotTable = Table<BASELINE_COLUMNS, MOST_COLUMNS>;

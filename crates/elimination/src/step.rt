@@ -2,14 +2,14 @@
 //! Of a table only the entries on the diagonal and after it are read and written.
 ghost use Rattle.std.specs.Prelude.{◌≡◌, ◌≢◌, ◌⊎◌, ℕ, ◌+◌, ◌-◌, ◌^◌, ◌<◌, ◌≤◌, pos, ◌<ℤ◌, unsigned_abs, true, false, IfOk, IfErr, Ok, Err};
 ghost use Rattle.quadratic_form.specs.Elimination.{step as elimination};
-ghost use Rattle.form_tables.specs.Tables.{entry};
+ghost use Rattle.quadratic_form.specs.Tables.{entry};
 ghost use Rattle.elimination.specs.StepEntries.{is_small, factor_entry, other_entry, new_entry};
 ghost use Rattle.elimination.specs.Stops.{refusal_of, column_at, form_after};
 ghost use Rattle.integer_form.specs.Factors.{factor_at};
 
 use crate::entries::{kept_of, narrow};
 use crate::quotients::{Quotient, Reciprocal};
-use form_tables::{FactorTable, MOST_COLUMNS, MOST_FACTORS, NormalTable};
+use quadratic_form::{FactorTable, MOST_COLUMNS, MOST_FACTORS, NormalTable};
 
 /// Why a step stops.
 #[derive(Clone, Copy, Debug, PartialEq, Eq)]

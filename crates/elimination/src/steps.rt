@@ -2,14 +2,14 @@
 ghost use Rattle.std.specs.Prelude.{◌≡◌, ◌⊎◌, ℕ, ◌-◌, ◌^◌, ◌<◌, ◌≤◌, pos, slice_index_or, unsigned_abs, OnOk, IfErr, Ok, Err};
 ghost use Rattle.quadratic_form.specs.Elimination.{steps};
 ghost use Rattle.quadratic_form.specs.Places.{form_from};
-ghost use Rattle.form_tables.specs.Tables.{entry};
+ghost use Rattle.quadratic_form.specs.Tables.{entry};
 ghost use Rattle.elimination.specs.Stops.{refusal_of};
 ghost use Rattle.integer_form.specs.Factors.{stored};
 ghost use Rattle.integer_form.specs.ReportedRefusals.{fault_of};
 
 use crate::step::{StepFault, step};
-use form_tables::{FactorTable, MOST_COLUMNS, MOST_FACTORS, NormalTable};
 use integer_form::{LowerFault, Place};
+use quadratic_form::{FactorTable, MOST_COLUMNS, MOST_FACTORS, NormalTable};
 
 /// Where the elimination stopped: the column, its own entry, and why.
 #[derive(Clone, Copy)]

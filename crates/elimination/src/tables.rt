@@ -2,11 +2,11 @@
 ghost use Rattle.std.specs.Prelude.{◌≡◌, ◌≢◌, ◌⊎◌, ℕ, ◌+◌, ◌^◌, ◌<◌, ◌≤◌, pos, slice_index_or, unsigned_abs};
 ghost use Rattle.quadratic_form.specs.Places.{form_from};
 ghost use Rattle.quadratic_form.specs.LowerSums.{SmallForm};
-ghost use Rattle.form_tables.specs.Tables.{entry, item, IsZeroOutside};
-ghost use Rattle.form_tables.specs.Matrices.{IsSymmetric, EntriesBelow};
+ghost use Rattle.quadratic_form.specs.Tables.{entry, item, IsZeroOutside};
+ghost use Rattle.quadratic_form.specs.Matrices.{IsSymmetric, EntriesBelow};
 ghost use Rattle.integer_form.specs.Kept.{form_of_table, IsZeroFrom};
 
-use form_tables::{
+use quadratic_form::{
     BASELINE_COLUMNS, FactorTable, FormTable, FrontTable, MOST_COLUMNS, MOST_FACTORS,
     MOST_FORM_COLUMNS, NormalTable,
 };

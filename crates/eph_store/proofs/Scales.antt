@@ -4,7 +4,7 @@ use Rattle.std.proofs.lemmas.Int.{ints}
 use Rattle.std.proofs.lemmas.Nat.{pow-add}
 use Rattle.std.proofs.Math.Nat.{mul_assoc, mul-le-mul_right, le_of_mul-le-mul_right, pow-le-pow_right, le-mul_of_pos_right, mul_comm}
 use Rattle.decimal_text.specs.declared.exponent.Dec.{Dec}
-use Rattle.rational.specs.Rational.{◌≤ʳ◌}
+use Rattle.whole_math.specs.Rational.{◌≤ʳ◌}
 use Rattle.eph_store.specs.Decimals.{ten_to_pos, decimal, with_exponent}
 
 -- u and v are in the order of x and y

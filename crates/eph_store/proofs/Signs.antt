@@ -3,7 +3,7 @@ use Rattle.std.proofs.Common.{◌≡◌, ℕ, zero, suc, ◌*◌, ◌^◌, ◌<�
 use Rattle.std.proofs.lemmas.Int.{ints}
 use Rattle.std.proofs.Math.Nat.{mul-pos, le_of_mul-le-mul_right}
 use Rattle.whole_math.proofs.IntLaws.{neg_mul_ℤ}
-use Rattle.rational.specs.Rational.{◌≤ʳ◌}
+use Rattle.whole_math.specs.Rational.{◌≤ʳ◌}
 use Rattle.decimal_text.specs.declared.exponent.Dec.{Dec}
 use Rattle.eph_store.specs.Decimals.{ten_to_pos, decimal, size_of, IsFromTo, IsWithin, IsWhole}
 use Rattle.eph_store.proofs.Scales.{cut_power}

@@ -3,7 +3,7 @@ use Rattle.std.specs.Prelude.{ℕ, suc, ◌<◌, ◌^◌, ℤ, pos, negsuc, ◌*
 use Rattle.std.proofs.Math.Nat.{one-le-pow}
 use Rattle.std.proofs.Common.{lit<}
 use Rattle.decimal_text.specs.declared.exponent.Dec.{Dec}
-use Rattle.rational.specs.Rational.{Rational, of_whole, ◌≈◌, ◌≤ʳ◌}
+use Rattle.whole_math.specs.Rational.{Rational, of_whole, ◌≈◌, ◌≤ʳ◌}
 
 pub ten_to_pos : (n : ℕ) → 0 < 10 ^ n
 ten_to_pos n = one-le-pow n 10 (lit< tt)

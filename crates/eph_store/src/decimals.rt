@@ -1,6 +1,6 @@
 //! Numbers with an exponent against bounds, exactly.
 ghost use Rattle.std.specs.Prelude.{◌≡◌, ℕ, pos, ◌*◌, ◌^◌, ◌<◌, ◌≤◌, ◌≤ℤ◌, ◌↔◌, IsTrue, IfNone, IfSome, MatchOption, Option};
-ghost use Rattle.rational.specs.Rational.{◌≤ʳ◌};
+ghost use Rattle.whole_math.specs.Rational.{◌≤ʳ◌};
 ghost use Rattle.eph_store.specs.Decimals.{decimal, size_of, IsFromTo, IsWithin, IsWhole};
 
 use decimal_text::Dec;

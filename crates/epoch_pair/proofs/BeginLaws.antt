@@ -7,7 +7,7 @@ use Rattle.epoch_pair.specs.declared.pairs.PairOf.{PairOf}
 use Rattle.epoch_pair.specs.declared.pairs.PairFault.{PairFault}
 use Rattle.epoch_pair.specs.declared.pairs.PairFault.TheVariants.{Dense, NoMemory}
 use Rattle.epoch_pair.specs.Faults.{IsPairFault}
-use Rattle.run_options.specs.declared.options.Options.{Options}
+use Rattle.obs_rows.specs.declared.options.Options.{Options}
 use Rattle.epoch_pair.specs.declared.faults.SessionFault.{SessionFault}
 use Rattle.epoch_pair.specs.Beginnings.{HasPosition, HaveSignals, LackSignal, IsSessionFault, fault_of}
 use Rattle.obs_rows.specs.BandSets.{bands_of}

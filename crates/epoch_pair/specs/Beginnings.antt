@@ -9,7 +9,7 @@ use Rattle.epoch_pair.specs.Pairs.{all_pairs, AreApart, IsTaken}
 use Rattle.epoch_pair.specs.Faults.{IsDense}
 use Rattle.epoch_pair.specs.Signals.{AreLettersOf, LacksLetter}
 use Rattle.obs_rows.specs.BandSets.{bands_of}
-use Rattle.run_options.specs.declared.options.Options.{Options}
+use Rattle.obs_rows.specs.declared.options.Options.{Options}
 use Rattle.obs_rows.specs.ReceiverPoints.{IsReceiverPoint}
 use Rattle.epoch_pair.specs.declared.faults.PairWhat.TheVariants.{NoBasePosition, NoSignal, Dense}
 use Rattle.epoch_pair.specs.declared.faults.SessionFault.{SessionFault}

@@ -10,9 +10,8 @@ use crate::faults::{PairWhat, SessionFault};
 use crate::pairs::{PairFault, PairOf, pair};
 use crate::shared::signals;
 use crate::taken::take;
-use obs_rows::{Signals, is_receiver_point};
+use obs_rows::{Options, Signals, is_receiver_point};
 use obs_store::ObsFile;
-use run_options::Options;
 use std::alloc::Global;
 
 /// What a run begins with.

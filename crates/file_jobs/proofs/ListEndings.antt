@@ -15,9 +15,9 @@ use Rattle.job_answers.specs.Works.{FileWork, NoLine, IsDoneOver}
 use Rattle.job_answers.specs.TextJobs.{EndsOnText, TextEnds}
 use Rattle.job_answers.proofs.EndingLaws.{verdict_at}
 use Rattle.job_answers.proofs.WorkLaws.{only_refused, only_fault}
-use Rattle.session_files.specs.SessionFiles.{IsObsOf, StopsAtObs}
-use Rattle.session_files.proofs.FaultLaws.{obs_fault_line}
-use Rattle.session_files.proofs.SessionLaws.{stop_no_verdict}
+use Rattle.job_answers.specs.SessionFiles.{IsObsOf, StopsAtObs}
+use Rattle.job_answers.proofs.FaultLaws.{obs_fault_line}
+use Rattle.job_answers.proofs.SessionLaws.{stop_no_verdict}
 use Rattle.file_jobs.specs.Listing.{list_job}
 
 -- a file that was read is listed

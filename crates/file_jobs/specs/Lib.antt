@@ -1,3 +1,9 @@
 pub mod Listing
 pub mod Orbits
 pub mod Zero
+pub mod CertJobs
+pub mod Migrations
+pub mod ZeroRows
+pub mod ZeroRules
+pub mod ZeroSums
+pub mod ZeroVerdicts

@@ -3,7 +3,7 @@ use Rattle.std.specs.Prelude.{◌≡◌, ℕ, List, []}
 use Rattle.line_source.specs.Lines.{lines_of}
 use Rattle.obs_store.specs.declared.file.ObsFile.{ObsFile}
 use Rattle.rinex_head.specs.declared.system.System.TheVariants.{Gps}
-use Rattle.obs_source.specs.Formats.{any_of, IsObservation, HasObservation}
+use Rattle.job_answers.specs.Formats.{any_of, IsObservation, HasObservation}
 use Rattle.report_text.specs.List.{list_text}
 use Rattle.job_answers.specs.declared.status.Status.TheVariants.{Done}
 use Rattle.job_answers.specs.Endings.{Ending, ending}

@@ -2,9 +2,9 @@
 use Rattle.std.specs.Prelude.{◌≡◌, ◌⊎◌, ℕ, ℤ, ◌≤ℤ◌, List, [], ◌++◌, codes}
 use Rattle.std.specs.Fmt.{signed_decimal}
 use Rattle.line_source.specs.Lines.{lines_of}
-use Rattle.zero_rows.specs.Rows.{Rows, rows, AreRows, IsZeroFile}
-use Rattle.zero_rows.specs.RowsRules.{rows_of}
-use Rattle.zero_rows.specs.Sums.{sum_at, IsBest, IsRival}
+use Rattle.file_jobs.specs.ZeroRows.{Rows, rows, AreRows, IsZeroFile}
+use Rattle.file_jobs.specs.ZeroRules.{rows_of}
+use Rattle.file_jobs.specs.ZeroSums.{sum_at, IsBest, IsRival}
 use Rattle.job_answers.specs.declared.status.Status.TheVariants.{Done, Declined}
 use Rattle.job_answers.specs.Endings.{Ending, ending}
 use Rattle.job_answers.specs.TextJobs.{TextJob, form_job}

@@ -4,10 +4,10 @@ ghost use Rattle.job_answers.specs.Statuses.{IsVerdictStatus};
 ghost use Rattle.job_answers.specs.Answers.{ending_of};
 ghost use Rattle.file_jobs.specs.Zero.{IsVerdictOf, zero_job};
 
+use crate::{Verdict, ZeroRows, decide, read_rows};
 use job_answers::{JobOutput, Status, TextCommand};
 use rinex_head::TextFault;
 use std::alloc::{AllocError, Global};
-use zero_rows::{Verdict, ZeroRows, decide, read_rows};
 
 // What the rows are answered.
 fn answer_rows(alloc: Global, rows: &ZeroRows) -> Result<JobOutput, AllocError>

@@ -7,12 +7,11 @@ ghost use Rattle.job_answers.specs.Works.{known_between, file_work, NoLine, IsDo
 ghost use Rattle.job_answers.specs.TextJobs.{TextEnds};
 ghost use Rattle.file_jobs.specs.Listing.{list_job};
 
-use job_answers::{JobOutput, JobStop, Status};
+use job_answers::{JobOutput, JobStop, Status, obs_file};
 use line_source::Files;
 use obs_store::ObsFile;
 use report_text::write_list;
 use rinex_head::System;
-use session_files::obs_file;
 use std::alloc::{AllocError, Global};
 
 // What an observation file ends with.

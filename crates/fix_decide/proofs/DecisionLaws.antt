@@ -5,10 +5,10 @@ use Rattle.whole_math.proofs.Vectors.{len_is}
 use Rattle.whole_math.proofs.Order.{mul_lt_cancel}
 use Rattle.whole_math.proofs.Ring.{◌⊕◌, ◌⊖◌, ◌⊗◌}
 use Rattle.whole_math.proofs.Inequalities.{le_by, both_nn, prod_nn, less_nn, pos_nn, pos_one, one_nn, later, strict, nat}
-use Rattle.rational.specs.Rational.{Rational, of_whole, ◌*ʳ◌, ◌≤ʳ◌}
+use Rattle.whole_math.specs.Rational.{Rational, of_whole, ◌*ʳ◌, ◌≤ʳ◌}
 use Rattle.quadratic_form.specs.Forms.{Column}
 use Rattle.quadratic_form.specs.Rows.{value}
-use Rattle.rational.specs.Spread.{Baseline}
+use Rattle.whole_math.specs.Spread.{Baseline}
 use Rattle.quadratic_form.specs.TwoLeast.{TwoLeast}
 use Rattle.quadratic_form.proofs.Decision.{second_value}
 use Rattle.obs_rows.specs.declared.sessions.Session.{Session}

@@ -15,7 +15,7 @@ use Rattle.obs_rows.specs.declared.bands.Signals.{Signals}
 use Rattle.obs_rows.specs.declared.sessions.Session.{Session}
 use Rattle.obs_rows.specs.declared.units.TheConstants.{SIGNALS_12, SIGNALS_15, SIGNALS_125}
 use Rattle.obs_rows.specs.Ranges.{IsBelow}
-use Rattle.form_tables.specs.Tables.{entry}
+use Rattle.quadratic_form.specs.Tables.{entry}
 use Rattle.obs_rows.specs.Signals.{fine_signals, counted, phases}
 use Rattle.obs_rows.specs.Integers.{integer_count}
 use Rattle.integer_form.specs.declared.form.Form.{Form}

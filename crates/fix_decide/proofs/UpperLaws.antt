@@ -7,8 +7,8 @@ use Rattle.whole_math.specs.Vectors.{sum, dot}
 use Rattle.whole_math.specs.Rounding.{floor_div}
 use Rattle.whole_math.proofs.Order.{lins}
 use Rattle.whole_math.proofs.Rounding.{ceil_close}
-use Rattle.rational.specs.Rational.{Rational, of_whole, ◌≤ʳ◌}
-use Rattle.rational.proofs.Laws.{≤ʳ_trans, of_whole-le}
+use Rattle.whole_math.specs.Rational.{Rational, of_whole, ◌≤ʳ◌}
+use Rattle.whole_math.proofs.RationalLaws.{≤ʳ_trans, of_whole-le}
 use Rattle.quadratic_form.specs.Rows.{SignalGroup, share as group_share}
 use Rattle.quadratic_form.specs.UpperSum.{size, centre as group_centre, rad as group_rad, gap as group_gap, gaps_from as group_gaps_from, gaps as group_gaps, upper_sum as group_sum}
 use Rattle.quadratic_form.proofs.RationalData.{upper_over_rationals}

@@ -1,6 +1,6 @@
 -- What the upper sum says about the data.
 use Rattle.std.specs.Prelude.{ℕ, List, ℤ}
-use Rattle.rational.specs.Rational.{of_whole, ◌≤ʳ◌}
+use Rattle.whole_math.specs.Rational.{of_whole, ◌≤ʳ◌}
 use Rattle.obs_rows.specs.declared.arcs.Arc.{Arc}
 use Rattle.obs_rows.specs.declared.pair_rows.PairRows.{PairRows}
 use Rattle.obs_rows.specs.Data.{Observed, AreData}

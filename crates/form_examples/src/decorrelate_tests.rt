@@ -1,12 +1,12 @@
 //! Maps of drawn forms.
 ghost use Rattle.std.specs.Prelude.{◌+◌, ◌*◌, ◌^◌, ◌<◌, ◌≤◌, unsigned_abs};
-ghost use Rattle.form_tables.specs.declared.sizes.TheConstants.{MOST_INTEGERS, MOST_COLUMNS, MOST_FACTORS};
-ghost use Rattle.form_tables.specs.Matrices.{EntriesBelow};
+ghost use Rattle.quadratic_form.specs.declared.sizes.TheConstants.{MOST_INTEGERS, MOST_COLUMNS, MOST_FACTORS};
+ghost use Rattle.quadratic_form.specs.Matrices.{EntriesBelow};
 ghost use Rattle.decorrelate.specs.Starts.{AreWeightsBehind};
 
 use crate::decorrelate_cases::{CASES, Case};
 use decorrelate::{Unimodular, reduce};
-use form_tables::{BASELINE_COLUMNS, FactorTable, MOST_FACTORS, MOST_INTEGERS, MapTable};
+use quadratic_form::{BASELINE_COLUMNS, FactorTable, MOST_FACTORS, MOST_INTEGERS, MapTable};
 
 // The next number of a linear congruential generator.
 fn next(state: u64) -> u64 {

@@ -2,7 +2,7 @@
 ghost use Rattle.std.specs.Prelude.{◌^◌, ◌≤◌, unsigned_abs};
 
 use elimination::{StepFault, take_steps};
-use form_tables::{FactorTable, MOST_FACTORS, NormalTable};
+use quadratic_form::{FactorTable, MOST_FACTORS, NormalTable};
 
 // Two columns whose own entries are 2^30, and 2^29 between them.
 #[test]

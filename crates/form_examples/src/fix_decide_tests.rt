@@ -6,7 +6,6 @@ use crate::drawn_sessions::{Case, Made, drawn_session, later_session, signals_of
 use crate::row_numbers::{NoSession, arc, empty_pair, push_row, with_rows};
 use elimination::finish;
 use fix_decide::{Decision, decide, integer_of, is_separated, pair_upper, upper_sum};
-use form_tables::FormTable;
 use int_search::two_best;
 use integer_form::{Form, FrontForm, Overwidth, Place};
 use lower_form::lower;
@@ -14,6 +13,7 @@ use normal_sum::sum;
 use obs_rows::{
     Arc, PairRows, Row, SIGNALS, Session, fine_signals, free_arcs, has_its_arcs, integer_count,
 };
+use quadratic_form::FormTable;
 use std::alloc::{AllocError, Global};
 
 // Whether all are below the limit in size.

@@ -1,16 +1,16 @@
 //! The two best vectors of forms.
 ghost use Rattle.std.specs.Prelude.{◌^◌, ◌+◌, ◌<◌, ◌≤◌, unsigned_abs, IfSome};
-ghost use Rattle.form_tables.specs.declared.sizes.TheConstants.{MOST_INTEGERS, MOST_FORM_COLUMNS};
-ghost use Rattle.form_tables.specs.Tables.{IsZeroOutside};
-ghost use Rattle.form_tables.specs.Matrices.{IsSymmetric, EntriesBelow};
+ghost use Rattle.quadratic_form.specs.declared.sizes.TheConstants.{MOST_INTEGERS, MOST_FORM_COLUMNS};
+ghost use Rattle.quadratic_form.specs.Tables.{IsZeroOutside};
+ghost use Rattle.quadratic_form.specs.Matrices.{IsSymmetric, EntriesBelow};
 
 use crate::search_cases::{Case, SMALL};
 use crate::search_reduced_case::FIVE_EPOCHS;
 use crate::search_session_cases::SESSIONS;
-use form_tables::{FormTable, MOST_FORM_COLUMNS, MOST_INTEGERS};
 use int_search::{SearchFault, TwoBest, plain_best, two_best};
 use integer_form::{Form, FrontForm};
 use lower_form::finish;
+use quadratic_form::{FormTable, MOST_FORM_COLUMNS, MOST_INTEGERS};
 
 // Writes an entry of a form of n columns at its place and across the diagonal.
 fn set_both(p: &mut FormTable, r: usize, c: usize, n: usize, value: i64)

@@ -1,5 +1,5 @@
-use form_tables::FormTable;
 use integer_form::{FrontForm, is_form_table};
+use quadratic_form::FormTable;
 
 // A form that is given has no factors of the baseline's columns, so its baselines are 0.
 #[test]

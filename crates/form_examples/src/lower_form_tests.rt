@@ -5,11 +5,11 @@ use crate::row_numbers::{
     L1_AND_L2, NoSession, THREE_BANDS, arc, empty_pair, finished, push_pair, push_row,
     session_with, three_arcs, with_rows,
 };
-use form_tables::{FormTable, MOST_COLUMNS, MOST_FACTORS, MOST_FORM_COLUMNS};
 use integer_form::{Form, FrontForm, LowerFault, Place, is_form_table};
 use lower_form::{finish, front, lower};
 use normal_sum::sum;
 use obs_rows::{Arc, PairRows, Row, SIGNALS, Session, Signals};
+use quadratic_form::{FormTable, MOST_COLUMNS, MOST_FACTORS, MOST_FORM_COLUMNS};
 use std::alloc::{AllocError, Global};
 
 // An arc, and the observations and the direction of a row of it.

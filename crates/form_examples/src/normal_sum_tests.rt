@@ -5,9 +5,9 @@ use crate::row_numbers::{
     L1_AND_L2, L1_AND_L5, NoSession, Numbers, THREE_BANDS, arc, finished, pair_of, push,
     session_with, three_arcs,
 };
-use form_tables::MOST_COLUMNS;
 use normal_sum::{Normal, sum, sum_pair};
 use obs_rows::{Arc, SIGNALS, Session, Signals, has_its_arcs};
+use quadratic_form::MOST_COLUMNS;
 use std::alloc::{AllocError, Global};
 
 // Two satellites whose phases on L1 are 2^18 units apart.

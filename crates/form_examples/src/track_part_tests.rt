@@ -1,8 +1,8 @@
 //! What fronts add to the form of a track, by hand: one, two and three of them over unlike powers of two, with entries as large
 //! as they may be.
-use form_tables::FormTable;
 use integer_form::{FrontForm, is_form_table};
-use track_sum::{least_power, part};
+use quadratic_form::FormTable;
+use track_form::{least_power, part};
 
 /// The greatest entry of a form.
 const GREATEST: i64 = (1 << 52) - 1;

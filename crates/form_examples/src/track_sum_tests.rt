@@ -1,14 +1,14 @@
 //! The sum of the fronts of pairs, whose power of two is asked of some pairs first.
 ghost use Rattle.std.specs.Prelude.{◌<◌};
-ghost use Rattle.form_tables.specs.declared.sizes.TheConstants.{MOST_FORM_COLUMNS};
+ghost use Rattle.quadratic_form.specs.declared.sizes.TheConstants.{MOST_FORM_COLUMNS};
 
 use crate::row_numbers::{L1_AND_L2, NoSession, arc, empty_pair, push_row, with_rows};
-use form_tables::MOST_FORM_COLUMNS;
 use lower_form::exponent;
 use normal_sum::sum_pair;
 use obs_rows::{Arc, PairRows, Row, are_arcs, has_its_arcs};
+use quadratic_form::MOST_FORM_COLUMNS;
 use std::alloc::Global;
-use track_sum::{SummedFronts, sum_of_fronts};
+use track_form::{SummedFronts, sum_of_fronts};
 
 fn arcs() -> [Arc; 5] {
     [

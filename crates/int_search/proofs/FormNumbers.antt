@@ -5,7 +5,7 @@ use Rattle.quadratic_form.specs.Elimination.{Factor}
 use Rattle.quadratic_form.specs.Places.{list_from}
 use Rattle.quadratic_form.specs.LowerSums.{lower_sum}
 use Rattle.quadratic_form.proofs.Ranges.{steps_range}
-use Rattle.form_tables.specs.Tables.{entry}
+use Rattle.quadratic_form.specs.Tables.{entry}
 use Rattle.integer_form.specs.declared.form.Form.{Form}
 use Rattle.integer_form.specs.Factors.{factor_at, stored}
 use Rattle.integer_form.specs.Kept.{constant_form}

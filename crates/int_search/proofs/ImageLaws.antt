@@ -6,8 +6,8 @@ use Rattle.std.proofs.lemmas.Bool.{cases_lt, cases_eq}
 use Rattle.whole_math.specs.Vectors.{dot}
 use Rattle.quadratic_form.specs.Maps.{apply}
 use Rattle.quadratic_form.proofs.LowerSums.{dot_nil}
-use Rattle.form_tables.specs.Matrices.{EntriesBelow}
-use Rattle.form_tables.specs.Tables.{entry, HasShape}
+use Rattle.quadratic_form.specs.Matrices.{EntriesBelow}
+use Rattle.quadratic_form.specs.Tables.{entry, HasShape}
 use Rattle.int_search.specs.Vectors.{suffix}
 use Rattle.int_search.specs.Images.{image_of}
 use Rattle.int_search.proofs.SuffixArrays.{suffix-cons, suffix-none, suffix-length}

@@ -9,8 +9,8 @@ use Rattle.quadratic_form.specs.Places.{list_from, form_from}
 use Rattle.quadratic_form.proofs.MatrixEntries.{list_items}
 use Rattle.quadratic_form.proofs.Places.{later}
 use Rattle.quadratic_form.proofs.LowerSums.{dot_nil}
-use Rattle.form_tables.specs.Tables.{entry}
-use Rattle.form_tables.specs.Matrices.{IsSymmetric}
+use Rattle.quadratic_form.specs.Tables.{entry}
+use Rattle.quadratic_form.specs.Matrices.{IsSymmetric}
 use Rattle.decorrelate.specs.Inverses.{rows_from, block}
 use Rattle.int_search.specs.Sums.{total}
 use Rattle.int_search.specs.Transformed.{transformed_form}

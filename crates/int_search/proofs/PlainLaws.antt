@@ -5,7 +5,7 @@ use Rattle.whole_math.proofs.Vectors.{len_is}
 use Rattle.quadratic_form.specs.Rows.{value}
 use Rattle.quadratic_form.specs.TwoLeast.{Before, Less}
 use Rattle.quadratic_form.proofs.VectorOrder.{less_never}
-use Rattle.form_tables.specs.declared.sizes.TheConstants.{MOST_INTEGERS}
+use Rattle.quadratic_form.specs.declared.sizes.TheConstants.{MOST_INTEGERS}
 use Rattle.integer_form.specs.declared.form.Form.{Form}
 use Rattle.integer_form.specs.Forms.{integers_of, columns_of, value_of}
 use Rattle.int_search.specs.Order.{IsLess}

@@ -11,8 +11,8 @@ use Rattle.quadratic_form.specs.Places.{form_from}
 use Rattle.quadratic_form.specs.TwoLeast.{Before, Less, TwoLeast}
 use Rattle.quadratic_form.proofs.VectorOrder.{less_never}
 use Rattle.quadratic_form.proofs.CarriedSearch.{TwoLeastUnder, carried}
-use Rattle.form_tables.specs.declared.sizes.TheConstants.{MOST_INTEGERS}
-use Rattle.form_tables.specs.Tables.{entry}
+use Rattle.quadratic_form.specs.declared.sizes.TheConstants.{MOST_INTEGERS}
+use Rattle.quadratic_form.specs.Tables.{entry}
 use Rattle.decorrelate.specs.declared.unimodular.Unimodular.{Unimodular}
 use Rattle.decorrelate.specs.Inverses.{block, Undoes}
 use Rattle.decorrelate.proofs.InverseLaws.{inverse_of}

@@ -2,7 +2,7 @@
 use Rattle.std.proofs.Common.{ℕ, zero, suc, nat_eq, true, false, ◌≡◌, ⊎_elim, ◌+◌, ◌<◌, ◌≤◌, ◌^◌, List, ◌∷◌, ℤ, pos, ◌*ℤ◌, unsigned_abs, arith, sym, ap, ap₂, ◌∙◌, refl, subst}
 use Rattle.std.proofs.lemmas.Bool.{cases_lt, lt-ltb, le-ltb}
 use Rattle.quadratic_form.proofs.Places.{list_same, form_same}
-use Rattle.form_tables.specs.Tables.{entry}
+use Rattle.quadratic_form.specs.Tables.{entry}
 use Rattle.decorrelate.specs.Inverses.{rows_from, block}
 use Rattle.int_search.specs.Transformed.{with_constant, half_entry, transformed_entry, transformed_form, IsTransformedSmall}
 use Rattle.int_search.proofs.TotalLaws.{total_same}

@@ -5,7 +5,7 @@ use Rattle.std.specs.Bool.{MatchBool}
 use Rattle.std.proofs.lemmas.Int.{ints}
 use Rattle.whole_math.proofs.Order.{polys}
 use Rattle.quadratic_form.specs.Rows.{value}
-use Rattle.form_tables.specs.declared.sizes.TheConstants.{MOST_INTEGERS}
+use Rattle.quadratic_form.specs.declared.sizes.TheConstants.{MOST_INTEGERS}
 use Rattle.int_search.specs.Suffixes.{SearchForm, IsSearchable, rest, low, weight}
 use Rattle.int_search.specs.PlainCount.{top, HasLarge}
 use Rattle.int_search.specs.VisitedSuffixes.{IsStartTooWide, MeetsTooWide, IsOverBudget}

@@ -1,8 +1,8 @@
 -- A value written at its place in a table and across the diagonal.
 use Rattle.std.proofs.Common.{◌≡◌, ◌≢◌, ◌⊎◌, inl, inr, ⊎_elim, ℕ, ◌<◌, List, ℤ, unsigned_abs, sym, ◌∙◌, subst, ap₂}
 use Rattle.std.proofs.lemmas.Bool.{cases_eq}
-use Rattle.form_tables.specs.Tables.{entry}
-use Rattle.form_tables.specs.Matrices.{EntriesBelow}
+use Rattle.quadratic_form.specs.Tables.{entry}
+use Rattle.quadratic_form.specs.Matrices.{EntriesBelow}
 
 -- p with the value x at row r and column c, and at row c and column r
 pub record IsSetBoth (old p : List (List ℤ)) (r c : ℕ) (x : ℤ) : Type 0 where

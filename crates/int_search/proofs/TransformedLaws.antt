@@ -10,8 +10,8 @@ use Rattle.quadratic_form.specs.Rows.{value}
 use Rattle.quadratic_form.specs.Places.{list_from, form_from}
 use Rattle.quadratic_form.proofs.Places.{form_same}
 use Rattle.quadratic_form.proofs.MatrixEntries.{list_items}
-use Rattle.form_tables.specs.Tables.{entry, IsZeroOutside}
-use Rattle.form_tables.specs.Matrices.{IsSymmetric}
+use Rattle.quadratic_form.specs.Tables.{entry, IsZeroOutside}
+use Rattle.quadratic_form.specs.Matrices.{IsSymmetric}
 use Rattle.int_search.specs.Sums.{total}
 use Rattle.int_search.specs.Transformed.{with_constant, half_entry, whole_entry, transformed_entry, transformed_form}
 use Rattle.int_search.proofs.TotalLaws.{total_same, total_zero, total_last, exchange}

@@ -1,9 +1,9 @@
 -- Vectors under a map.
 use Rattle.std.specs.Prelude.{ℕ, ◌^◌, List, take, ℤ}
 use Rattle.quadratic_form.specs.Maps.{apply}
-use Rattle.form_tables.specs.Matrices.{EntriesBelow}
-use Rattle.form_tables.specs.Tables.{HasShape}
-use Rattle.form_tables.specs.declared.sizes.TheConstants.{MOST_INTEGERS}
+use Rattle.quadratic_form.specs.Matrices.{EntriesBelow}
+use Rattle.quadratic_form.specs.Tables.{HasShape}
+use Rattle.quadratic_form.specs.declared.sizes.TheConstants.{MOST_INTEGERS}
 
 -- the vector v of n entries under the map whose n rows of n entries stand in the table
 abbrev pub image_of : List (List ℤ) → ℕ → List ℤ → List ℤ

@@ -2,8 +2,8 @@
 use Rattle.std.specs.Prelude.{◌≡◌, ℕ, nat_lt, nat_eq, true, false, ◌+◌, ◌-◌, ◌<◌, ◌^◌, List, ℤ, pos, ◌*ℤ◌, unsigned_abs}
 use Rattle.quadratic_form.specs.Forms.{Column}
 use Rattle.quadratic_form.specs.Places.{form_from}
-use Rattle.form_tables.specs.Tables.{entry, IsZeroOutside}
-use Rattle.form_tables.specs.Matrices.{EntriesBelow}
+use Rattle.quadratic_form.specs.Tables.{entry, IsZeroOutside}
+use Rattle.quadratic_form.specs.Matrices.{EntriesBelow}
 use Rattle.integer_form.specs.declared.front_form.FrontForm.{FrontForm}
 use Rattle.integer_form.specs.Kept.{form_of_table}
 use Rattle.int_search.specs.Sums.{total}

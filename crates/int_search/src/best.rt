@@ -1,10 +1,10 @@
 //! The two best vectors so far.
 ghost use Rattle.std.specs.Prelude.{◌≤◌};
-ghost use Rattle.form_tables.specs.declared.sizes.TheConstants.{MOST_INTEGERS};
+ghost use Rattle.quadratic_form.specs.declared.sizes.TheConstants.{MOST_INTEGERS};
 ghost use Rattle.int_search.specs.Best.{KeepsBest};
 
 use crate::orders::order;
-use form_tables::MOST_INTEGERS;
+use quadratic_form::MOST_INTEGERS;
 use std::cmp::Ordering;
 
 /// Two vectors in the coordinates of the answer, and the form's values at them.

@@ -1,16 +1,16 @@
 //! The form in the coordinates of a map.
 ghost use Rattle.std.specs.Prelude.{◌≡◌, ◌≢◌, ℕ, ◌+◌, ◌^◌, ◌<◌, ◌≤◌, unsigned_abs, true, false, IfSome, MatchOption};
-ghost use Rattle.form_tables.specs.Tables.{entry, IsZeroOutside};
-ghost use Rattle.form_tables.specs.declared.sizes.TheConstants.{MOST_INTEGERS};
-ghost use Rattle.form_tables.specs.Matrices.{EntriesBelow};
+ghost use Rattle.quadratic_form.specs.Tables.{entry, IsZeroOutside};
+ghost use Rattle.quadratic_form.specs.declared.sizes.TheConstants.{MOST_INTEGERS};
+ghost use Rattle.quadratic_form.specs.Matrices.{EntriesBelow};
 ghost use Rattle.integer_form.specs.Forms.{integers_of};
 ghost use Rattle.int_search.specs.Transformed.{whole_entry, AreWholesSmall, AreWholes, IsTransformedSmall, IsTransformed};
 
 use crate::halves::{map_entry, write_halves};
 use crate::products::half_product;
 use decorrelate::{Unimodular, is_narrow};
-use form_tables::{FormTable, MapTable, NormalTable};
 use integer_form::{Form, FrontForm};
+use quadratic_form::{FormTable, MapTable, NormalTable};
 
 // The entry in row i and column j of the turned map times the halves.
 fn whole(halves: &NormalTable, map: &MapTable, n: usize, i: usize, j: usize) -> i128

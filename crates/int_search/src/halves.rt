@@ -1,11 +1,11 @@
 //! The matrix of a form times a map.
 ghost use Rattle.std.specs.Prelude.{◌≡◌, ◌≢◌, ℕ, ◌+◌, ◌^◌, ◌<◌, ◌≤◌, unsigned_abs};
-ghost use Rattle.form_tables.specs.Tables.{entry};
-ghost use Rattle.form_tables.specs.declared.sizes.TheConstants.{MOST_INTEGERS};
-ghost use Rattle.form_tables.specs.Matrices.{EntriesBelow};
+ghost use Rattle.quadratic_form.specs.Tables.{entry};
+ghost use Rattle.quadratic_form.specs.declared.sizes.TheConstants.{MOST_INTEGERS};
+ghost use Rattle.quadratic_form.specs.Matrices.{EntriesBelow};
 ghost use Rattle.int_search.specs.Transformed.{with_constant, half_entry};
 
-use form_tables::{FormTable, MOST_INTEGERS, MapTable, NormalTable};
+use quadratic_form::{FormTable, MOST_INTEGERS, MapTable, NormalTable};
 use whole_math::product;
 
 /// The entry of the map of n integers, with 1 for the constant.

@@ -1,13 +1,13 @@
 //! Vectors in other coordinates.
 ghost use Rattle.std.specs.Prelude.{◌≡◌, ℕ, ◌^◌, ◌<◌, ◌≤◌, List, [], ℤ, ◌*ℤ◌, unsigned_abs, slice_index_or, length, MatchOption};
 ghost use Rattle.whole_math.specs.Vectors.{dot};
-ghost use Rattle.form_tables.specs.declared.sizes.TheConstants.{MOST_INTEGERS};
+ghost use Rattle.quadratic_form.specs.declared.sizes.TheConstants.{MOST_INTEGERS};
 ghost use Rattle.int_search.specs.PlainCount.{HasLarge};
 ghost use Rattle.int_search.specs.Vectors.{IsSmall, suffix, Holds};
 ghost use Rattle.int_search.specs.Images.{image_of, IsMap};
 
 use crate::steps::is_large;
-use form_tables::{MOST_INTEGERS, MapTable};
+use quadratic_form::{MOST_INTEGERS, MapTable};
 use whole_math::product;
 
 /// The product of a row of the map and the first `size` entries of z.

@@ -2,7 +2,7 @@
 ghost use Rattle.std.specs.Prelude.{◌≡◌, ℕ, ◌+◌, ◌≤◌, List, length, ℤ, Result};
 ghost use Rattle.quadratic_form.specs.Rows.{value};
 ghost use Rattle.quadratic_form.specs.Maps.{apply};
-ghost use Rattle.form_tables.specs.Matrices.{IsSymmetric};
+ghost use Rattle.quadratic_form.specs.Matrices.{IsSymmetric};
 ghost use Rattle.integer_form.specs.Kept.{form_of_table};
 ghost use Rattle.decorrelate.specs.Inverses.{block};
 ghost use Rattle.integer_form.specs.declared.form.Form.{Form};

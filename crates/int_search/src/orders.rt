@@ -1,10 +1,10 @@
 //! The order of vectors: by value, then by entries.
 ghost use Rattle.std.specs.Prelude.{◌≤◌};
-ghost use Rattle.form_tables.specs.declared.sizes.TheConstants.{MOST_INTEGERS};
+ghost use Rattle.quadratic_form.specs.declared.sizes.TheConstants.{MOST_INTEGERS};
 ghost use Rattle.int_search.specs.Vectors.{suffix};
 ghost use Rattle.int_search.specs.Orders.{IsEntryOrder, IsRankOrder};
 
-use form_tables::MOST_INTEGERS;
+use quadratic_form::MOST_INTEGERS;
 use std::cmp::Ordering;
 
 /// The order of the first `size` entries.

@@ -8,8 +8,8 @@ ghost use Rattle.int_search.specs.SearchedForm.{search_form};
 
 use crate::rests::later_part;
 use crate::steps::{is_large, nearest_part, offset_of};
-use form_tables::{BASELINE_COLUMNS, MOST_INTEGERS};
 use integer_form::Form;
+use quadratic_form::{BASELINE_COLUMNS, MOST_INTEGERS};
 
 /// The point that rounds each entry, from the last to the first, to the centre that the later ones give; None where an
 /// entry is large.

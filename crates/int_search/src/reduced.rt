@@ -9,8 +9,8 @@ use crate::coordinates::transformed;
 use crate::search::{plain_best, search};
 use decorrelate::reduce;
 use elimination::finish;
-use form_tables::BASELINE_COLUMNS;
 use integer_form::Form;
+use quadratic_form::BASELINE_COLUMNS;
 
 // The two least vectors, searched in the coordinates of the reduction; None where this attempt ends without an answer.
 fn reduced_best(form: &Form, budget: u64) -> Option<TwoBest>

@@ -5,8 +5,8 @@ ghost use Rattle.integer_form.specs.Forms.{integers_of};
 ghost use Rattle.int_search.specs.Vectors.{IsSmall, suffix};
 ghost use Rattle.int_search.specs.SearchedForm.{search_form};
 
-use form_tables::{BASELINE_COLUMNS, MOST_INTEGERS};
 use integer_form::Form;
+use quadratic_form::{BASELINE_COLUMNS, MOST_INTEGERS};
 use whole_math::product;
 
 /// Σ l·z over the integers after integer i, and the constant's l.

@@ -8,8 +8,8 @@ ghost use Rattle.int_search.specs.declared.answer.SearchFault.TheVariants as Sea
 use crate::answer::{SearchFault, TwoBest};
 use crate::images::identity;
 use crate::walk::{SearchState, Turn};
-use form_tables::MapTable;
 use integer_form::Form;
+use quadratic_form::MapTable;
 
 /// The two least vectors in the coordinates that the map gives, among all integer vectors of the form.
 pub(crate) fn search(form: &Form, map: &MapTable, budget: u64) -> Result<TwoBest, SearchFault>

@@ -1,10 +1,10 @@
 //! The levels of a search.
 ghost use Rattle.std.specs.Prelude.{◌≡◌, ◌<◌, ◌≤◌, [], ◌∷◌, length, drop};
 ghost use Rattle.int_search.specs.LatestLevel.{IsLatest};
-ghost use Rattle.form_tables.specs.declared.sizes.TheConstants.{MOST_INTEGERS};
+ghost use Rattle.quadratic_form.specs.declared.sizes.TheConstants.{MOST_INTEGERS};
 
 use arrayvec::ArrayVec;
-use form_tables::MOST_INTEGERS;
+use quadratic_form::MOST_INTEGERS;
 use std::marker::Model;
 
 /// The level of one integer, where the entries after it are fixed: its entries strictly between `down` and `up` are

@@ -16,8 +16,8 @@ use crate::steps::{
     Choice, first_low, fresh, is_large, low_with, moved, nearest, room, term_within,
 };
 use crate::values::value_at;
-use form_tables::{BASELINE_COLUMNS, MOST_INTEGERS, MapTable};
 use integer_form::Form;
+use quadratic_form::{BASELINE_COLUMNS, MOST_INTEGERS, MapTable};
 use std::cmp::Ordering;
 
 /// The state of a search.

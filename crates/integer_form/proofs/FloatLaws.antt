@@ -5,7 +5,7 @@ use Rattle.whole_math.specs.Vectors.{dot, scaled}
 use Rattle.whole_math.proofs.Vectors.{dot_last}
 use Rattle.quadratic_form.specs.Places.{list_from}
 use Rattle.quadratic_form.proofs.Places.{list_same, len_list, later}
-use Rattle.form_tables.specs.Tables.{entry, item}
+use Rattle.quadratic_form.specs.Tables.{entry, item}
 use Rattle.integer_form.specs.Factors.{stored}
 use Rattle.integer_form.specs.FloatPoint.{next_number, solved, baseline_at, HasWide, HasWideBefore}
 use Rattle.integer_form.proofs.PlaceLaws.{list_last, list_whole}

@@ -4,7 +4,7 @@ use Rattle.whole_math.specs.Vectors.{len}
 use Rattle.whole_math.proofs.Vectors.{len_is}
 use Rattle.quadratic_form.specs.Elimination.{steps}
 use Rattle.quadratic_form.proofs.LowerSums.{lower_sum_below, large_first}
-use Rattle.form_tables.specs.Tables.{entry}
+use Rattle.quadratic_form.specs.Tables.{entry}
 use Rattle.integer_form.specs.declared.form.Form.{Form}
 use Rattle.integer_form.specs.Kept.{constant_form}
 use Rattle.integer_form.specs.Forms.{integers_of, columns_of, factors_of, LowerSumsBelow, LastEntryBelow}

@@ -5,7 +5,7 @@ use Rattle.whole_math.proofs.Inequalities.{same_by, nat}
 use Rattle.whole_math.specs.Vectors.{dot}
 use Rattle.quadratic_form.specs.Places.{list_from}
 use Rattle.quadratic_form.proofs.Places.{later}
-use Rattle.form_tables.specs.Tables.{item}
+use Rattle.quadratic_form.specs.Tables.{item}
 
 -- one more at the end
 pub list_last : (f : ℕ → ℤ) (j k : ℕ) → list_from f j (suc k) ≡ list_from f j k ++ (f (j + k) ∷ [])

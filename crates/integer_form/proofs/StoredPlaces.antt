@@ -2,7 +2,7 @@
 use Rattle.std.proofs.Common.{◌≡◌, ℕ, zero, suc, ◌+◌, ◌-◌, ◌<◌, ◌≤◌, List, ◌∷◌, ℤ, pos, slice_index_or, arith, ap₂, refl}
 use Rattle.quadratic_form.specs.Elimination.{Factor}
 use Rattle.quadratic_form.proofs.Places.{list_same}
-use Rattle.form_tables.specs.Tables.{entry}
+use Rattle.quadratic_form.specs.Tables.{entry}
 use Rattle.integer_form.specs.Factors.{factor_at, stored}
 
 -- from lists and tables that agree in these columns

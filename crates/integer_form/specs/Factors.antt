@@ -2,7 +2,7 @@
 use Rattle.std.specs.Prelude.{ℕ, zero, suc, ◌-◌, List, [], ◌∷◌, ℤ, pos, slice_index_or}
 use Rattle.quadratic_form.specs.Elimination.{Factor}
 use Rattle.quadratic_form.specs.Places.{list_from}
-use Rattle.form_tables.specs.Tables.{entry}
+use Rattle.quadratic_form.specs.Tables.{entry}
 
 -- of column j, with n columns after it, where d is kept of its pivot
 abbrev pub factor_at : ℤ → List (List ℤ) → ℕ → ℕ → Factor

@@ -3,7 +3,7 @@ use Rattle.std.specs.Prelude.{ℕ, ◌-◌, ◌^◌, ◌<◌, ◌≤◌, List, [
 use Rattle.whole_math.specs.Rounding.{nearest_div}
 use Rattle.whole_math.specs.Vectors.{dot, scaled}
 use Rattle.quadratic_form.specs.Elimination.{Factor}
-pub use Rattle.form_tables.specs.Tables.{item}
+pub use Rattle.quadratic_form.specs.Tables.{item}
 use Rattle.integer_form.specs.declared.form.Form.{Form}
 use Rattle.integer_form.specs.Factors.{stored}
 

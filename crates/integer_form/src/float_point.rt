@@ -2,15 +2,15 @@
 ghost use Rattle.std.specs.Prelude.{◌≡◌, ◌↔◌, ℕ, suc, ◌+◌, ◌-◌, ◌^◌, ◌<◌, ◌≤◌, List, ℤ, length, pos, [], ◌∷◌, ◌++◌, unsigned_abs, nat_lt, OnOk, IfOk, IfErr, IsErr};
 ghost use Rattle.whole_math.specs.Vectors.{dot, scaled};
 ghost use Rattle.quadratic_form.specs.Places.{list_from};
-ghost use Rattle.form_tables.specs.Tables.{entry, item};
-ghost use Rattle.form_tables.specs.Matrices.{EntriesBelow};
+ghost use Rattle.quadratic_form.specs.Tables.{entry, item};
+ghost use Rattle.quadratic_form.specs.Matrices.{EntriesBelow};
 ghost use Rattle.integer_form.specs.Factors.{stored};
 ghost use Rattle.integer_form.specs.Forms.{integers_of};
 ghost use Rattle.integer_form.specs.declared.faults.Place.TheVariants.{Float};
 ghost use Rattle.integer_form.specs.FloatPoint.{next_number, solved, float_point, baseline_at, HasWide, HasWideBefore};
 
 use crate::{Form, FrontForm, Overwidth, Place};
-use form_tables::{BASELINE_COLUMNS, MOST_COLUMNS, MOST_FACTORS, MOST_INTEGERS, Table};
+use quadratic_form::{BASELINE_COLUMNS, MOST_COLUMNS, MOST_FACTORS, MOST_INTEGERS, Table};
 use whole_math::{nearest, product};
 
 /// The number of the constant: 1 in units of 2^-16.

@@ -1,11 +1,11 @@
 //! The integer form: what the whole elimination gives.
 ghost use Rattle.std.specs.Prelude.{◌-◌, ◌^◌, ◌≤◌};
-ghost use Rattle.form_tables.specs.Tables.{IsZeroOutside};
-ghost use Rattle.form_tables.specs.declared.sizes.TheConstants.{MOST_COLUMNS};
-ghost use Rattle.form_tables.specs.Matrices.{IsSymmetric, EntriesBelow};
+ghost use Rattle.quadratic_form.specs.Tables.{IsZeroOutside};
+ghost use Rattle.quadratic_form.specs.declared.sizes.TheConstants.{MOST_COLUMNS};
+ghost use Rattle.quadratic_form.specs.Matrices.{IsSymmetric, EntriesBelow};
 ghost use Rattle.integer_form.specs.Kept.{IsEliminated, AreKept, IsZeroFrom, IsBelowDiagonal};
 
-use form_tables::{FactorTable, FormTable, MOST_FACTORS};
+use quadratic_form::{FactorTable, FormTable, MOST_FACTORS};
 
 /// A form of the integers and the constant, with the factors of its columns.
 ///

@@ -1,11 +1,11 @@
 //! The form of the integers and the constant that the steps of the baseline's columns leave.
 ghost use Rattle.std.specs.Prelude.{◌≡◌, ◌-◌, ◌^◌, ◌≤◌, pos, replicate};
-ghost use Rattle.form_tables.specs.Tables.{IsZeroOutside, zero_rows};
-ghost use Rattle.form_tables.specs.declared.sizes.TheConstants.{MOST_COLUMNS, BASELINE_COLUMNS};
-ghost use Rattle.form_tables.specs.Matrices.{IsSymmetric, EntriesBelow};
+ghost use Rattle.quadratic_form.specs.Tables.{IsZeroOutside, zero_rows};
+ghost use Rattle.quadratic_form.specs.declared.sizes.TheConstants.{MOST_COLUMNS, BASELINE_COLUMNS};
+ghost use Rattle.quadratic_form.specs.Matrices.{IsSymmetric, EntriesBelow};
 ghost use Rattle.integer_form.specs.Kept.{IsBelowDiagonal};
 
-use form_tables::{BASELINE_COLUMNS, FormTable, FrontTable, MOST_COLUMNS};
+use quadratic_form::{BASELINE_COLUMNS, FormTable, FrontTable, MOST_COLUMNS};
 
 /// A form of the integers and the constant, and what the steps of the baseline's columns kept. What stands outside the
 /// columns in use is 0.

@@ -1,10 +1,10 @@
 //! The factors of the baseline's columns in a table of all factors, and whether a table is that of a form.
 ghost use Rattle.std.specs.Prelude.{◌≡◌, ◌≢◌, ◌⊎◌, ℕ, ◌^◌, ◌<◌, ◌≤◌, true, pos, unsigned_abs};
-ghost use Rattle.form_tables.specs.Tables.{entry, IsZeroOutside};
-ghost use Rattle.form_tables.specs.declared.sizes.TheConstants.{BASELINE_COLUMNS, MOST_COLUMNS};
-ghost use Rattle.form_tables.specs.Matrices.{IsSymmetric, EntriesBelow};
+ghost use Rattle.quadratic_form.specs.Tables.{entry, IsZeroOutside};
+ghost use Rattle.quadratic_form.specs.declared.sizes.TheConstants.{BASELINE_COLUMNS, MOST_COLUMNS};
+ghost use Rattle.quadratic_form.specs.Matrices.{IsSymmetric, EntriesBelow};
 
-use form_tables::{
+use quadratic_form::{
     BASELINE_COLUMNS, FactorTable, FormTable, FrontTable, MOST_COLUMNS, MOST_FORM_COLUMNS,
 };
 

@@ -2,13 +2,13 @@
 ghost use Rattle.std.specs.Prelude.{◌≡◌, ℕ, suc, ◌+◌, ◌-◌, ◌^◌, ◌<◌, ◌≤◌, length, pos, [], ◌∷◌, ◌++◌, unsigned_abs};
 ghost use Rattle.whole_math.specs.Vectors.{dot};
 ghost use Rattle.quadratic_form.specs.Places.{list_from};
-ghost use Rattle.form_tables.specs.Tables.{entry, item};
-ghost use Rattle.form_tables.specs.Matrices.{EntriesBelow};
+ghost use Rattle.quadratic_form.specs.Tables.{entry, item};
+ghost use Rattle.quadratic_form.specs.Matrices.{EntriesBelow};
 ghost use Rattle.integer_form.specs.Forms.{integers_of, value_of};
 
 use crate::Form;
 use crate::products::column_value;
-use form_tables::{BASELINE_COLUMNS, FormTable, MOST_FORM_COLUMNS, MOST_INTEGERS};
+use quadratic_form::{BASELINE_COLUMNS, FormTable, MOST_FORM_COLUMNS, MOST_INTEGERS};
 use whole_math::product;
 
 /// The integers and 1 for the constant.

@@ -1,6 +1,6 @@
 -- What is promised of the quotient of two boxes, and of the root of one.
 use Rattle.std.specs.Prelude.{◌≡◌, ℕ, ◌+◌, ◌-◌, ◌^◌, ◌<◌, ℤ, pos, ◌+ℤ◌, ◌-ℤ◌, ◌*ℤ◌, ◌≤ℤ◌, ◌<ℤ◌, Result, Err, IfOk, ◌↔◌}
-use Rattle.rational.specs.Rational.{Rational, InBox, ◌*ʳ◌, ◌≈◌, IsNearRoot}
+use Rattle.whole_math.specs.Rational.{Rational, InBox, ◌*ʳ◌, ◌≈◌, IsNearRoot}
 use Rattle.iv_core.specs.Boxes.{Past}
 use Rattle.iv_core.specs.Intervals.{Holds, width_of, HasZero, IsClearOfZero, low_quotient, high_quotient, IsRatioWithin, under_root, IsCloseBelowRoot, IsCloseAboveRoot}
 use Rattle.iv_core.specs.declared.Iv.{Iv}

@@ -2,3 +2,10 @@ pub mod EndingLaws
 pub mod WorkLaws
 pub mod TextLaws
 pub mod KnownLaws
+pub mod FormatLaws
+pub mod TakerLaws
+pub mod FaultLaws
+pub mod FileLaws
+pub mod RefusalLaws
+pub mod SessionLaws
+pub mod ReadingLaws

@@ -5,3 +5,9 @@ pub mod Answers
 pub mod Delivered
 pub mod Works
 pub mod TextJobs
+pub mod Formats
+pub mod Taking
+pub mod SessionFiles
+pub mod Refusals
+pub mod Admitted
+pub mod SessionJobs

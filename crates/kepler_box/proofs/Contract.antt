@@ -6,8 +6,8 @@ use Rattle.whole_math.proofs.Ring.{ring, va, ko, ◌⊖◌, ◌⊗◌}
 use Rattle.whole_math.proofs.Order.{lins, mul_le_right, le_pos, lt_pos}
 use Rattle.whole_math.proofs.Certificates.{cert, weak, nm}
 use Rattle.whole_math.proofs.Inequalities.{le_refl_ℤ, le_eq, less_nn}
-use Rattle.rational.specs.Rational.{Rational, ◌+ʳ◌, ◌-ʳ◌, ◌*ʳ◌, ◌≤ʳ◌, AreWithin, times, two_to_minus, InBox}
-use Rattle.rational.specs.Boxes.{IsNearBox, of_scale}
+use Rattle.whole_math.specs.Rational.{Rational, ◌+ʳ◌, ◌-ʳ◌, ◌*ʳ◌, ◌≤ʳ◌, AreWithin, times, two_to_minus, InBox}
+use Rattle.whole_math.specs.Boxes.{IsNearBox, of_scale}
 use Rattle.trig_box.specs.AnglePairs.{IsAnglePair, InRange, SolvesKepler}
 use Rattle.trig_box.proofs.PairLaws.{canonical_exists, canonical_is_pair, sharp_law}
 use Rattle.trig_box.proofs.PointLaws.{near_nn}

@@ -7,8 +7,8 @@ use Rattle.whole_math.proofs.Order.{lins, mul_le_right, abs_mul_le, lt_pos}
 use Rattle.whole_math.proofs.Certificates.{weak}
 use Rattle.whole_math.specs.Rounding.{floor_div, ceil_div}
 use Rattle.whole_math.proofs.Rounding.{floor_le, lt_floor, floor_greatest, ceil_least}
-use Rattle.rational.specs.Rational.{Rational, InBox}
-use Rattle.rational.specs.Boxes.{of_scale}
+use Rattle.whole_math.specs.Rational.{Rational, InBox}
+use Rattle.whole_math.specs.Boxes.{of_scale}
 use Rattle.trig_box.specs.AnglePairs.{IsAnglePair, InRange}
 use Rattle.trig_box.proofs.PairLaws.{canonical_is_pair}
 use Rattle.kepler_box.specs.Steps.{IsStep, AreNear}

@@ -8,8 +8,8 @@ use Rattle.whole_math.proofs.Certificates.{weak}
 use Rattle.whole_math.specs.Rounding.{floor_div}
 use Rattle.whole_math.proofs.Rounding.{floor_le, lt_floor}
 use Rattle.whole_math.proofs.Inequalities.{le_refl_ℤ, less_nn}
-use Rattle.rational.specs.Rational.{Rational, AreWithin}
-use Rattle.rational.specs.Boxes.{of_scale}
+use Rattle.whole_math.specs.Rational.{Rational, AreWithin}
+use Rattle.whole_math.specs.Boxes.{of_scale}
 use Rattle.trig_box.specs.AnglePairs.{InRange}
 use Rattle.trig_box.proofs.PairLaws.{canonical_exists, canonical_law}
 use Rattle.kepler_box.specs.Steps.{IsStep, AreNear, Settled}

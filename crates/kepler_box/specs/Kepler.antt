@@ -1,7 +1,7 @@
--- Kepler's equation over rationals, and what a box of its solutions holds.
+-- What a box of the solutions of Kepler's equation holds.
 use Rattle.std.specs.Prelude.{◌*◌, ◌^◌, ℤ, ◌≤ℤ◌}
-use Rattle.rational.specs.Rational.{Rational, ◌+ʳ◌, times, two_to_minus}
-use Rattle.rational.specs.Boxes.{IsNearBox}
+use Rattle.whole_math.specs.Rational.{Rational, ◌+ʳ◌, times, two_to_minus}
+use Rattle.whole_math.specs.Boxes.{IsNearBox}
 use Rattle.iv_core.specs.Intervals.{Holds, width_of, IsWithin}
 use Rattle.trig_box.specs.AnglePairs.{IsAnglePair, SolvesKepler}
 use Rattle.iv_core.specs.declared.Iv.{Iv}

@@ -2,8 +2,8 @@
 use Rattle.std.specs.Prelude.{◌≡◌, ℕ, ◌+◌, ◌*◌, ◌^◌, ◌≤◌, ℤ, pos, ◌+ℤ◌, ◌-ℤ◌, ◌*ℤ◌, ◌≤ℤ◌, unsigned_abs}
 use Rattle.whole_math.specs.Rounding.{floor_div}
 use Rattle.whole_math.specs.Bounds.{Within}
-use Rattle.rational.specs.Rational.{Rational, InBox}
-use Rattle.rational.specs.Boxes.{of_scale}
+use Rattle.whole_math.specs.Rational.{Rational, InBox}
+use Rattle.whole_math.specs.Boxes.{of_scale}
 use Rattle.trig_box.specs.CanonicalPairs.{IsCanonicalPair}
 
 -- ---- sizes

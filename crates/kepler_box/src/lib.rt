@@ -8,8 +8,8 @@
 ghost use Rattle.std.specs.Prelude.{◌≡◌, ◌+◌, ◌-◌, ◌*◌, ◌^◌, ◌<◌, ◌≤◌, pos, ◌+ℤ◌, ◌-ℤ◌, ◌*ℤ◌, ℤ, ◌≤ℤ◌, unsigned_abs, IfSome};
 ghost use Rattle.whole_math.specs.Rounding.{floor_div, ceil_div};
 ghost use Rattle.whole_math.specs.Bounds.{Within};
-ghost use Rattle.rational.specs.Rational.{Rational, ◌+ʳ◌, ◌*ʳ◌};
-ghost use Rattle.rational.specs.Boxes.{of_scale, IsNearBox};
+ghost use Rattle.whole_math.specs.Rational.{Rational, ◌+ʳ◌, ◌*ʳ◌};
+ghost use Rattle.whole_math.specs.Boxes.{of_scale, IsNearBox};
 ghost use Rattle.iv_core.specs.Boxes.{least_corner, most_corner};
 ghost use Rattle.iv_core.specs.Intervals.{Holds, width_of, IsWithin};
 ghost use Rattle.trig_box.specs.AnglePairs.{IsAnglePair, SolvesKepler};

@@ -13,7 +13,7 @@ use Rattle.quadratic_form.specs.Elimination.{rounded}
 use Rattle.quadratic_form.specs.Rows.{diagonal, columns}
 use Rattle.quadratic_form.specs.Places.{list_from, form_from}
 use Rattle.quadratic_form.proofs.Places.{list_same, form_plus, form_times, form_rounded}
-use Rattle.form_tables.specs.Tables.{entry}
+use Rattle.quadratic_form.specs.Tables.{entry}
 use Rattle.normal_sum.specs.declared.normal.Normal.{Normal}
 use Rattle.normal_sum.specs.Values.{bounding_of}
 use Rattle.elimination.proofs.NewEntries.{apart}

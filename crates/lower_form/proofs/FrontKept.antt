@@ -6,11 +6,11 @@ use Rattle.quadratic_form.specs.Elimination.{Factor, wide_entry, form_small, ste
 use Rattle.quadratic_form.specs.LowerSums.{SmallForm}
 use Rattle.quadratic_form.specs.Places.{form_from}
 use Rattle.quadratic_form.proofs.Ranges.{AllInRange, form_is, steps_range}
-use Rattle.form_tables.specs.declared.sizes.TheConstants.{MOST_COLUMNS}
-use Rattle.form_tables.specs.Tables.{entry, IsZeroOutside}
+use Rattle.quadratic_form.specs.declared.sizes.TheConstants.{MOST_COLUMNS}
+use Rattle.quadratic_form.specs.Tables.{entry, IsZeroOutside}
 use Rattle.normal_sum.specs.declared.normal.Normal.{Normal}
-use Rattle.form_tables.specs.Matrices.{EntriesBelow}
-use Rattle.form_tables.proofs.TableLaws.{zero_small}
+use Rattle.quadratic_form.specs.Matrices.{EntriesBelow}
+use Rattle.quadratic_form.proofs.TableLaws.{zero_small}
 use Rattle.integer_form.specs.Factors.{stored}
 use Rattle.integer_form.specs.Kept.{form_of_table, IsBelowDiagonal}
 use Rattle.integer_form.proofs.StoredPlaces.{stored_same}

@@ -7,7 +7,7 @@ use Rattle.quadratic_form.specs.Lowering.{IsExponent}
 use Rattle.quadratic_form.specs.Places.{form_from}
 use Rattle.obs_rows.specs.declared.arcs.Arc.{Arc}
 use Rattle.obs_rows.specs.declared.pair_rows.PairRows.{PairRows}
-use Rattle.form_tables.specs.Tables.{entry}
+use Rattle.quadratic_form.specs.Tables.{entry}
 use Rattle.normal_sum.specs.declared.normal.Normal.{Normal}
 use Rattle.normal_sum.specs.Normals.{IsNormalOf}
 use Rattle.normal_sum.specs.Values.{form_of, radii_from}

@@ -1,9 +1,9 @@
 -- What a form of zeros keeps.
 use Rattle.std.proofs.Common.{◌≡◌, ℕ, ◌<◌, ◌^◌, List, ℤ, pos, unsigned_abs, arith, sym, ap, ◌∙◌, subst}
-use Rattle.form_tables.specs.declared.sizes.TheConstants.{MOST_FORM_COLUMNS}
-use Rattle.form_tables.specs.Tables.{entry, zero_rows, IsZeroOutside}
-use Rattle.form_tables.specs.Matrices.{IsSymmetric, EntriesBelow}
-use Rattle.form_tables.proofs.TableLaws.{zero_entry}
+use Rattle.quadratic_form.specs.declared.sizes.TheConstants.{MOST_FORM_COLUMNS}
+use Rattle.quadratic_form.specs.Tables.{entry, zero_rows, IsZeroOutside}
+use Rattle.quadratic_form.specs.Matrices.{IsSymmetric, EntriesBelow}
+use Rattle.quadratic_form.proofs.TableLaws.{zero_entry}
 
 abbrev pub IsZeroForm : List (List ℤ) → Type 0
 IsZeroForm t = t ≡ zero_rows MOST_FORM_COLUMNS MOST_FORM_COLUMNS

@@ -3,7 +3,7 @@ use Rattle.std.specs.Prelude.{◌≡◌, ℕ, suc, ◌-◌, ◌^◌, List, true,
 use Rattle.whole_math.specs.Rounding.{floor_div, nearest_div}
 use Rattle.quadratic_form.specs.Forms.{Column}
 use Rattle.quadratic_form.specs.Elimination.{rounded}
-use Rattle.form_tables.specs.Tables.{entry}
+use Rattle.quadratic_form.specs.Tables.{entry}
 use Rattle.normal_sum.specs.declared.normal.Normal.{Normal}
 use Rattle.normal_sum.specs.Values.{bounding_of}
 use Rattle.elimination.specs.StepEntries.{is_small}

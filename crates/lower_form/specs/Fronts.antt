@@ -1,10 +1,10 @@
 -- The front of the elimination of a normal matrix, and the bound that its form gives over all data.
 use Rattle.std.specs.Prelude.{◌≡◌, ℕ, ◌^◌, true, false, List, length, ℤ, pos, ◌*ℤ◌, Result, Err}
-use Rattle.rational.specs.Rational.{of_whole, ◌*ʳ◌, ◌≤ʳ◌}
+use Rattle.whole_math.specs.Rational.{of_whole, ◌*ʳ◌, ◌≤ʳ◌}
 use Rattle.quadratic_form.specs.Forms.{Column}
 use Rattle.quadratic_form.specs.Elimination.{Factor, Refusal, wide_entry, form_small, steps}
 use Rattle.quadratic_form.specs.Rows.{value}
-use Rattle.rational.specs.Spread.{Baseline}
+use Rattle.whole_math.specs.Spread.{Baseline}
 use Rattle.obs_rows.specs.declared.arcs.Arc.{Arc}
 use Rattle.obs_rows.specs.declared.pair_rows.PairRows.{PairRows}
 use Rattle.obs_rows.specs.Integers.{integer_count}

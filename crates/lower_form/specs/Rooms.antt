@@ -1,6 +1,6 @@
 -- What the room of fronts keeps from one to the next.
 use Rattle.std.specs.Prelude.{◌≡◌, ◌⊎◌, ℕ, ◌≤◌, pos}
-use Rattle.form_tables.specs.Tables.{entry}
+use Rattle.quadratic_form.specs.Tables.{entry}
 use Rattle.lower_form.specs.declared.fronts.FrontRoom.{FrontRoom}
 
 -- of its factors only those of the baseline's columns with later ones of these columns may be other than 0

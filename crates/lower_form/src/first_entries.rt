@@ -3,8 +3,8 @@ ghost use Rattle.std.specs.Prelude.{◌≡◌, ◌+◌, ◌*◌, ◌^◌, ◌<�
 ghost use Rattle.whole_math.specs.Rounding.{floor_div, nearest_div};
 ghost use Rattle.lower_form.specs.FirstRounding.{radius_at, own_bound as own_bound_of, first_entry as first_entry_of};
 
-use form_tables::{BASELINE_COLUMNS, MOST_COLUMNS};
 use normal_sum::Normal;
+use quadratic_form::{BASELINE_COLUMNS, MOST_COLUMNS};
 use whole_math::floor_shift;
 
 /// 63 · entry

@@ -4,7 +4,7 @@ ghost use Rattle.quadratic_form.specs.Places.{form_from};
 ghost use Rattle.quadratic_form.specs.Lowering.{IsExponent};
 ghost use Rattle.obs_rows.specs.declared.arcs.Arc.{Arc};
 ghost use Rattle.obs_rows.specs.declared.pair_rows.PairRows.{PairRows};
-ghost use Rattle.form_tables.specs.Tables.{entry};
+ghost use Rattle.quadratic_form.specs.Tables.{entry};
 ghost use Rattle.normal_sum.specs.Normals.{IsNormalOf};
 ghost use Rattle.normal_sum.specs.Values.{form_of};
 ghost use Rattle.elimination.specs.Stops.{refusal_of};
@@ -20,9 +20,9 @@ use crate::row_fronts::front_by_rows;
 use elimination::{
     StepFault, Stopped, fill_form_table, first_kept, form_table, front_factors, take_steps,
 };
-use form_tables::{BASELINE_COLUMNS, FactorTable, MOST_COLUMNS, MOST_FACTORS, NormalTable};
 use integer_form::{FrontForm, LowerFault};
 use normal_sum::Normal;
+use quadratic_form::{BASELINE_COLUMNS, FactorTable, MOST_COLUMNS, MOST_FACTORS, NormalTable};
 
 /// The first rounding over 2^h and the steps of the baseline's columns. What they leave stands in the table, on the
 /// diagonal and after it.

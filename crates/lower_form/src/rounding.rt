@@ -3,15 +3,15 @@ ghost use Rattle.std.specs.Prelude.{◌≡◌, ◌≢◌, ℕ, ◌+◌, ◌^◌,
 ghost use Rattle.quadratic_form.specs.Elimination.{form_small};
 ghost use Rattle.quadratic_form.specs.Places.{form_from};
 ghost use Rattle.quadratic_form.specs.Lowering.{IsExponent};
-ghost use Rattle.form_tables.specs.Tables.{entry};
+ghost use Rattle.quadratic_form.specs.Tables.{entry};
 ghost use Rattle.normal_sum.specs.Values.{form_of};
 ghost use Rattle.elimination.specs.StepEntries.{is_small};
 ghost use Rattle.lower_form.specs.FirstRounding.{first_entry as first_entry_of, first_form};
 
 use crate::first_entries::first_entry;
 use elimination::is_small;
-use form_tables::{MOST_COLUMNS, NormalTable};
 use normal_sum::Normal;
+use quadratic_form::{MOST_COLUMNS, NormalTable};
 use whole_math::floor_shift;
 
 /// 63 times the greatest own entry, and 0 where none is above 0.

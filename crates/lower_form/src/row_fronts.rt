@@ -1,7 +1,7 @@
 //! The front of the elimination row by row: each row is rounded and taken through the three steps of the baseline's columns at
 //! once, in 64 bits, and written into the form. Where a step stops, the answer is false: the steps column by column say why.
 ghost use Rattle.std.specs.Prelude.{◌≡◌, ℕ, ◌+◌, ◌-◌, ◌^◌, ◌<◌, ◌≤◌, true, pos, ◌<ℤ◌, unsigned_abs, Ok};
-ghost use Rattle.form_tables.specs.Tables.{entry, item};
+ghost use Rattle.quadratic_form.specs.Tables.{entry, item};
 ghost use Rattle.integer_form.specs.Factors.{stored};
 ghost use Rattle.integer_form.specs.Kept.{form_of_table};
 ghost use Rattle.elimination.specs.StepEntries.{is_small};
@@ -13,9 +13,9 @@ ghost use Rattle.lower_form.specs.Fronts.{front_of};
 use crate::first_entries::first_entry;
 use crate::repeats::LastRounded;
 use elimination::{PivotRows, is_small, put_row, step_through};
-use form_tables::{BASELINE_COLUMNS, MOST_COLUMNS};
 use integer_form::FrontForm;
 use normal_sum::Normal;
+use quadratic_form::{BASELINE_COLUMNS, MOST_COLUMNS};
 
 /// Writes the entries of row r of the first rounding over 2^h after its own; false where one is too large.
 fn first_others(normal: &Normal, h: u32, r: usize, row: &mut [i64; MOST_COLUMNS]) -> bool

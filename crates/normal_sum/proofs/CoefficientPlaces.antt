@@ -11,9 +11,9 @@ use Rattle.obs_rows.specs.Signals.{cycle}
 use Rattle.obs_rows.specs.Integers.{integer_count, integer_place}
 use Rattle.obs_rows.specs.Data.{number_at}
 use Rattle.obs_rows.specs.SignalGroups.{only_at, signal_row}
-use Rattle.form_tables.specs.declared.sizes.TheConstants.{MOST_COLUMNS, MOST_FORM_COLUMNS, MOST_INTEGERS}
-use Rattle.form_tables.proofs.TableLaws.{zero_item}
-use Rattle.form_tables.specs.Tables.{item}
+use Rattle.quadratic_form.specs.declared.sizes.TheConstants.{MOST_COLUMNS, MOST_FORM_COLUMNS, MOST_INTEGERS}
+use Rattle.quadratic_form.proofs.TableLaws.{zero_item}
+use Rattle.quadratic_form.specs.Tables.{item}
 use Rattle.normal_sum.specs.Places.{put_at}
 
 -- ---- zeros

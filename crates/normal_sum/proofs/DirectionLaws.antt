@@ -15,7 +15,7 @@ use Rattle.obs_rows.specs.declared.pair_rows.PairRows.{PairRows}
 use Rattle.obs_rows.specs.Data.{number_at}
 use Rattle.obs_rows.specs.Signals.{weight}
 use Rattle.obs_rows.specs.SignalGroups.{signal_row, signal_group}
-use Rattle.form_tables.specs.declared.sizes.TheConstants.{BASELINE_COLUMNS}
+use Rattle.quadratic_form.specs.declared.sizes.TheConstants.{BASELINE_COLUMNS}
 use Rattle.normal_sum.specs.Directions.{direction_sum, direction_products, direction_spread}
 
 abbrev pub turned : ℤ → ℤ

@@ -8,11 +8,11 @@ use Rattle.whole_math.proofs.Order.{lins}
 use Rattle.quadratic_form.specs.Rows.{SignalGroup, columns, GroupsOf, Radii, add_radii, row_radii, no_radii, radii}
 use Rattle.quadratic_form.specs.MatrixEntries.{matrix_entry}
 use Rattle.quadratic_form.proofs.MatrixEntries.{matrix_past, matrix_turned}
-use Rattle.form_tables.specs.declared.sizes.TheConstants.{MOST_COLUMNS}
-use Rattle.form_tables.specs.Tables.{entry, HasShape, IsZeroOutside}
+use Rattle.quadratic_form.specs.declared.sizes.TheConstants.{MOST_COLUMNS}
+use Rattle.quadratic_form.specs.Tables.{entry, HasShape, IsZeroOutside}
 use Rattle.normal_sum.specs.declared.radii.RadiusSums.{RadiusSums}
 use Rattle.normal_sum.specs.RadiusSums.{IsAtMost}
-use Rattle.form_tables.specs.Matrices.{IsSymmetric, EntriesBelow}
+use Rattle.quadratic_form.specs.Matrices.{IsSymmetric, EntriesBelow}
 use Rattle.normal_sum.specs.Matrices.{IsRadiusSum, IsMirrored}
 use Rattle.normal_sum.proofs.Words.{small_w128}
 use Rattle.normal_sum.proofs.RadiusLaws.{radii_assoc, radii_same}

@@ -17,8 +17,8 @@ use Rattle.obs_rows.specs.Signals.{weight, cycle}
 use Rattle.obs_rows.specs.Integers.{integer_count, integer_place}
 use Rattle.obs_rows.specs.SumOfSquares.{share}
 use Rattle.obs_rows.specs.SignalGroups.{only_at, signal_row, signal_group}
-use Rattle.form_tables.specs.declared.sizes.TheConstants.{BASELINE_COLUMNS}
-use Rattle.form_tables.specs.Tables.{entry, item}
+use Rattle.quadratic_form.specs.declared.sizes.TheConstants.{BASELINE_COLUMNS}
+use Rattle.quadratic_form.specs.Tables.{entry, item}
 use Rattle.normal_sum.specs.Directions.{direction_sum}
 use Rattle.normal_sum.specs.Places.{SeesNone}
 use Rattle.normal_sum.specs.Observations.{observation_sum, observation_products, observation_squares, axis_spread, observation_spread}

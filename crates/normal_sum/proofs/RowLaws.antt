@@ -1,8 +1,8 @@
 -- What is added in the columns of one row of a table, whatever the width of the factor.
 use Rattle.std.proofs.Common.{◌≡◌, ◌≢◌, ◌⊎◌, inl, inr, ⊎_elim, ℕ, ◌+◌, ◌^◌, ◌<◌, ◌≤◌, List, length, ℤ, pos, ◌+ℤ◌, ◌*ℤ◌, unsigned_abs, slice_index_or, arith, sym, ◌∙◌, subst, refl}
 use Rattle.std.specs.Prelude.{slice_index}
-use Rattle.form_tables.specs.declared.sizes.TheConstants.{BASELINE_COLUMNS, MOST_COLUMNS}
-use Rattle.form_tables.specs.Tables.{entry}
+use Rattle.quadratic_form.specs.declared.sizes.TheConstants.{BASELINE_COLUMNS, MOST_COLUMNS}
+use Rattle.quadratic_form.specs.Tables.{entry}
 use Rattle.normal_sum.specs.Columns.{AreColumnsFrom}
 use Rattle.normal_sum.proofs.RowSums.{times_nothing}
 use Rattle.normal_sum.proofs.ColumnLaws.{AddedIn, none_added, one_more, untouched, all_added}

@@ -1,7 +1,7 @@
 -- The columns in which a row has a coefficient.
 use Rattle.std.specs.Prelude.{◌≡◌, ◌≢◌, ℕ, ◌<◌, ◌≤◌, List, ℤ, pos, length, All, slice_index, slice_index_or}
 use Rattle.std.specs.List.Sorted.{IsStrictlyIncreasing}
-use Rattle.form_tables.specs.declared.sizes.TheConstants.{BASELINE_COLUMNS, MOST_COLUMNS}
+use Rattle.quadratic_form.specs.declared.sizes.TheConstants.{BASELINE_COLUMNS, MOST_COLUMNS}
 
 -- each column once, in order, those of the baseline among them, and the values are 0 in all others
 pub record AreColumnsOf (values : List ℤ) (columns : List ℕ) : Type 0 where

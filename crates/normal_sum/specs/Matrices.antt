@@ -1,8 +1,8 @@
 -- What the type of a normal matrix keeps.
 use Rattle.std.specs.Prelude.{◌≡◌, ℕ, ◌^◌, ◌<◌, ◌≤◌, List, [], ◌∷◌, ℤ, pos, ◌≤ℤ◌, ◌<ℤ◌}
 use Rattle.quadratic_form.specs.Rows.{Radii}
-use Rattle.form_tables.specs.Tables.{entry}
-use Rattle.form_tables.specs.declared.sizes.TheConstants.{MOST_COLUMNS}
+use Rattle.quadratic_form.specs.Tables.{entry}
+use Rattle.quadratic_form.specs.declared.sizes.TheConstants.{MOST_COLUMNS}
 
 -- from 0 to below 2^100
 abbrev pub IsRadiusSum : ℤ → Type 0

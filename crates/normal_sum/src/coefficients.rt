@@ -1,15 +1,15 @@
 //! The coefficients of a row in the columns of the matrix: three of the baseline, the integers, the constant.
 ghost use Rattle.std.specs.Prelude.{◌≡◌, ◌≢◌, ℕ, ◌+◌, ◌^◌, ◌<◌, ◌≤◌, List, pos, length, unsigned_abs, replicate, slice_index_or, Option, IfSome};
 ghost use Rattle.obs_rows.specs.declared.arcs.Arc.{Arc};
-ghost use Rattle.form_tables.specs.declared.sizes.TheConstants.{BASELINE_COLUMNS, MOST_COLUMNS};
+ghost use Rattle.quadratic_form.specs.declared.sizes.TheConstants.{BASELINE_COLUMNS, MOST_COLUMNS};
 ghost use Rattle.obs_rows.specs.Signals.{cycle};
 ghost use Rattle.obs_rows.specs.Integers.{integer_count, integer_place};
 ghost use Rattle.obs_rows.specs.SignalGroups.{signal_row};
 ghost use Rattle.quadratic_form.specs.MatrixEntries.{coefficient};
 ghost use Rattle.normal_sum.specs.Places.{put_at};
 
-use form_tables::{BASELINE_COLUMNS, MOST_COLUMNS, MOST_INTEGERS};
 use obs_rows::{ROW_EXPONENT, Row, SIGNALS, WAVELENGTHS};
+use quadratic_form::{BASELINE_COLUMNS, MOST_COLUMNS, MOST_INTEGERS};
 
 /// The wavelength of a signal in the unit of the rows.
 fn cycle_of(signal: usize) -> i64

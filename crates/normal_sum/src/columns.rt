@@ -1,11 +1,11 @@
 //! The columns in which a row has a coefficient: at most five, so a product adds to at most nine entries on and above the
 //! diagonal of the matrix after the columns of the baseline.
 ghost use Rattle.std.specs.Prelude.{◌≡◌, ℕ, ◌+◌, ◌<◌, ◌≤◌, ◌^◌, ◌+ℤ◌, pos, unsigned_abs, slice_index_or};
-ghost use Rattle.form_tables.specs.declared.sizes.TheConstants.{MOST_INTEGERS};
+ghost use Rattle.quadratic_form.specs.declared.sizes.TheConstants.{MOST_INTEGERS};
 ghost use Rattle.normal_sum.specs.Columns.{AreColumnsOf};
 
 use arrayvec::ArrayVec;
-use form_tables::{BASELINE_COLUMNS, MOST_COLUMNS};
+use quadratic_form::{BASELINE_COLUMNS, MOST_COLUMNS};
 
 /// The columns of the baseline, and those of the integers and of the constant in which values aren't 0.
 pub(crate) fn used_columns(

@@ -1,15 +1,15 @@
 //! What the rows of a pair add to the entries of the baseline's columns. A row has the same directions for each signal, so
 //! one pass adds them for all.
 ghost use Rattle.std.specs.Prelude.{◌≡◌, ◌≢◌, ℕ, ◌+◌, ◌*◌, ◌^◌, ◌<◌, ◌≤◌, ◌+ℤ◌, ◌-ℤ◌, ◌*ℤ◌, pos, length, unsigned_abs, slice_index_or};
-ghost use Rattle.form_tables.specs.declared.sizes.TheConstants.{BASELINE_COLUMNS};
-ghost use Rattle.form_tables.specs.Tables.{entry};
+ghost use Rattle.quadratic_form.specs.declared.sizes.TheConstants.{BASELINE_COLUMNS};
+ghost use Rattle.quadratic_form.specs.Tables.{entry};
 ghost use Rattle.obs_rows.specs.Data.{number_at};
 ghost use Rattle.normal_sum.specs.Directions.{direction_sum, direction_products, direction_spread};
 
 use crate::places::MOST_ROWS;
 use crate::products::add_short_to_entry;
-use form_tables::{BASELINE_COLUMNS, NormalTable};
 use obs_rows::Row;
+use quadratic_form::{BASELINE_COLUMNS, NormalTable};
 
 /// The sum of the directions of the rows along one axis.
 pub(crate) fn direction_sum(rows: &[Row], axis: usize) -> i64

@@ -1,9 +1,9 @@
 //! The entries below the diagonal of a symmetric matrix.
 ghost use Rattle.std.specs.Prelude.{◌≡◌, ◌≢◌, ℕ, ◌<◌, ◌≤◌, pos};
-ghost use Rattle.form_tables.specs.Tables.{entry};
+ghost use Rattle.quadratic_form.specs.Tables.{entry};
 ghost use Rattle.normal_sum.specs.Matrices.{IsMirrored};
 
-use form_tables::{MOST_COLUMNS, NormalTable};
+use quadratic_form::{MOST_COLUMNS, NormalTable};
 
 /// Gives the entries of a row before the diagonal those of its column.
 fn mirror_row(table: &mut NormalTable, row: usize)

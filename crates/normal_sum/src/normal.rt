@@ -1,11 +1,11 @@
 //! The normal matrix of rows.
 ghost use Rattle.std.specs.Prelude.{◌≡◌, ℕ, ◌^◌, ◌≤◌, pos, All};
-ghost use Rattle.form_tables.specs.Tables.{entry, IsZeroOutside};
-ghost use Rattle.form_tables.specs.declared.sizes.TheConstants.{MOST_COLUMNS};
-ghost use Rattle.form_tables.specs.Matrices.{IsSymmetric, EntriesBelow};
+ghost use Rattle.quadratic_form.specs.Tables.{entry, IsZeroOutside};
+ghost use Rattle.quadratic_form.specs.declared.sizes.TheConstants.{MOST_COLUMNS};
+ghost use Rattle.quadratic_form.specs.Matrices.{IsSymmetric, EntriesBelow};
 ghost use Rattle.normal_sum.specs.Matrices.{IsRadiusSum};
 
-use form_tables::{BASELINE_COLUMNS, NormalTable};
+use quadratic_form::{BASELINE_COLUMNS, NormalTable};
 
 /// The weighted sum of squares at the centres of the rows as a matrix, and what the radii of the rows may take from it.
 ///

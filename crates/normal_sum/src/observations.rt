@@ -1,8 +1,8 @@
 //! What the rows of a pair add to the entries of the constant with itself and with the columns of the baseline, as one
 //! signal sees them: by sums over the rows, so that a table is written once for all of them.
 ghost use Rattle.std.specs.Prelude.{◌≡◌, ◌≢◌, ◌⊎◌, ℕ, ◌+◌, ◌*◌, ◌^◌, ◌<◌, ◌≤◌, ◌+ℤ◌, ◌-ℤ◌, ◌*ℤ◌, pos, length, unsigned_abs};
-ghost use Rattle.form_tables.specs.declared.sizes.TheConstants.{BASELINE_COLUMNS, MOST_INTEGERS};
-ghost use Rattle.form_tables.specs.Tables.{entry};
+ghost use Rattle.quadratic_form.specs.declared.sizes.TheConstants.{BASELINE_COLUMNS, MOST_INTEGERS};
+ghost use Rattle.quadratic_form.specs.Tables.{entry};
 ghost use Rattle.obs_rows.specs.Data.{number_at};
 ghost use Rattle.obs_rows.specs.SumOfSquares.{share};
 ghost use Rattle.normal_sum.specs.Observations.{observation_sum, observation_products, observation_squares, axis_spread, observation_spread};
@@ -11,8 +11,8 @@ use crate::directions::direction_sum;
 use crate::places::MOST_ROWS;
 use crate::products::add_to_entry;
 use crate::signals::turned_share;
-use form_tables::{BASELINE_COLUMNS, NormalTable};
 use obs_rows::{Row, SIGNALS};
+use quadratic_form::{BASELINE_COLUMNS, NormalTable};
 use whole_math::product;
 
 /// The sum of the observations of the rows.

@@ -5,7 +5,7 @@ ghost use Rattle.quadratic_form.specs.Rows.{add_radii, radii};
 ghost use Rattle.quadratic_form.specs.MatrixEntries.{matrix_entry};
 ghost use Rattle.obs_rows.specs.declared.arcs.Arc.{Arc};
 ghost use Rattle.obs_rows.specs.Arcs.{free_count};
-ghost use Rattle.form_tables.specs.Tables.{entry};
+ghost use Rattle.quadratic_form.specs.Tables.{entry};
 ghost use Rattle.obs_rows.specs.Signals.{weight};
 ghost use Rattle.obs_rows.specs.CountedSignals.{AreCounted};
 ghost use Rattle.obs_rows.specs.Integers.{integer_count};
@@ -17,8 +17,8 @@ use crate::directions::add_directions;
 use crate::places::{MOST_ROWS, first_places};
 use crate::radii::{RadiusSums, add_radii_of};
 use crate::signals::{add_signal, share};
-use form_tables::{MOST_COLUMNS, MOST_INTEGERS, NormalTable};
 use obs_rows::{Arc, MOST_FREE_ARCS, PairRows, phase_place};
+use quadratic_form::{MOST_COLUMNS, MOST_INTEGERS, NormalTable};
 
 /// Adds the entries of a pair's rows.
 pub(crate) fn add_pair(

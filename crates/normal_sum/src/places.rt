@@ -8,8 +8,8 @@ ghost use Rattle.obs_rows.specs.CountedSignals.{AreCounted};
 ghost use Rattle.normal_sum.specs.Pairs.{HaveArcs};
 ghost use Rattle.normal_sum.specs.Places.{first_place, place_from};
 
-use form_tables::MOST_INTEGERS;
 use obs_rows::{Arc, MOST_FREE_ARCS, MOST_SATELLITES, PHASES, Row, free_arcs, phase_count};
+use quadratic_form::MOST_INTEGERS;
 
 /// The most rows of a pair.
 pub const MOST_ROWS: usize = MOST_SATELLITES;

@@ -1,11 +1,11 @@
 //! Weighted products of the coefficients of a row, added to a table in the columns that the row has, on and above the
 //! diagonal alone. The entries of the baseline's columns, which are the same for each signal, are left out.
 ghost use Rattle.std.specs.Prelude.{◌≡◌, ◌≢◌, ◌⊎◌, ℕ, ◌^◌, ◌<◌, ◌≤◌, pos, ◌+ℤ◌, ◌*ℤ◌, IsTrue, unsigned_abs, slice_index_or};
-ghost use Rattle.form_tables.specs.Tables.{entry};
-ghost use Rattle.form_tables.specs.declared.sizes.TheConstants.{BASELINE_COLUMNS};
+ghost use Rattle.quadratic_form.specs.Tables.{entry};
+ghost use Rattle.quadratic_form.specs.declared.sizes.TheConstants.{BASELINE_COLUMNS};
 ghost use Rattle.normal_sum.specs.Columns.{AreColumnsOf, AreColumnsFrom};
 
-use form_tables::{BASELINE_COLUMNS, MOST_COLUMNS, NormalTable};
+use quadratic_form::{BASELINE_COLUMNS, MOST_COLUMNS, NormalTable};
 use whole_math::product;
 
 /// sum + factor · value

@@ -2,8 +2,8 @@
 ghost use Rattle.std.specs.Prelude.{◌≡◌, ◌≢◌, ◌⊎◌, ℕ, ◌+◌, ◌*◌, ◌/◌, ◌^◌, ◌<◌, ◌≤◌, ◌+ℤ◌, ◌*ℤ◌, ◌≤ℤ◌, List, pos, length, map, replicate, unsigned_abs, slice_index_or, IfSome, None};
 ghost use Rattle.quadratic_form.specs.MatrixEntries.{coefficient, coefficient_sum, product_sum, group_entry};
 ghost use Rattle.obs_rows.specs.declared.arcs.Arc.{Arc};
-ghost use Rattle.form_tables.specs.declared.sizes.TheConstants.{BASELINE_COLUMNS, MOST_COLUMNS, MOST_INTEGERS};
-ghost use Rattle.form_tables.specs.Tables.{entry};
+ghost use Rattle.quadratic_form.specs.declared.sizes.TheConstants.{BASELINE_COLUMNS, MOST_COLUMNS, MOST_INTEGERS};
+ghost use Rattle.quadratic_form.specs.Tables.{entry};
 ghost use Rattle.obs_rows.specs.Signals.{weight};
 ghost use Rattle.obs_rows.specs.Integers.{integer_count, integer_place};
 ghost use Rattle.obs_rows.specs.SumOfSquares.{share};
@@ -17,8 +17,8 @@ use crate::columns::{add_values, used_columns};
 use crate::observations::add_observations;
 use crate::places::{MOST_ROWS, places_of};
 use crate::products::add_product;
-use form_tables::{BASELINE_COLUMNS, MOST_COLUMNS, MOST_INTEGERS, NormalTable};
 use obs_rows::{PHASES, PairRows, Row, SIGNALS, WEIGHTS};
+use quadratic_form::{BASELINE_COLUMNS, MOST_COLUMNS, MOST_INTEGERS, NormalTable};
 
 /// 360360 times a weight is whole over each number of rows from 1 to 15.
 const COMMON_MULTIPLE: i64 = 360_360;

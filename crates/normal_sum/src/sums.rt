@@ -2,8 +2,8 @@
 ghost use Rattle.std.specs.Prelude.{◌≡◌, ◌≢◌, ◌⊎◌, ◌+◌, ◌∷◌, [], ℕ, ◌^◌, ◌<◌, ◌≤◌, pos, length, All};
 ghost use Rattle.quadratic_form.specs.Rows.{radii};
 ghost use Rattle.quadratic_form.specs.MatrixEntries.{matrix_entry};
-ghost use Rattle.form_tables.specs.Tables.{entry, IsZeroOutside};
-ghost use Rattle.form_tables.specs.Matrices.{EntriesBelow};
+ghost use Rattle.quadratic_form.specs.Tables.{entry, IsZeroOutside};
+ghost use Rattle.quadratic_form.specs.Matrices.{EntriesBelow};
 ghost use Rattle.obs_rows.specs.declared.limits.TheConstants.{MOST_PAIRS};
 ghost use Rattle.obs_rows.specs.Arcs.{free_count};
 ghost use Rattle.obs_rows.specs.Pairs.{HasItsArcs};
@@ -19,8 +19,8 @@ use crate::Normal;
 use crate::mirror::{clear_row, mirror};
 use crate::pairs::{add_pair, add_pair_radii};
 use crate::radii::RadiusSums;
-use form_tables::{BASELINE_COLUMNS, MOST_COLUMNS, NormalTable};
 use obs_rows::{Arc, MOST_FREE_ARCS, PairRows, Session, Signals, counted_signals, integer_count};
+use quadratic_form::{BASELINE_COLUMNS, MOST_COLUMNS, NormalTable};
 use std::slice;
 
 /// Writes the sums over all these pairs into a table, and gives those of the squares of their radii. The table is zeros but

@@ -1,6 +1,6 @@
 //! Boxes of numbers in decimals.
-use decimal_box::decimal_box;
 use decimal_text::Dec;
+use sv_orbit::decimal_box;
 
 const HALF: u64 = 1 << 59;
 

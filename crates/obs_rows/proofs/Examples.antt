@@ -3,8 +3,8 @@ use Rattle.std.proofs.Common.{◌≡◌, ℕ, zero, suc, ◌<◌, ◌≤◌, ◌
 use Rattle.std.proofs.lemmas.List.Elements.{All-from_recursion}
 use Rattle.std.proofs.lemmas.List.Quantifiers.{all_pairs_push}
 use Rattle.whole_math.proofs.Order.{lins}
-use Rattle.rational.specs.Rational.{◌≈◌, of_whole}
-use Rattle.rational.specs.Spread.{Baseline, spread_of_rationals}
+use Rattle.whole_math.specs.Rational.{◌≈◌, of_whole}
+use Rattle.whole_math.specs.Spread.{Baseline, spread_of_rationals}
 use Rattle.obs_rows.specs.declared.arcs.Arc.{Arc}
 use Rattle.obs_rows.specs.declared.rows.Row.{Row}
 use Rattle.obs_rows.specs.declared.pair_rows.PairRows.{PairRows}

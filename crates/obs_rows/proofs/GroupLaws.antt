@@ -6,10 +6,10 @@ use Rattle.std.proofs.lemmas.List.Elements.{All-head, All-tail}
 use Rattle.whole_math.specs.Vectors.{dot}
 use Rattle.whole_math.proofs.Ring.{◌⊕◌, ◌⊖◌, ◌⊗◌, ng}
 use Rattle.whole_math.proofs.Inequalities.{same_by, nat}
-use Rattle.rational.specs.Rational.{Rational, Near, of_whole, ◌+ʳ◌, ◌-ʳ◌, ◌*ʳ◌}
+use Rattle.whole_math.specs.Rational.{Rational, Near, of_whole, ◌+ʳ◌, ◌-ʳ◌, ◌*ʳ◌}
 use Rattle.quadratic_form.specs.Rows.{SignalGroup, share as group_share}
 use Rattle.quadratic_form.specs.RationalData.{RowData, Fits, FitsAll, residual as group_residual, residuals as group_residuals}
-use Rattle.rational.specs.Spread.{Baseline, sum_of_rationals, spread_of_rationals}
+use Rattle.whole_math.specs.Spread.{Baseline, sum_of_rationals, spread_of_rationals}
 use Rattle.quadratic_form.specs.RationalData.{sum_of_squares as group_sum}
 use Rattle.obs_rows.specs.declared.arcs.Arc.{Arc}
 use Rattle.obs_rows.specs.declared.rows.Row.{Row}

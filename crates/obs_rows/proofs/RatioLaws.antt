@@ -3,13 +3,13 @@ use Rattle.std.proofs.Common.{◌≡◌, ◌≢◌, ℕ, ◌*◌, ◌≤◌, ◌
 use Rattle.whole_math.proofs.Order.{lins, mul_le_cancel, mul_lt_cancel, le_pos}
 use Rattle.whole_math.proofs.Ring.{◌⊕◌, ◌⊖◌, ◌⊗◌}
 use Rattle.whole_math.proofs.Inequalities.{le_by, both_nn, prod_nn, less_nn, pos_nn, pos_one, later, strict, nat}
-use Rattle.rational.specs.Rational.{Rational, ◌<ʳ◌}
-use Rattle.rational.specs.Over.{Over, HasCommonDenominator}
-use Rattle.rational.proofs.Over.{common}
+use Rattle.whole_math.specs.Rational.{Rational, ◌<ʳ◌}
+use Rattle.whole_math.specs.Over.{Over, HasCommonDenominator}
+use Rattle.whole_math.proofs.Over.{common}
 use Rattle.quadratic_form.specs.Spread.{spread}
 use Rattle.quadratic_form.specs.Rows.{SignalGroup, GroupsOf}
 use Rattle.quadratic_form.specs.RationalData.{RowData, residuals, sum_of_squares as group_sum}
-use Rattle.rational.specs.Spread.{Baseline, spread_of_rationals}
+use Rattle.whole_math.specs.Spread.{Baseline, spread_of_rationals}
 use Rattle.quadratic_form.proofs.Spread.{spread_nonneg}
 use Rattle.quadratic_form.proofs.UpperSum.{share_nonneg}
 use Rattle.quadratic_form.proofs.RationalData.{spread_over}

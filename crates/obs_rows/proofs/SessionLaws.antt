@@ -2,13 +2,13 @@
 use Rattle.std.proofs.Common.{◌≡◌, ◌≢◌, ℕ, ◌^◌, List, length, ℤ, pos, ◌*ℤ◌, Ok, sym, ◌∙◌, ap, subst}
 use Rattle.whole_math.specs.Vectors.{len}
 use Rattle.whole_math.proofs.Vectors.{len_is}
-use Rattle.rational.specs.Rational.{Rational, of_whole, ◌*ʳ◌, ◌≤ʳ◌, ◌<ʳ◌}
-use Rattle.rational.proofs.Over.{Over}
+use Rattle.whole_math.specs.Rational.{Rational, of_whole, ◌*ʳ◌, ◌≤ʳ◌, ◌<ʳ◌}
+use Rattle.whole_math.proofs.Over.{Over}
 use Rattle.quadratic_form.specs.Forms.{Column}
 use Rattle.quadratic_form.specs.Elimination.{Factor, steps}
 use Rattle.quadratic_form.specs.Rows.{WholeBaseline, WholeData, GroupsOf, first_rounding, value, whole_sum_of_squares}
 use Rattle.quadratic_form.specs.RationalData.{IsBest}
-use Rattle.rational.specs.Spread.{Baseline}
+use Rattle.whole_math.specs.Spread.{Baseline}
 use Rattle.quadratic_form.proofs.RationalData.{OverAll, OverBase, F_over, bound_over_rationals}
 use Rattle.obs_rows.specs.declared.arcs.Arc.{Arc}
 use Rattle.obs_rows.specs.declared.pair_rows.PairRows.{PairRows}

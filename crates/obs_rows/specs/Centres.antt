@@ -1,6 +1,6 @@
 -- The centres of the boxes, which are data.
 use Rattle.std.specs.Prelude.{List, map}
-use Rattle.rational.specs.Rational.{of_whole}
+use Rattle.whole_math.specs.Rational.{of_whole}
 use Rattle.obs_rows.specs.declared.rows.Row.{Row}
 use Rattle.obs_rows.specs.declared.pair_rows.PairRows.{PairRows}
 use Rattle.obs_rows.specs.Data.{Observed, number_at}

@@ -1,7 +1,7 @@
 //! What the constants are. Definitions cite them by their names, so a slip in one would change a body and its meaning
 //! together, and no other contract would see it.
 ghost use Rattle.std.specs.Prelude.{◌≡◌, [], ◌∷◌, pos, ◌*◌, ◌*ℤ◌, ◌+◌, codes};
-ghost use Rattle.form_tables.specs.declared.sizes.TheConstants.{MOST_INTEGERS};
+ghost use Rattle.quadratic_form.specs.declared.sizes.TheConstants.{MOST_INTEGERS};
 ghost use Rattle.obs_rows.specs.Signals.{wavelength};
 ghost use Rattle.obs_rows.specs.declared.bands.TheConstants.{L1_LETTERS, L2_LETTERS, L5_LETTERS};
 ghost use Rattle.obs_rows.specs.declared.limits.TheConstants.{MOST_PAIRS, LAST_PAIR, MOST_SATELLITES, MOST_ARCS, MOST_KEPT_ARCS, MOST_RATIO, MOST_BUDGET, MOST_COORDINATE, LEAST_DISTANCE, MOST_DISTANCE};

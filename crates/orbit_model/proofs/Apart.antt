@@ -2,8 +2,8 @@
 use Rattle.std.proofs.Common.{ℕ, ◌≤◌, pos, ◌*ℤ◌, ◌≤ℤ◌, arith, lit≤}
 use Rattle.std.proofs.lemmas.Int.{ints}
 use Rattle.whole_math.proofs.Order.{le_pos}
-use Rattle.rational.specs.Rational.{Rational, ◌≤ʳ◌, of_whole, ◌*ʳ◌, two_to_minus}
-use Rattle.rational.proofs.Laws.{≤ʳ_trans}
+use Rattle.whole_math.specs.Rational.{Rational, ◌≤ʳ◌, of_whole, ◌*ʳ◌, two_to_minus}
+use Rattle.whole_math.proofs.RationalLaws.{≤ʳ_trans}
 use Rattle.trig_box.specs.AnglePairs.{Pair, IsAnglePair}
 use Rattle.trig_box.proofs.PairLaws.{norm_law_5}
 use Rattle.orbit_model.specs.SeenPlaces.{Place, difference, square, turned_back}

@@ -1,6 +1,6 @@
 -- How far the range changes over a displacement.
 use Rattle.std.proofs.Common.{pos}
-use Rattle.rational.specs.Rational.{Rational, ◌≤ʳ◌, of_whole, ◌+ʳ◌, ◌-ʳ◌, ◌*ʳ◌, neg_r, IsNearRoot}
+use Rattle.whole_math.specs.Rational.{Rational, ◌≤ʳ◌, of_whole, ◌+ʳ◌, ◌-ʳ◌, ◌*ʳ◌, neg_r, IsNearRoot}
 use Rattle.orbit_model.proofs.Orders.{root_r}
 use Rattle.orbit_model.specs.SeenPlaces.{Place, difference, dot, square, IsDisplacement}
 use Rattle.orbit_model.proofs.NearRoots.{root_nn, near_high, near_low}

@@ -6,8 +6,8 @@ use Rattle.whole_math.proofs.Certificates.{nm, sq, ◌⊞◌}
 use Rattle.whole_math.proofs.Inequalities.{same_by, nat}
 use Rattle.whole_math.proofs.Order.{le_pos}
 use Rattle.whole_math.proofs.Powers.{pow_suc}
-use Rattle.rational.specs.Rational.{Rational, ◌≈◌, ◌≤ʳ◌, of_whole, ◌+ʳ◌, ◌-ʳ◌, ◌*ʳ◌, neg_r, times, divided, two_to_minus, AreWithin, IsAtMostInSize}
-use Rattle.rational.proofs.Laws.{≤ʳ_total, ≤ʳ_trans, ≤ʳ_from_same, ≈_sym}
+use Rattle.whole_math.specs.Rational.{Rational, ◌≈◌, ◌≤ʳ◌, of_whole, ◌+ʳ◌, ◌-ʳ◌, ◌*ʳ◌, neg_r, times, divided, two_to_minus, AreWithin, IsAtMostInSize}
+use Rattle.whole_math.proofs.RationalLaws.{≤ʳ_total, ≤ʳ_trans, ≤ʳ_from_same, ≈_sym}
 use Rattle.orbit_model.proofs.Orders.{cert_r, root_r}
 use Rattle.trig_box.specs.AnglePairs.{Pair, doubled, part, IsAnglePair}
 use Rattle.trig_box.specs.CanonicalPairs.{taylor_pair, IsCanonicalPair}

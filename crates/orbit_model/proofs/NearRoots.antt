@@ -5,10 +5,10 @@ use Rattle.whole_math.proofs.Ring.{◌⊖◌, ◌⊗◌}
 use Rattle.whole_math.proofs.Order.{lt_pos}
 use Rattle.whole_math.proofs.Inequalities.{same_by, nat, pos_nn}
 use Rattle.whole_math.proofs.Absolute.{abs_times_le}
-use Rattle.rational.specs.Rational.{Rational, ◌≤ʳ◌, of_whole, ◌-ʳ◌, ◌*ʳ◌, IsNearRoot}
+use Rattle.whole_math.specs.Rational.{Rational, ◌≤ʳ◌, of_whole, ◌-ʳ◌, ◌*ʳ◌, IsNearRoot}
 use Rattle.orbit_model.specs.SeenPlaces.{over_light_speed_squared, range_of}
 use Rattle.orbit_model.proofs.NearRootCertificates.{high, low, from_high, from_low}
-use Rattle.rational.proofs.NearRoots.{near_root_whole, near_root_from_whole, times_abs}
+use Rattle.whole_math.proofs.NearRoots.{near_root_whole, near_root_from_whole, times_abs}
 
 pub root_nn : (r q : Rational) → IsNearRoot r q → of_whole (pos 0) ≤ʳ r
 root_nn r q h = h.0

@@ -5,10 +5,10 @@ use Rattle.whole_math.proofs.Ring.{Ex, ◌⊕◌, ◌⊖◌, ◌⊗◌, norm}
 use Rattle.whole_math.proofs.Order.{mul_nn}
 use Rattle.whole_math.proofs.Inequalities.{le_by, less_nn, pos_nn}
 use Rattle.whole_math.proofs.Certificates.{Hy, Ce, as_ex, square_root}
-use Rattle.rational.specs.Rational.{Rational, ◌≤ʳ◌, of_whole, ◌*ʳ◌}
-use Rattle.rational.proofs.Identities.{ev_r, balanced}
-use Rattle.rational.proofs.Orders.{AreGiven, combined, order_r}
-pub use Rattle.rational.proofs.Orders.{cancel_r}
+use Rattle.whole_math.specs.Rational.{Rational, ◌≤ʳ◌, of_whole, ◌*ʳ◌}
+use Rattle.whole_math.proofs.RationalIdentities.{ev_r, balanced}
+use Rattle.whole_math.proofs.RationalOrders.{AreGiven, combined, order_r}
+pub use Rattle.whole_math.proofs.RationalOrders.{cancel_r}
 
 -- without equations
 pub cert_r : (r : List Rational) (hs : List Hy) (l u : Ex) (d : Ce) → norm (balanced r (u ⊖ l) (as_ex hs d ⊕ combined [] [])) ≡ norm (balanced r (as_ex hs d ⊕ combined [] []) (u ⊖ l)) →

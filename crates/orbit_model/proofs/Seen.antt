@@ -1,7 +1,7 @@
 -- What holds of every seen place.
 use Rattle.std.proofs.Common.{pos, refl, lit≤}
-use Rattle.rational.specs.Rational.{Rational, ◌≈◌, ◌≤ʳ◌, of_whole, ◌+ʳ◌, ◌-ʳ◌, ◌*ʳ◌, neg_r}
-use Rattle.rational.proofs.Laws.{≈_sym, ≈_trans, ≤ʳ_trans, ≤ʳ_along, add_r-same, add_r-comm, mul_r-same, mul_r-comm, sub_r-is}
+use Rattle.whole_math.specs.Rational.{Rational, ◌≈◌, ◌≤ʳ◌, of_whole, ◌+ʳ◌, ◌-ʳ◌, ◌*ʳ◌, neg_r}
+use Rattle.whole_math.proofs.RationalLaws.{≈_sym, ≈_trans, ≤ʳ_trans, ≤ʳ_along, add_r-same, add_r-comm, mul_r-same, mul_r-comm, sub_r-is}
 use Rattle.orbit_model.proofs.Orders.{root_r}
 use Rattle.orbit_model.specs.SeenPlaces.{Place, difference, square, turned_back, AreSamePlace, IsSeenPlace, over_light_speed_squared, range_of}
 use Rattle.orbit_model.specs.Places.{IsSentPlace, IsReceiverPlace, HasLengthBetween}

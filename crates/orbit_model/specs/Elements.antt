@@ -1,7 +1,7 @@
 -- What a broadcast record and a system's constants say, as rationals.
 use Rattle.std.specs.Prelude.{ℕ, ◌^◌, ℤ, pos, ◌-ℤ◌, ◌*ℤ◌, neg_ℤ, ◌==◌, if◌then◌else◌}
 use Rattle.std.proofs.Common.{lit<}
-use Rattle.rational.specs.Rational.{Rational, of_whole}
+use Rattle.whole_math.specs.Rational.{Rational, of_whole}
 use Rattle.eph_store.specs.Decimals.{value_of, decimal}
 use Rattle.eph_store.specs.declared.ephemeris.Eph.{Eph}
 

@@ -1,6 +1,6 @@
 -- Where places lie: in boxes, and how far from the Earth's centre; and that a place is seen.
 use Rattle.std.specs.Prelude.{ℕ, pos, ◌*ℤ◌, ◌*◌, List, [], ◌∷◌}
-use Rattle.rational.specs.Rational.{Rational, ◌≤ʳ◌, of_whole, ◌+ʳ◌, ◌*ʳ◌}
+use Rattle.whole_math.specs.Rational.{Rational, ◌≤ʳ◌, of_whole, ◌+ʳ◌, ◌*ʳ◌}
 use Rattle.iv_core.specs.declared.Iv.{Iv}
 use Rattle.iv_core.specs.Intervals.{Holds}
 use Rattle.std.specs.List.{AllZip}

@@ -1,7 +1,7 @@
 -- Where a receiver sees a satellite, over rationals: metres and seconds, in the Earth-fixed frame of the moment of reception.
 use Rattle.std.specs.Prelude.{ℕ, ◌*◌, ◌^◌, ℤ, pos, ◌⊎◌, List, slice_index_or}
 use Rattle.std.proofs.Common.{lit<}
-use Rattle.rational.specs.Rational.{Rational, ◌≈◌, ◌≤ʳ◌, ◌<ʳ◌, of_whole, ◌+ʳ◌, ◌-ʳ◌, ◌*ʳ◌, divided, IsNearRoot}
+use Rattle.whole_math.specs.Rational.{Rational, ◌≈◌, ◌≤ʳ◌, ◌<ʳ◌, of_whole, ◌+ʳ◌, ◌-ʳ◌, ◌*ʳ◌, divided, IsNearRoot}
 use Rattle.trig_box.specs.AnglePairs.{Pair, IsAnglePair}
 use Rattle.orbit_model.specs.Elements.{earth_rate}
 use Rattle.orbit_model.specs.Solution.{Quantities}

@@ -1,6 +1,6 @@
 -- A satellite's place and clock by the user algorithm of IS-GPS-200, as a set of equations over rationals.
 use Rattle.std.specs.Prelude.{pos}
-use Rattle.rational.specs.Rational.{Rational, ◌≈◌, of_whole, ◌+ʳ◌, ◌-ʳ◌, ◌*ʳ◌, two_to_minus, IsAtMostInSize, IsNearRoot}
+use Rattle.whole_math.specs.Rational.{Rational, ◌≈◌, of_whole, ◌+ʳ◌, ◌-ʳ◌, ◌*ʳ◌, two_to_minus, IsAtMostInSize, IsNearRoot}
 use Rattle.trig_box.specs.AnglePairs.{Pair, IsAnglePair, double, SolvesKepler}
 use Rattle.orbit_model.specs.Elements.{Elements, Constants, earth_rate}
 

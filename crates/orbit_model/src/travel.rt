@@ -6,7 +6,7 @@
 //! (`seen_places`), and over a displacement of at most 16 m the range changes by at most 33/2 m, whichever near-roots
 //! stand for it (`range_change`).
 ghost use Rattle.std.specs.Prelude.{pos};
-ghost use Rattle.rational.specs.Rational.{Rational, of_whole, ◌≤ʳ◌, ◌+ʳ◌, ◌-ʳ◌, ◌*ʳ◌, IsNearRoot};
+ghost use Rattle.whole_math.specs.Rational.{Rational, of_whole, ◌≤ʳ◌, ◌+ʳ◌, ◌-ʳ◌, ◌*ʳ◌, IsNearRoot};
 ghost use Rattle.orbit_model.specs.SeenPlaces.{Place, difference, square, IsSeenPlace, IsDisplacement};
 ghost use Rattle.orbit_model.specs.Places.{HasSeenPlace, IsSentPlace, IsReceiverPlace, HasLengthBetween};
 

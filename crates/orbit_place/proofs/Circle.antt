@@ -5,13 +5,13 @@ use Rattle.whole_math.proofs.Ring.{va, ko, ◌⊕◌, ◌⊖◌, ◌⊗◌, ng}
 use Rattle.whole_math.proofs.Order.{le_pos, mul_nn}
 use Rattle.whole_math.proofs.Inequalities.{same_by, pos_nn, nat}
 use Rattle.whole_math.proofs.Certificates.{Hy, cert, square_root, ◌≼◌, hy, nm, ◌⊞◌, ◌⊠◌}
-use Rattle.rational.specs.Rational.{Rational, ◌≈◌, ◌≤ʳ◌, of_whole, ◌+ʳ◌, neg_r, ◌-ʳ◌, ◌*ʳ◌, AreWithin, IsAtMostInSize}
-use Rattle.rational.specs.Boxes.{of_scale}
-use Rattle.rational.proofs.Laws.{≈_sym, ≤ʳ_trans}
+use Rattle.whole_math.specs.Rational.{Rational, ◌≈◌, ◌≤ʳ◌, of_whole, ◌+ʳ◌, neg_r, ◌-ʳ◌, ◌*ʳ◌, AreWithin, IsAtMostInSize}
+use Rattle.whole_math.specs.Boxes.{of_scale}
+use Rattle.whole_math.proofs.RationalLaws.{≈_sym, ≤ʳ_trans}
 use Rattle.trig_box.specs.AnglePairs.{Pair, double}
 use Rattle.orbit_model.specs.Solution.{one, turned}
-use Rattle.rational.proofs.Identities.{same_r}
-use Rattle.rational.proofs.Orders.{order_r, cancel_r, ◌≐◌}
+use Rattle.whole_math.proofs.RationalIdentities.{same_r}
+use Rattle.whole_math.proofs.RationalOrders.{order_r, cancel_r, ◌≐◌}
 use Rattle.orbit_place.specs.Rotations.{norm_of, IsNearCircle}
 
 -- ---- norms multiply

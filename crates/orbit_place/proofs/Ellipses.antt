@@ -6,13 +6,13 @@ use Rattle.whole_math.proofs.Ring.{Ex, va, ◌⊕◌, ◌⊖◌, ◌⊗◌, ng}
 use Rattle.whole_math.proofs.Order.{le_pos}
 use Rattle.whole_math.proofs.Inequalities.{nat}
 use Rattle.whole_math.proofs.Certificates.{Hy, Ce, mul_positive, ◌≼◌, hy, nm, sq, ◌⊞◌, ◌⊠◌}
-use Rattle.rational.specs.Rational.{Rational, ◌≈◌, ◌≤ʳ◌, of_whole, two_to_minus, ◌+ʳ◌, neg_r, ◌-ʳ◌, ◌*ʳ◌, AreWithin}
-use Rattle.rational.specs.Boxes.{of_scale}
-use Rattle.rational.proofs.Laws.{≤ʳ_trans}
-use Rattle.rational.proofs.Orders.{order_r, cancel_r, AreGiven, Equation, ◌≐◌}
-use Rattle.rational.proofs.Sizes.{positive_above}
-use Rattle.rational.proofs.Ends.{size_of_box}
-use Rattle.rational.proofs.Quotients.{HasQuotient, quotient_exists}
+use Rattle.whole_math.specs.Rational.{Rational, ◌≈◌, ◌≤ʳ◌, of_whole, two_to_minus, ◌+ʳ◌, neg_r, ◌-ʳ◌, ◌*ʳ◌, AreWithin}
+use Rattle.whole_math.specs.Boxes.{of_scale}
+use Rattle.whole_math.proofs.RationalLaws.{≤ʳ_trans}
+use Rattle.whole_math.proofs.RationalOrders.{order_r, cancel_r, AreGiven, Equation, ◌≐◌}
+use Rattle.whole_math.proofs.RationalSizes.{positive_above}
+use Rattle.whole_math.proofs.Ends.{size_of_box}
+use Rattle.whole_math.proofs.RationalQuotients.{HasQuotient, quotient_exists}
 use Rattle.iv_core.specs.declared.Iv.{Iv}
 use Rattle.iv_core.specs.Intervals.{Holds, IsWithin}
 use Rattle.iv_core.proofs.BoxLaws.{low_held}

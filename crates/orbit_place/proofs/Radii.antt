@@ -5,10 +5,10 @@ use Rattle.whole_math.proofs.Ring.{va, ◌⊕◌, ◌⊗◌, ng}
 use Rattle.whole_math.proofs.Order.{le_pos}
 use Rattle.whole_math.proofs.Inequalities.{nat}
 use Rattle.whole_math.proofs.Certificates.{◌≼◌, hy, ◌⊞◌, ◌⊠◌}
-use Rattle.rational.specs.Rational.{Rational, ◌≤ʳ◌, of_whole, ◌+ʳ◌, ◌*ʳ◌}
-use Rattle.rational.specs.Boxes.{of_scale}
-use Rattle.rational.proofs.Orders.{order_r}
-use Rattle.rational.proofs.Ends.{size_of_box, low_end}
+use Rattle.whole_math.specs.Rational.{Rational, ◌≤ʳ◌, of_whole, ◌+ʳ◌, ◌*ʳ◌}
+use Rattle.whole_math.specs.Boxes.{of_scale}
+use Rattle.whole_math.proofs.RationalOrders.{order_r}
+use Rattle.whole_math.proofs.Ends.{size_of_box, low_end}
 use Rattle.iv_core.specs.declared.Iv.{Iv}
 use Rattle.iv_core.specs.Intervals.{Holds, width_of, IsWithin}
 use Rattle.iv_core.proofs.BoxLaws.{low_held}

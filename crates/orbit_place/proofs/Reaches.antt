@@ -5,11 +5,11 @@ use Rattle.std.proofs.Math.Logic.{∥∥₁_elim}
 use Rattle.std.proofs.Props.{props}
 use Rattle.whole_math.proofs.Ring.{va, ko, ◌⊕◌, ◌⊖◌, ◌⊗◌, ng}
 use Rattle.whole_math.proofs.Order.{le_pos}
-use Rattle.rational.specs.Rational.{Rational, ◌≤ʳ◌, of_whole, ◌+ʳ◌, neg_r, ◌-ʳ◌, ◌*ʳ◌, IsAtMostInSize}
-use Rattle.rational.specs.Boxes.{of_scale}
-use Rattle.rational.proofs.Laws.{≤ʳ_trans, square_r-nonneg}
-use Rattle.rational.proofs.Orders.{order_r}
-use Rattle.rational.proofs.Ends.{low_end, high_end}
+use Rattle.whole_math.specs.Rational.{Rational, ◌≤ʳ◌, of_whole, ◌+ʳ◌, neg_r, ◌-ʳ◌, ◌*ʳ◌, IsAtMostInSize}
+use Rattle.whole_math.specs.Boxes.{of_scale}
+use Rattle.whole_math.proofs.RationalLaws.{≤ʳ_trans, square_r-nonneg}
+use Rattle.whole_math.proofs.RationalOrders.{order_r}
+use Rattle.whole_math.proofs.Ends.{low_end, high_end}
 use Rattle.whole_math.proofs.Certificates.{◌≼◌, hy, ◌⊞◌}
 use Rattle.iv_core.specs.declared.Iv.{Iv}
 use Rattle.iv_core.specs.Intervals.{Holds, width_of, IsWithin}

@@ -3,8 +3,8 @@ use Rattle.std.proofs.Common.{◌+◌, ◌-◌, ◌*◌, ◌^◌, ℤ, pos, ◌+
 use Rattle.std.proofs.lemmas.Int.{ints, by_lt_z}
 use Rattle.whole_math.proofs.Inequalities.{pos_nn}
 use Rattle.whole_math.proofs.Certificates.{weak, square_root}
-use Rattle.rational.specs.Rational.{Rational, two_to_minus, ◌*ʳ◌, AreWithin, InBox}
-use Rattle.rational.specs.Boxes.{of_scale}
+use Rattle.whole_math.specs.Rational.{Rational, two_to_minus, ◌*ʳ◌, AreWithin, InBox}
+use Rattle.whole_math.specs.Boxes.{of_scale}
 use Rattle.orbit_place.proofs.RootCertificates.{low_square, high_square, half_square, upper_square, too_wide, above_root, below_root, above_near, below_near}
 
 -- ---- the box from n to m of a number near 1, and that from l to h of its near-roots

@@ -2,10 +2,10 @@
 use Rattle.std.proofs.Common.{ℕ, [], ◌∷◌, pos, refl, lit<}
 use Rattle.whole_math.proofs.Ring.{va, ko, ◌⊕◌, ◌⊖◌, ◌⊗◌, ng}
 use Rattle.whole_math.proofs.Inequalities.{same_by, nat}
-use Rattle.rational.specs.Rational.{Rational, ◌≈◌, ◌+ʳ◌, ◌-ʳ◌, ◌*ʳ◌, times, divided}
-use Rattle.rational.proofs.Laws.{≈_sym}
-use Rattle.rational.proofs.Boxes.{InBox-along}
-use Rattle.rational.proofs.Orders.{equal_r, ◌≐◌}
+use Rattle.whole_math.specs.Rational.{Rational, ◌≈◌, ◌+ʳ◌, ◌-ʳ◌, ◌*ʳ◌, times, divided}
+use Rattle.whole_math.proofs.RationalLaws.{≈_sym}
+use Rattle.whole_math.proofs.Boxes.{InBox-along}
+use Rattle.whole_math.proofs.RationalOrders.{equal_r, ◌≐◌}
 use Rattle.iv_core.specs.declared.Iv.{Iv}
 use Rattle.iv_core.specs.Intervals.{Holds}
 use Rattle.trig_box.specs.AnglePairs.{Pair}

@@ -1,6 +1,6 @@
 -- What the products and sums of the boxes of a direction hold.
 use Rattle.std.proofs.Common.{◌≡◌, ℕ, sym, subst}
-use Rattle.rational.specs.Rational.{◌+ʳ◌, ◌-ʳ◌, ◌*ʳ◌}
+use Rattle.whole_math.specs.Rational.{◌+ʳ◌, ◌-ʳ◌, ◌*ʳ◌}
 use Rattle.iv_core.specs.declared.Iv.{Iv}
 use Rattle.trig_box.specs.AnglePairs.{Pair}
 use Rattle.orbit_place.specs.Rotations.{HoldsBoth}

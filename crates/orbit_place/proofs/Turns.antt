@@ -3,8 +3,8 @@ use Rattle.std.proofs.Common.{◌≡◌, ℕ, ◌+◌, ◌≤◌, [], ◌∷◌,
 use Rattle.std.proofs.Math.Logic.{∥∥₁_elim, ∥∥₁_map, ∥∥₁_prop}
 use Rattle.whole_math.proofs.Ring.{◌⊕◌, ◌⊗◌}
 use Rattle.whole_math.proofs.Inequalities.{same_by, nat}
-use Rattle.rational.specs.Rational.{Rational, ◌≈◌, ◌+ʳ◌, ◌-ʳ◌, ◌*ʳ◌, times}
-use Rattle.rational.proofs.Boxes.{InBox-along}
+use Rattle.whole_math.specs.Rational.{Rational, ◌≈◌, ◌+ʳ◌, ◌-ʳ◌, ◌*ʳ◌, times}
+use Rattle.whole_math.proofs.Boxes.{InBox-along}
 use Rattle.iv_core.specs.declared.Iv.{Iv}
 use Rattle.iv_core.specs.Intervals.{Holds}
 use Rattle.trig_box.specs.AnglePairs.{Pair, double}

@@ -1,7 +1,7 @@
 -- Directions from the Earth's centre, and boxes that hold one near the sphere of radius 1.
 use Rattle.std.specs.Prelude.{ℕ, pos}
-use Rattle.rational.specs.Rational.{Rational, ◌+ʳ◌, ◌-ʳ◌, ◌*ʳ◌, AreWithin}
-use Rattle.rational.specs.Boxes.{of_scale}
+use Rattle.whole_math.specs.Rational.{Rational, ◌+ʳ◌, ◌-ʳ◌, ◌*ʳ◌, AreWithin}
+use Rattle.whole_math.specs.Boxes.{of_scale}
 use Rattle.iv_core.specs.declared.Iv.{Iv}
 use Rattle.iv_core.specs.Intervals.{Holds}
 use Rattle.trig_box.specs.AnglePairs.{Pair}

@@ -1,5 +1,5 @@
 -- The true anomaly of a place on an ellipse.
-use Rattle.rational.specs.Rational.{Rational, ◌≈◌, ◌-ʳ◌, ◌*ʳ◌}
+use Rattle.whole_math.specs.Rational.{Rational, ◌≈◌, ◌-ʳ◌, ◌*ʳ◌}
 use Rattle.trig_box.specs.AnglePairs.{Pair}
 use Rattle.orbit_model.specs.Solution.{one}
 

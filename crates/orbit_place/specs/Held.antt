@@ -1,6 +1,6 @@
 -- What the boxes of an orbit and of a place hold.
 use Rattle.std.proofs.Common.{lit<}
-use Rattle.rational.specs.Rational.{Rational, ◌-ʳ◌, ◌*ʳ◌, times, divided}
+use Rattle.whole_math.specs.Rational.{Rational, ◌-ʳ◌, ◌*ʳ◌, times, divided}
 use Rattle.iv_core.specs.Intervals.{Holds}
 use Rattle.orbit_model.specs.Elements.{Elements, Constants, earth_rate}
 use Rattle.trig_box.specs.AnglePairs.{Pair}

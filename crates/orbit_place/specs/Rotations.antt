@@ -1,7 +1,7 @@
 -- Pairs near the circle of radius 1, and boxes that hold one.
 use Rattle.std.specs.Prelude.{ℕ, pos}
-use Rattle.rational.specs.Rational.{Rational, ◌+ʳ◌, ◌*ʳ◌, AreWithin}
-use Rattle.rational.specs.Boxes.{of_scale}
+use Rattle.whole_math.specs.Rational.{Rational, ◌+ʳ◌, ◌*ʳ◌, AreWithin}
+use Rattle.whole_math.specs.Boxes.{of_scale}
 use Rattle.iv_core.specs.declared.Iv.{Iv}
 use Rattle.iv_core.specs.Intervals.{Holds}
 use Rattle.trig_box.specs.AnglePairs.{Pair}

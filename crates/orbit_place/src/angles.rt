@@ -1,6 +1,6 @@
 //! The inclination and the longitude of the ascending node at the time of sending.
 ghost use Rattle.std.specs.Prelude.{◌*◌, ◌<◌, pos};
-ghost use Rattle.rational.specs.Rational.{Rational, ◌+ʳ◌, ◌-ʳ◌, ◌*ʳ◌, times, of_whole};
+ghost use Rattle.whole_math.specs.Rational.{Rational, ◌+ʳ◌, ◌-ʳ◌, ◌*ʳ◌, times, of_whole};
 ghost use Rattle.iv_core.specs.Intervals.{Holds};
 ghost use Rattle.orbit_model.specs.Elements.{earth_rate};
 ghost use Rattle.orbit_place.specs.Rotations.{HoldsBoth};

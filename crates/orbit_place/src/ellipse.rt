@@ -1,7 +1,7 @@
 //! A place on an ellipse: its radius and true anomaly from the eccentricity and the pair of the eccentric anomaly.
 ghost use Rattle.std.specs.Prelude.{◌≡◌, ◌+◌, ◌*◌, ◌-◌, ◌^◌, ◌≤◌, pos, ◌≤ℤ◌};
-ghost use Rattle.rational.specs.Rational.{Rational, ◌-ʳ◌, ◌*ʳ◌, two_to_minus, AreWithin, IsNearRoot};
-ghost use Rattle.rational.specs.Boxes.{of_scale};
+ghost use Rattle.whole_math.specs.Rational.{Rational, ◌-ʳ◌, ◌*ʳ◌, two_to_minus, AreWithin, IsNearRoot};
+ghost use Rattle.whole_math.specs.Boxes.{of_scale};
 ghost use Rattle.iv_core.specs.Intervals.{Holds, width_of};
 ghost use Rattle.trig_box.specs.AnglePairs.{Pair};
 ghost use Rattle.orbit_model.specs.Solution.{one};

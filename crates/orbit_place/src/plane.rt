@@ -1,6 +1,6 @@
 //! The place in the plane of the orbit: the argument of latitude and the radius, both corrected.
 ghost use Rattle.std.specs.Prelude.{◌-◌, ◌*◌, ◌^◌, ◌≤◌, pos, ◌≤ℤ◌};
-ghost use Rattle.rational.specs.Rational.{Rational, ◌+ʳ◌, ◌*ʳ◌};
+ghost use Rattle.whole_math.specs.Rational.{Rational, ◌+ʳ◌, ◌*ʳ◌};
 ghost use Rattle.iv_core.specs.Intervals.{Holds};
 ghost use Rattle.trig_box.specs.AnglePairs.{Pair};
 ghost use Rattle.orbit_model.specs.Solution.{harmonic, turned, IsPairOf5};

@@ -1,5 +1,5 @@
 ghost use Rattle.std.specs.Prelude.{◌≡◌, ◌+◌, ◌*◌, ◌^◌, ◌≤◌, pos, ◌≤ℤ◌};
-ghost use Rattle.rational.specs.Rational.{Rational};
+ghost use Rattle.whole_math.specs.Rational.{Rational};
 ghost use Rattle.iv_core.specs.Intervals.{Holds, width_of, IsWithin};
 ghost use Rattle.trig_box.specs.AnglePairs.{Pair, double, SolvesKepler};
 ghost use Rattle.orbit_model.specs.Solution.{turned, IsPairOf5, IsPairOf7};

@@ -2,13 +2,13 @@
 ghost use Rattle.std.specs.Prelude.{◌<◌, ◌≤◌};
 ghost use Rattle.obs_rows.specs.Arcs.{free_count};
 
-use form_tables::{FactorTable, FormTable, FrontTable, MapTable, NormalTable};
 use gps_time::Tick;
 use obs_rows::{
     Arc, ArcList, COARSE_SIGNALS, PairBuilder, PairRows, Row, SIGNALS_12, SIGNALS_15, SIGNALS_125,
     Session, SessionBuilder, Signals, are_arcs, fine_signals, has_its_arcs, has_used_rows,
     has_used_shifts, integer_count, integer_place, is_point,
 };
+use quadratic_form::{FactorTable, FormTable, FrontTable, MapTable, NormalTable};
 use std::alloc::{AllocError, Global};
 use std::test::Fail;
 

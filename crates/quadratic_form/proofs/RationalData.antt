@@ -7,17 +7,17 @@ use Rattle.quadratic_form.proofs.Bound.{bound}
 use Rattle.quadratic_form.proofs.NormalForm.{bounding_form_below}
 use Rattle.quadratic_form.proofs.Decision.{decided}
 use Rattle.quadratic_form.proofs.UpperSum.{sums_below}
-use Rattle.rational.proofs.Over.{Over, over_whole, over_zero, over_add, over_sub, over_mul, over_times, over_wide, over_le, over_lt, over_box}
+use Rattle.whole_math.proofs.Over.{Over, over_whole, over_zero, over_add, over_sub, over_mul, over_times, over_wide, over_le, over_lt, over_box}
 use Rattle.quadratic_form.specs.Forms.{Column, quad}
 use Rattle.quadratic_form.specs.Elimination.{Factor, steps}
 use Rattle.quadratic_form.specs.Rows.{SignalRow, WholeData, WholeBaseline, SignalGroup, WholeFits, WholeFitsAll, whole_residual, whole_residuals, share, whole_sum_of_squares, matrix, radii, bounding_form, columns_at, GroupsOf, first_rounding, value}
 use Rattle.quadratic_form.specs.UpperSum.{upper_sum, top}
 use Rattle.quadratic_form.specs.TwoLeast.{TwoLeast}
-use Rattle.rational.specs.Rational.{Rational, ◌≤ʳ◌, ◌<ʳ◌, of_whole, ◌+ʳ◌, ◌-ʳ◌, ◌*ʳ◌}
+use Rattle.whole_math.specs.Rational.{Rational, ◌≤ʳ◌, ◌<ʳ◌, of_whole, ◌+ʳ◌, ◌-ʳ◌, ◌*ʳ◌}
 use Rattle.quadratic_form.specs.RationalData.{RowData, Fits, FitsAll, residual, residuals, sum_of_squares, moved, IsBest}
-use Rattle.rational.specs.Spread.{Baseline, sum_of_rationals, squared_norm_of_rationals, spread_of_rationals}
+use Rattle.whole_math.specs.Spread.{Baseline, sum_of_rationals, squared_norm_of_rationals, spread_of_rationals}
 use Rattle.whole_math.specs.Vectors.{sum, squared_norm, dot, len}
-use Rattle.rational.specs.Over.{AreOver}
+use Rattle.whole_math.specs.Over.{AreOver}
 use Rattle.quadratic_form.specs.Spread.{spread}
 
 -- ---- data and baseline over one denominator

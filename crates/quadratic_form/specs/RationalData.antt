@@ -2,10 +2,10 @@
 use Rattle.std.specs.Prelude.{◌≡◌, ◌^◌, List, [], ◌∷◌, ℤ, pos}
 use Rattle.std.specs.List.{AllZip}
 use Rattle.std.proofs.Common.{pow_pos}
-use Rattle.rational.specs.Rational.{Near, Rational, ◌<ʳ◌, of_whole, ◌+ʳ◌, ◌-ʳ◌, ◌*ʳ◌}
+use Rattle.whole_math.specs.Rational.{Near, Rational, ◌<ʳ◌, of_whole, ◌+ʳ◌, ◌-ʳ◌, ◌*ʳ◌}
 use Rattle.quadratic_form.specs.Rows.{SignalRow, WholeBaseline, SignalGroup, share}
 use Rattle.whole_math.specs.Vectors.{dot, len}
-use Rattle.rational.specs.Spread.{Baseline, spread_of_rationals}
+use Rattle.whole_math.specs.Spread.{Baseline, spread_of_rationals}
 
 -- three directions and y
 pub record RowData : Type 0 where

@@ -1,18 +1,27 @@
-//! Quadratic forms over whole numbers, their elimination column by column, and what it says for all
-//! data of the rows. Definitions stand in `specs/`, proofs in `proofs/`; there is no code to run.
-//! The functions below have empty bodies: their contracts name the laws that the crates above cite.
+//! Quadratic forms over whole numbers: the tables that hold them, their elimination column by column, and what it says for all data
+//! of the rows.
 //!
-//! For all rational data in the boxes of the rows, every integer vector and every rational baseline, 64 times the
-//! weighted sum of squares is at least 2^h times the value of the integer form that the elimination leaves
-//! (`rational_bound_law`; over whole numbers `bound_law`). Its parts are that the matrix at the centres, lessened by
-//! the squares of the radii, bounds the sum (`bounding_law`), and that a step loses only what its square covers
-//! (`step_law`). At given integers and a given move the sum of squares is at most the upper sum (`upper_law`). Where
-//! the second least value is large enough against the upper sum of the first, the first vector is strictly best for
-//! all data (`decision_law`).
+//! *Tables.* A `Table` has ROWS rows and COLUMNS columns of 64-bit numbers, and the `NormalTable` 64 of each of 128-bit ones. Contracts
+//! see either as the list of its rows. `zeros`, `at` and `set` are exact: `set` changes one entry and no other. `at` and `set` ask for
+//! a row and a column inside; definitions take an entry past the ends as 0 (`entry`). No call fails, and none takes memory. A form has
+//! at most 64 columns: three of the baseline, at most 60 of the integers, and that of the constant (`sizes_law`). No clause says how a
+//! table prints.
+//!
+//! *Laws*, with nothing to run: each function below has an empty body, and its contract is the law. For all rational data in the boxes
+//! of the rows, every integer vector and every rational baseline, 64 times the weighted sum of squares is at least 2^h times the value
+//! of the integer form that the elimination leaves (`rational_bound_law`; over whole numbers `bound_law`). This has two parts: the
+//! matrix at the centres, lessened by the squares of the radii, bounds the sum (`bounding_law`); and a step loses only what its square
+//! covers (`step_law`). At given integers and a given move the sum of squares is at most the upper sum (`upper_law`). Where the second
+//! least value is large enough against the upper sum of the first vector, that vector is strictly best for all data (`decision_law`).
 #![tactic(auto)]
 
+mod form_tables;
+mod laws;
+mod normal_tables;
+mod sizes;
+
 ghost use Rattle.std.specs.Prelude.{◌≡◌, ℕ, ◌^◌, ◌<◌, List, length, ℤ, pos, ◌+ℤ◌, ◌*ℤ◌, ◌≤ℤ◌, ◌<ℤ◌, Ok};
-ghost use Rattle.rational.specs.Rational.{of_whole, ◌*ʳ◌, ◌≤ʳ◌};
+ghost use Rattle.whole_math.specs.Rational.{of_whole, ◌*ʳ◌, ◌≤ʳ◌};
 ghost use Rattle.whole_math.specs.Vectors.{dot, len};
 ghost use Rattle.quadratic_form.specs.Forms.{Column, Shaped, quad};
 ghost use Rattle.quadratic_form.specs.Elimination.{Factor, factors, kept, next, steps};
@@ -20,7 +29,12 @@ ghost use Rattle.quadratic_form.specs.Rows.{WholeBaseline, SignalGroup, WholeDat
 ghost use Rattle.quadratic_form.specs.UpperSum.{upper_sum, top};
 ghost use Rattle.quadratic_form.specs.TwoLeast.{TwoLeast};
 ghost use Rattle.quadratic_form.specs.RationalData.{RowData, FitsAll, sum_of_squares, moved, IsBest};
-ghost use Rattle.rational.specs.Spread.{Baseline};
+ghost use Rattle.whole_math.specs.Spread.{Baseline};
+
+pub use form_tables::{FactorTable, FormTable, FrontTable, MapTable, Table};
+pub use laws::sizes_law;
+pub use normal_tables::NormalTable;
+pub use sizes::{BASELINE_COLUMNS, MOST_COLUMNS, MOST_FACTORS, MOST_FORM_COLUMNS, MOST_INTEGERS};
 
 /// 63 times the matrix at the centres, with 16128 times the squares of the radii taken from four of
 /// its own entries, stays below 64 times the sum of squares, whatever the data in the boxes are.

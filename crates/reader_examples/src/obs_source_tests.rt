@@ -1,8 +1,8 @@
 //! Texts of either format in pieces: the first line tells the format, however the text is cut.
 use crate::slow_files::Slow;
 use crate::texts::{MOST, joined, with_returns};
+use job_answers::ObsTaker;
 use line_source::{LoadFault, load_into};
-use obs_source::ObsTaker;
 use obs_store::ObsFile;
 use rinex_head::{At, TextFault, What};
 use rinex_obs::read_obs;

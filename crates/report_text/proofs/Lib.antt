@@ -1,1 +1,3 @@
 pub mod OrbitLaws
+mod Texts
+pub mod Sums

@@ -6,7 +6,7 @@ use Rattle.whole_math.proofs.Ring.{◌⊗◌}
 use Rattle.whole_math.proofs.Order.{lins, mul_le_right, mul_le_cancel}
 use Rattle.whole_math.proofs.Inequalities.{same_by, pos_nn}
 use Rattle.whole_math.proofs.Rounding.{floor_le, lt_floor, ceil_le, ceil_lt}
-use Rattle.rational.specs.Rational.{Rational}
+use Rattle.whole_math.specs.Rational.{Rational}
 use Rattle.iv_core.specs.declared.Iv.{Iv}
 use Rattle.iv_core.specs.Intervals.{Holds, width_of}
 use Rattle.orbit_model.specs.Solution.{Quantities}

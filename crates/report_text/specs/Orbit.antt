@@ -2,7 +2,7 @@
 use Rattle.std.specs.Prelude.{◌≡◌, ℕ, ◌^◌, ℤ, pos, ◌-ℤ◌, ◌*ℤ◌, ◌≤ℤ◌, List, [], ◌∷◌, ◌++◌, codes}
 use Rattle.std.specs.Fmt.{signed_decimal}
 use Rattle.whole_math.specs.Rounding.{floor_div, ceil_div}
-use Rattle.rational.specs.Rational.{Rational, ◌≤ʳ◌}
+use Rattle.whole_math.specs.Rational.{Rational, ◌≤ʳ◌}
 use Rattle.iv_core.specs.declared.Iv.{Iv}
 use Rattle.eph_store.specs.Decimals.{decimal}
 use Rattle.orbit_model.specs.Solution.{Quantities}

@@ -55,7 +55,7 @@ pub struct SystemFeed<S: OneSystem> {
     ghost of_system: { feed.system ≡ S.system },
 }
 
-/// The feed of an observation file of GPS. It serves tests alone: the program takes these by obs_source, in either format.
+/// The feed of an observation file of GPS. It serves tests alone: the program takes these by job_answers, in either format.
 pub type ObsFeed = SystemFeed<OfGps>;
 
 /// The feed of an observation file of Galileo.

@@ -9,7 +9,7 @@ use Rattle.std.proofs.lemmas.List.{length-map, length-drop, take_all, get_or_def
 use Rattle.std.proofs.lemmas.List.Sums.{sum_by-cons}
 use Rattle.obs_rows.specs.Ranges.{IsBelow}
 use Rattle.obs_rows.specs.Arcs.{is_free, free_count}
-use Rattle.form_tables.specs.declared.sizes.TheConstants.{BASELINE_COLUMNS, MOST_FACTORS, MOST_INTEGERS}
+use Rattle.quadratic_form.specs.declared.sizes.TheConstants.{BASELINE_COLUMNS, MOST_FACTORS, MOST_INTEGERS}
 use Rattle.obs_rows.specs.declared.units.TheConstants.{PHASES, MOST_FREE_ARCS}
 use Rattle.integer_form.specs.FloatPoint.{item}
 use Rattle.round_steps.specs.Shifts.{grown_arc, AreGrown, AreShiftsBelow, without_shifts, AreSameArcs}

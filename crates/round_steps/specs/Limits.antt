@@ -1,6 +1,6 @@
 -- When a float point is settled.
 use Rattle.std.specs.Prelude.{◌≡◌, ℕ, ◌<◌, ◌≤◌, ◌==◌, if◌then◌else◌, nat_lt, List, ℤ, unsigned_abs}
-use Rattle.form_tables.specs.declared.sizes.TheConstants.{BASELINE_COLUMNS}
+use Rattle.quadratic_form.specs.declared.sizes.TheConstants.{BASELINE_COLUMNS}
 use Rattle.integer_form.specs.FloatPoint.{item}
 use Rattle.round_steps.specs.declared.limits.TheConstants.{FINE_BASELINE, THREE_QUARTERS, COARSE_BASELINE}
 

@@ -3,7 +3,7 @@ use Rattle.std.specs.Prelude.{◌≡◌, ◌^◌, ℕ, if◌then◌else◌, nat_
 use Rattle.whole_math.specs.Rounding.{nearest_div}
 use Rattle.obs_rows.specs.declared.arcs.Arc.{Arc}
 use Rattle.obs_rows.specs.Ranges.{IsBelow}
-use Rattle.form_tables.specs.declared.sizes.TheConstants.{BASELINE_COLUMNS}
+use Rattle.quadratic_form.specs.declared.sizes.TheConstants.{BASELINE_COLUMNS}
 use Rattle.obs_rows.specs.declared.units.TheConstants.{SIGNALS_125}
 use Rattle.obs_rows.specs.Signals.{phases, band}
 use Rattle.obs_rows.specs.Integers.{integer}

@@ -11,11 +11,11 @@ use crate::limits::first_over;
 use crate::points::moved_point;
 use cert_check::tail_of;
 use cert_data::Tail;
-use form_tables::{BASELINE_COLUMNS, FormTable, MOST_FACTORS};
 use integer_form::Place;
 use lower_form::{FrontForm, FrontRoom, lower, refill_front};
 use normal_sum::{Normal, refill_sum};
 use obs_rows::{Session, is_receiver_point};
+use quadratic_form::{BASELINE_COLUMNS, FormTable, MOST_FACTORS};
 
 /// The tables of coarse rounds, kept from one to the next: to make them anew for each would cost more than its steps.
 #[derive(Clone, Copy, Debug)]

@@ -3,8 +3,8 @@ ghost use Rattle.std.specs.Prelude.{◌≡◌, ℕ, ◌^◌, ◌<◌, unsigned_a
 ghost use Rattle.integer_form.specs.FloatPoint.{item};
 ghost use Rattle.round_steps.specs.Limits.{limit, IsSettled, IsFirstOver};
 
-use form_tables::{BASELINE_COLUMNS, MOST_FACTORS};
 use obs_rows::{LIGHT_SPEED, MOVE_EXPONENT, UNIT_FREQUENCY};
+use quadratic_form::{BASELINE_COLUMNS, MOST_FACTORS};
 
 /// 1 m in 2^-5 ι is this over the speed of light.
 const METRE: i64 = UNIT_FREQUENCY * (1 << MOVE_EXPONENT);

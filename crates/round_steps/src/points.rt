@@ -9,8 +9,8 @@ ghost use Rattle.cert_data.specs.Moves.{parts};
 ghost use Rattle.round_steps.specs.Points.{moved_coordinate, moved_point};
 
 use cert_data::MOVE_DIVISOR;
-use form_tables::MOST_FACTORS;
 use obs_rows::{COARSE_SCALE, LIGHT_SPEED};
+use quadratic_form::MOST_FACTORS;
 use whole_math::nearest;
 
 /// 2^scale times the speed of light.

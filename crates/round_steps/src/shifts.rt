@@ -11,8 +11,8 @@ ghost use Rattle.round_steps.specs.Shifts.{growth, grown_shift, grown_arc, AreGr
 
 use crate::limits::THREE_QUARTERS;
 use fix_decide::integer_of;
-use form_tables::{BASELINE_COLUMNS, MOST_FACTORS};
 use obs_rows::{Arc, BANDS, PHASES, phase_of};
+use quadratic_form::{BASELINE_COLUMNS, MOST_FACTORS};
 use std::alloc::{AllocError, Global};
 use whole_math::nearest;
 

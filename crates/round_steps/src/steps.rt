@@ -9,11 +9,11 @@ use crate::limits::first_over;
 use crate::points::moved_point;
 use cert_check::tail_of;
 use cert_data::Tail;
-use form_tables::MOST_FACTORS;
 use integer_form::{Form, Place};
 use lower_form::lower;
 use normal_sum::sum;
 use obs_rows::{Session, is_receiver_point};
+use quadratic_form::MOST_FACTORS;
 
 /// A session's form and the numbers of its float point.
 #[derive(Clone, Copy, Debug)]

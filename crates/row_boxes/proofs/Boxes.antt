@@ -8,8 +8,8 @@ use Rattle.whole_math.proofs.IntLaws.{mul_one_ℤ}
 use Rattle.whole_math.proofs.Ring.{◌⊗◌}
 use Rattle.whole_math.proofs.Order.{lins, mul_le_right}
 use Rattle.whole_math.proofs.Inequalities.{same_by, pos_nn, le_refl_ℤ, le_eq}
-use Rattle.rational.specs.Rational.{Rational, of_whole, ◌-ʳ◌, ◌*ʳ◌, divided, Near, InBox}
-use Rattle.rational.proofs.Boxes.{wider}
+use Rattle.whole_math.specs.Rational.{Rational, of_whole, ◌-ʳ◌, ◌*ʳ◌, divided, Near, InBox}
+use Rattle.whole_math.proofs.Boxes.{wider}
 use Rattle.iv_core.proofs.SumLaws.{sub_holds}
 use Rattle.obs_rows.specs.Ranges.{IsScale}
 use Rattle.obs_rows.specs.Signals.{wavelength, is_phase}

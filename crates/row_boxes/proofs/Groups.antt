@@ -5,10 +5,10 @@ use Rattle.whole_math.proofs.Ring.{va, ko, ng, ◌⊕◌, ◌⊖◌, ◌⊗◌}
 use Rattle.whole_math.proofs.Order.{mul_le_right, mul_le_cancel}
 use Rattle.whole_math.proofs.Inequalities.{same_by, pos_nn}
 use Rattle.whole_math.proofs.IntLaws.{neg_mul_ℤ, mul_comm_ℤ}
-use Rattle.rational.specs.Rational.{Rational, ◌≈◌, of_whole, ◌-ʳ◌, Near}
-use Rattle.rational.proofs.Laws.{≤ʳ_along}
-use Rattle.rational.proofs.Boxes.{Near-along}
-use Rattle.rational.proofs.Orders.{equal_r, ◌≐◌}
+use Rattle.whole_math.specs.Rational.{Rational, ◌≈◌, of_whole, ◌-ʳ◌, Near}
+use Rattle.whole_math.proofs.RationalLaws.{≤ʳ_along}
+use Rattle.whole_math.proofs.Boxes.{Near-along}
+use Rattle.whole_math.proofs.RationalOrders.{equal_r, ◌≐◌}
 use Rattle.obs_rows.specs.Signals.{wavelength}
 use Rattle.row_boxes.specs.Terms.{prefit_width}
 use Rattle.row_boxes.specs.Sightings.{observed, in_row_unit, row_unit, Sighting, computed, y_of, y_in_rows}

@@ -7,9 +7,9 @@ use Rattle.whole_math.specs.Rounding.{IsNearest}
 use Rattle.whole_math.proofs.Ring.{va, ko, ng, ◌⊕◌, ◌⊖◌, ◌⊗◌}
 use Rattle.whole_math.proofs.Order.{lins, mul_le_right}
 use Rattle.whole_math.proofs.Inequalities.{same_by, pos_nn, pos_one}
-use Rattle.rational.specs.Rational.{Rational, ◌≈◌, ◌<ʳ◌, of_whole, ◌+ʳ◌, ◌-ʳ◌, Near, InBox}
-use Rattle.rational.proofs.Boxes.{wider}
-use Rattle.rational.proofs.Orders.{equal_r, ◌≐◌}
+use Rattle.whole_math.specs.Rational.{Rational, ◌≈◌, ◌<ʳ◌, of_whole, ◌+ʳ◌, ◌-ʳ◌, Near, InBox}
+use Rattle.whole_math.proofs.Boxes.{wider}
+use Rattle.whole_math.proofs.RationalOrders.{equal_r, ◌≐◌}
 use Rattle.iv_core.proofs.SumLaws.{sub_holds}
 use Rattle.orbit_model.specs.SeenPlaces.{range_of}
 use Rattle.std.specs.Prelude.{slice_get}

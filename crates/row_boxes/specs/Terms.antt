@@ -1,6 +1,6 @@
 -- Pseudoranges over rationals, the unit of what is computed, and how wide boxes are.
 use Rattle.std.specs.Prelude.{ℕ, ℤ, pos}
-use Rattle.rational.specs.Rational.{Rational, ◌-ʳ◌, ◌*ʳ◌}
+use Rattle.whole_math.specs.Rational.{Rational, ◌-ʳ◌, ◌*ʳ◌}
 use Rattle.row_boxes.specs.Sightings.{metre, light_speed}
 
 -- ρ - c Δt: a range in metres less what the satellite's clock, in seconds, is ahead

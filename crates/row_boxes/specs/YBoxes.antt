@@ -1,6 +1,6 @@
 -- What the y boxes of a row hold, and which groups they allow.
 use Rattle.std.specs.Prelude.{◌≡◌, ℕ, ◌-◌, ◌^◌, ◌==◌, if◌then◌else◌, Some, List, All, slice_get, ℤ, pos, ◌+ℤ◌, ◌-ℤ◌, ◌*ℤ◌, neg_ℤ, ◌≤ℤ◌, ◌⊎◌}
-use Rattle.rational.specs.Rational.{Rational, ◌≤ʳ◌, ◌<ʳ◌, of_whole, Near, InBox}
+use Rattle.whole_math.specs.Rational.{Rational, ◌≤ʳ◌, ◌<ʳ◌, of_whole, Near, InBox}
 use Rattle.sv_orbit.specs.declared.place.SvBox.{SvBox}
 use Rattle.orbit_model.specs.SeenPlaces.{range_of}
 use Rattle.obs_rows.specs.declared.units.TheConstants.{ROW_EXPONENT}

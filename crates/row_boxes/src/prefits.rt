@@ -1,7 +1,7 @@
 //! Observed less computed.
 ghost use Rattle.std.specs.Prelude.{IsTrue, not, ◌≡◌, ◌+◌, ◌*◌, ◌^◌, ◌<◌, ◌≤◌, pos, ◌+ℤ◌, ◌-ℤ◌, ◌*ℤ◌, ◌≤ℤ◌, unsigned_abs};
 ghost use Rattle.whole_math.specs.Rounding.{IsFloor, IsCeil};
-ghost use Rattle.rational.specs.Rational.{Rational, ◌-ʳ◌, InBox};
+ghost use Rattle.whole_math.specs.Rational.{Rational, ◌-ʳ◌, InBox};
 ghost use Rattle.obs_rows.specs.declared.units.TheConstants.{SIGNALS};
 ghost use Rattle.obs_rows.specs.Signals.{wavelength, is_phase};
 ghost use Rattle.row_boxes.specs.declared.pseudoranges.TheConstants.{HALF_LIGHT_SPEED};

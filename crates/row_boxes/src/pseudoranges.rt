@@ -1,7 +1,7 @@
 //! What one receiver would observe if its own clock were right.
 ghost use Rattle.std.specs.Prelude.{◌≡◌, ◌+◌, ◌*◌, ◌^◌, ◌<◌, ◌≤◌, pos, ◌+ℤ◌, ◌-ℤ◌, ◌*ℤ◌, ◌≤ℤ◌, unsigned_abs};
 ghost use Rattle.whole_math.specs.Rounding.{IsFloor, IsCeil};
-ghost use Rattle.rational.specs.Rational.{Rational, InBox};
+ghost use Rattle.whole_math.specs.Rational.{Rational, InBox};
 ghost use Rattle.iv_core.specs.Intervals.{Holds, width_of, IsWithin};
 ghost use Rattle.obs_rows.specs.declared.units.TheConstants.{LIGHT_SPEED};
 ghost use Rattle.row_boxes.specs.declared.pseudoranges.TheConstants.{METRE_UNITS, HALF_LIGHT_SPEED};

@@ -1,6 +1,6 @@
 //! The y boxes of rows, and the group of a pair.
 ghost use Rattle.std.specs.Prelude.{◌≡◌, ◌+◌, ◌^◌, ◌<◌, ◌≤◌, pos, ◌+ℤ◌, ◌-ℤ◌, ◌*ℤ◌, ◌≤ℤ◌, unsigned_abs, IfSome, None};
-ghost use Rattle.rational.specs.Rational.{Rational, Near, of_whole, ◌-ʳ◌, InBox};
+ghost use Rattle.whole_math.specs.Rational.{Rational, Near, of_whole, ◌-ʳ◌, InBox};
 ghost use Rattle.obs_rows.specs.Ranges.{IsScale};
 ghost use Rattle.row_boxes.specs.Terms.{y_width, iota_exponent};
 ghost use Rattle.row_boxes.specs.Sightings.{in_row_unit};

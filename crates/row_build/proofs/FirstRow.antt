@@ -3,7 +3,7 @@ use Rattle.std.proofs.Common.{◌≡◌, ℕ, Bool, true, false, cond, Some, All
 use Rattle.std.specs.Prelude.{slice_get, ◌==◌}
 use Rattle.std.proofs.lemmas.Option.{same_Some}
 use Rattle.whole_math.proofs.IntLaws.{zero_mul_ℤ}
-use Rattle.rational.specs.Rational.{of_whole, ◌-ʳ◌}
+use Rattle.whole_math.specs.Rational.{of_whole, ◌-ʳ◌}
 use Rattle.obs_rows.specs.declared.arcs.Arc.{Arc}
 use Rattle.obs_rows.specs.declared.rows.Row.{Row}
 use Rattle.obs_rows.specs.declared.bands.Signals.{Signals}

@@ -3,7 +3,7 @@ use Rattle.std.proofs.Common.{◌≡◌, ℕ, All, Some, List, map, length, get_
 use Rattle.std.specs.Prelude.{slice_get}
 use Rattle.std.proofs.lemmas.Option.{same_Some, slice_get_within, get_or_from_slice_get}
 use Rattle.iv_core.specs.Intervals.{Holds}
-use Rattle.rational.specs.Rational.{Rational, Near}
+use Rattle.whole_math.specs.Rational.{Rational, Near}
 use Rattle.orbit_model.specs.Solution.{Quantities}
 use Rattle.sv_orbit.specs.declared.place.SvBox.{SvBox}
 use Rattle.sv_orbit.specs.Solutions.{HoldsSolution}

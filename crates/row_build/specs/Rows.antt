@@ -1,6 +1,6 @@
 -- What a row of an arc in a pair says.
 use Rattle.std.specs.Prelude.{◌≡◌, ℕ, ◌^◌, Some, List, All, slice_get, ℤ, pos, ◌≤ℤ◌}
-use Rattle.rational.specs.Rational.{Rational, of_whole, ◌*ʳ◌, Near}
+use Rattle.whole_math.specs.Rational.{Rational, of_whole, ◌*ʳ◌, Near}
 use Rattle.sv_orbit.specs.declared.place.SvBox.{SvBox}
 use Rattle.orbit_model.specs.SeenPlaces.{Place, IsDisplacement, IsMeanDirection, place_at}
 use Rattle.obs_rows.specs.declared.arcs.Arc.{Arc}

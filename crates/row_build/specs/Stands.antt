@@ -1,6 +1,6 @@
 -- What it means that a session stands for its files: in the terms of the files, and of the solutions of the user algorithm.
 use Rattle.std.specs.Prelude.{◌≡◌, ℕ, Some, List, length, map, All, slice_get, ℤ, pos, ◌≤ℤ◌}
-use Rattle.rational.specs.Rational.{Near}
+use Rattle.whole_math.specs.Rational.{Near}
 use Rattle.orbit_model.specs.Solution.{Quantities}
 use Rattle.orbit_model.specs.SeenPlaces.{Place, IsSeenPlace, IsDisplacement, IsMeanDirection, sent_place, place_at}
 use Rattle.eph_store.specs.declared.ephemeris.Eph.{Eph}

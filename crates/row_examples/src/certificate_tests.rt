@@ -8,8 +8,7 @@ use crate::rows::fine_rows;
 use cert_check::{check, decide_settled, form_of_rows};
 use cert_data::{Cause, Cert, Tail, Verdict};
 use cert_text::{read_cert, write_cert};
-use obs_rows::Session;
-use run_options::Options;
+use obs_rows::{Options, Session};
 use std::alloc::Global;
 
 // The base and the offset that seed 1 draws, (-165,680, 943,607, -659,500) mm, in 0.1 mm.

@@ -8,9 +8,8 @@ use crate::expected::{Expected, ExpectedPair, ExpectedRow, HIGH, PLAIN};
 use crate::expected_bands::{ALL_BANDS, GALILEO};
 use crate::files::{Files, files_of};
 use crate::rows::{fine_rows, rows_of};
-use obs_rows::{Arc, PairRows, Row, Session};
+use obs_rows::{Arc, Options, PairRows, Row, Session};
 use row_build::{pair_rows, shift_at};
-use run_options::Options;
 use std::alloc::Global;
 
 /// How many units of a fine row are one ι.

@@ -1,7 +1,7 @@
 //! The pairs of a session, tracked one by one, decided together, and checked.
 use crate::files::files_of;
 use cert_data::Verdict;
-use run_options::Options;
+use obs_rows::Options;
 use std::alloc::Global;
 use track_data::{Track, TrackCert, TrackTail, Tracked};
 use track_form::{check_track, decide_track};

@@ -1,5 +1,5 @@
 -- How far the base is from where it sees a satellite.
-use Rattle.rational.specs.Rational.{Rational}
+use Rattle.whole_math.specs.Rational.{Rational}
 use Rattle.iv_core.specs.Intervals.{Holds}
 use Rattle.orbit_model.specs.SeenPlaces.{Place, IsSeenPlace, range_of}
 use Rattle.orbit_model.specs.Places.{HoldsPlace}

@@ -8,7 +8,7 @@ use Rattle.cert_data.specs.declared.outcomes.Answer.TheVariants.{Few, Arcs, Earl
 use Rattle.cert_data.specs.declared.outcomes.RoundCounts.{RoundCounts}
 use Rattle.cert_data.specs.declared.outcomes.Stage.{Stage}
 use Rattle.round_steps.specs.Runs.{Rules, most_rounds, EndsEarly, EndsFull}
-use Rattle.run_options.specs.declared.options.Options.{Options}
+use Rattle.obs_rows.specs.declared.options.Options.{Options}
 use Rattle.session.specs.Answers.{AreAllowed, AreNone, IsAnswer}
 
 none_allowed : (rounds : RoundCounts) → AreNone rounds → AreAllowed rounds

@@ -7,7 +7,7 @@ use Rattle.eph_store.specs.File.{Records}
 use Rattle.epoch_pair.specs.declared.pairs.PairOf.{PairOf}
 use Rattle.obs_rows.specs.BandSets.{bands_of}
 use Rattle.row_build.proofs.StandsLaws.{session_stands}
-use Rattle.run_options.specs.declared.options.Options.{Options}
+use Rattle.obs_rows.specs.declared.options.Options.{Options}
 use Rattle.session.specs.declared.file_rounds.FileRounds.{FileRounds}
 use Rattle.session.specs.FileRules.{HasRowsOf}
 use Rattle.session.specs.Origins.{origin_of}

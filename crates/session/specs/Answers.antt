@@ -7,7 +7,7 @@ use Rattle.cert_data.specs.declared.certs.Cert.{Cert}
 use Rattle.cert_data.specs.declared.outcomes.RoundCounts.{RoundCounts}
 use Rattle.cert_data.specs.declared.outcomes.Answer.{Answer}
 use Rattle.cert_data.specs.declared.outcomes.Answer.TheVariants.{Few, Arcs, Early, Full}
-use Rattle.run_options.specs.declared.options.Options.{Options}
+use Rattle.obs_rows.specs.declared.options.Options.{Options}
 use Rattle.round_steps.specs.Counts.{AreFew, AreMany}
 use Rattle.round_steps.specs.Runs.{Rules, most_rounds, EndsEarly, EndsFull}
 use Rattle.cert_check.specs.Settled.{IsBestByRatioWhereFixed}

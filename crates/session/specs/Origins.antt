@@ -8,7 +8,7 @@ use Rattle.obs_rows.specs.BandSets.{bands_of}
 use Rattle.orbit_model.specs.Elements.{world_of}
 use Rattle.screening.specs.Screening.{setting_of}
 use Rattle.row_build.specs.Stands.{Origin}
-use Rattle.run_options.specs.declared.options.Options.{Options}
+use Rattle.obs_rows.specs.declared.options.Options.{Options}
 
 -- the files with these options, the base's position, the signals and the pairs that are taken of the files
 abbrev pub origin_of : ObsFile → ObsFile → Records → Options → List ℤ → Signals → List PairOf → Origin

@@ -9,7 +9,7 @@ use Rattle.epoch_pair.specs.declared.pairs.PairOf.{PairOf}
 use Rattle.obs_rows.specs.BandSets.{bands_of}
 use Rattle.obs_rows.specs.declared.limits.TheConstants.{MOST_KEPT_ARCS, MOST_PAIRS}
 use Rattle.cert_data.specs.declared.outcomes.Outcome.{Outcome}
-use Rattle.run_options.specs.declared.options.Options.{Options}
+use Rattle.obs_rows.specs.declared.options.Options.{Options}
 use Rattle.slip_arcs.specs.Linked.{IsCutOf}
 use Rattle.row_build.specs.Halves.{AreBaseHalves}
 use Rattle.session.specs.declared.file_rounds.FileRounds.{FileRounds}

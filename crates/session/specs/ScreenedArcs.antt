@@ -11,7 +11,7 @@ use Rattle.obs_rows.specs.BandSets.{bands_of}
 use Rattle.orbit_model.specs.Elements.{world_of}
 use Rattle.screening.specs.declared.screened.Screened.{Screened}
 use Rattle.screening.specs.Screening.{setting_of, AreUsedPairs, IsSvPair}
-use Rattle.run_options.specs.declared.options.Options.{Options}
+use Rattle.obs_rows.specs.declared.options.Options.{Options}
 
 -- the used satellites of the taken pairs with their boxes, and the arcs that are kept of them, with the number of shorter ones
 pub record AreScreenedArcs (base rover : ObsFile) (nav : Records) (o : Options) (signals : Signals) (taken : List PairOf) (screened : Screened) (kept : List Arc) (short : ℕ) : Type 0 where

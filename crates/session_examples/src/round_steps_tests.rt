@@ -3,8 +3,8 @@ ghost use Rattle.std.specs.Prelude.{◌↔◌, ◌^◌, IsTrue, All};
 ghost use Rattle.obs_rows.specs.Ranges.{IsBelow};
 ghost use Rattle.round_steps.specs.Shifts.{AreShiftsBelow};
 
-use form_tables::MOST_FACTORS;
 use obs_rows::{Arc, Signals, fine_signals, free_arcs};
+use quadratic_form::MOST_FACTORS;
 use round_steps::{are_few, are_many, grown, is_receiver_point};
 use std::alloc::{AllocError, Global};
 

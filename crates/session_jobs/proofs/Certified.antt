@@ -18,7 +18,7 @@ use Rattle.cert_check.proofs.OneVerdict.{one_verdict}
 use Rattle.round_steps.specs.Steps.{IsRoundEnd, IsOnlyEnd}
 use Rattle.round_steps.specs.Runs.{Rules, most_rounds}
 use Rattle.round_steps.proofs.OneEnd.{rows_decided, run_ends_once}
-use Rattle.run_options.specs.declared.options.Options.{Options}
+use Rattle.obs_rows.specs.declared.options.Options.{Options}
 use Rattle.session.specs.FileRules.{rules_of}
 use Rattle.session.specs.Answers.{IsAnswer}
 use Rattle.session.specs.Outcomes.{IsOutcome}

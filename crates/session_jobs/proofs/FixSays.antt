@@ -9,14 +9,14 @@ use Rattle.cert_data.specs.declared.tails.Tail.{Tail}
 use Rattle.cert_data.specs.declared.tails.Tail.TheVariants as tail
 use Rattle.eph_store.specs.File.{Records}
 use Rattle.obs_store.specs.declared.file.ObsFile.{ObsFile}
-use Rattle.run_options.specs.declared.options.Options.{Options}
+use Rattle.obs_rows.specs.declared.options.Options.{Options}
 use Rattle.obs_rows.specs.Best.{IsBestByRatio}
 use Rattle.obs_rows.proofs.RatioLaws.{ratio_is_strict}
 use Rattle.fix_decide.specs.Decisions.{first_of}
 use Rattle.cert_check.specs.Settled.{IsBestByRatioWhereFixed}
 use Rattle.session.specs.Answers.{IsBestAnswer}
 use Rattle.session.specs.Outcomes.{IsOutcome}
-use Rattle.outcome_report.specs.OutcomeText.{is_fixed, is_fixed_tail}
+use Rattle.report_text.specs.OutcomeText.{is_fixed, is_fixed_tail}
 use Rattle.session_jobs.specs.FixJobs.{IsFix, IsFixedFor, IsOutcomeFor}
 use Rattle.session_jobs.proofs.Runs.{stands_for}
 use Rattle.session_jobs.proofs.Certified.{ends_once, certified_again, no_other}

@@ -10,10 +10,10 @@ use Rattle.slip_arcs.specs.Runs.{AreKept}
 use Rattle.slip_arcs.specs.Linked.{HaveDatums}
 use Rattle.orbit_model.specs.Elements.{world_of}
 use Rattle.screening.specs.Screening.{setting_of, AreUsedPairs}
-use Rattle.run_options.specs.declared.options.Options.{Options}
+use Rattle.obs_rows.specs.declared.options.Options.{Options}
 use Rattle.obs_rows.specs.BandSets.{bands_of}
 use Rattle.epoch_pair.specs.Beginnings.{IsPosition, AreSignals, AreSparse, AreTaken}
-use Rattle.session_jobs.specs.ArcLines.{arcs_text}
+use Rattle.report_text.specs.ArcLines.{arcs_text}
 use Rattle.job_answers.specs.declared.status.Status.TheVariants.{Done}
 use Rattle.job_answers.specs.Endings.{Ending, ending}
 

@@ -19,12 +19,12 @@ use Rattle.cert_data.specs.declared.verdicts.Verdict.TheVariants.{Certified}
 use Rattle.cert_check.specs.Verdicts.{IsVerdictOf}
 use Rattle.round_steps.specs.Steps.{IsOnlyEnd}
 use Rattle.round_steps.specs.Runs.{most_rounds}
-use Rattle.run_options.specs.declared.options.Options.{Options}
+use Rattle.obs_rows.specs.declared.options.Options.{Options}
 use Rattle.obs_rows.specs.BandSets.{bands_of}
 use Rattle.epoch_pair.specs.Beginnings.{IsPosition, AreSignals, AreTaken}
 use Rattle.session.specs.Origins.{origin_of}
 use Rattle.session.specs.Outcomes.{IsOutcome}
-use Rattle.outcome_report.specs.OutcomeText.{answer_text, IsWholeAnswer, outcome_text, is_fixed}
+use Rattle.report_text.specs.OutcomeText.{answer_text, IsWholeAnswer, outcome_text, is_fixed}
 use Rattle.job_answers.specs.declared.status.Status.{Status}
 use Rattle.job_answers.specs.Statuses.{verdict_status}
 use Rattle.job_answers.specs.Endings.{Ending, ending}

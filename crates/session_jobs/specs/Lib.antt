@@ -1,3 +1,2 @@
 pub mod FixJobs
 pub mod ArcJobs
-pub mod ArcLines

@@ -1,11 +1,10 @@
 ghost use Rattle.session_jobs.specs.ArcJobs.{AnswersArcs};
 
-use crate::report::write_arcs;
 use epoch_pair::{SessionFault, begin};
-use job_answers::{JobOutput, Status};
-use run_options::Options;
+use job_answers::{JobOutput, SessionCommand, SessionFiles, Status};
+use obs_rows::Options;
+use report_text::write_arcs;
 use session::screened_arcs;
-use session_files::{SessionCommand, SessionFiles};
 use std::alloc::Global;
 
 /// The kept arcs of a session of two receivers.

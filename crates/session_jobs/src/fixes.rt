@@ -1,13 +1,12 @@
-ghost use Rattle.outcome_report.specs.OutcomeText.{answer_text, outcome_text, IsWholeAnswer, is_fixed};
+ghost use Rattle.report_text.specs.OutcomeText.{answer_text, outcome_text, IsWholeAnswer, is_fixed};
 ghost use Rattle.session_jobs.specs.FixJobs.{AnswersFix};
 
 use crate::outcomes::{SessionOutcome, output_of};
 use cert_data::Outcome;
-use job_answers::JobOutput;
-use outcome_report::{is_fixed, write_outcome};
-use run_options::Options;
+use job_answers::{JobOutput, SessionCommand, SessionFiles};
+use obs_rows::Options;
+use report_text::{is_fixed, write_outcome};
 use session::{SessionFault, finish_run, start_run};
-use session_files::{SessionCommand, SessionFiles};
 use std::alloc::{AllocError, Global};
 
 impl SessionOutcome for Outcome {

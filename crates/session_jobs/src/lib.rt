@@ -20,9 +20,7 @@
 mod arcs;
 mod fixes;
 mod outcomes;
-mod report;
 
 pub use arcs::KeptArcs;
 pub use fixes::Fix;
 pub use outcomes::{SessionOutcome, output_of};
-pub use report::write_arcs;

@@ -6,8 +6,8 @@ use mir.Val.{SFits}
 use Rattle.obs_rows.specs.ReceiverPoints.{IsReceiverPoint}
 use Rattle.obs_rows.proofs.ReceiverPointLaws.{receiver_is_point, plain}
 use Rattle.obs_rows.specs.declared.limits.TheConstants.{MOST_COORDINATE}
-use Rattle.rational.specs.Rational.{Rational, AreWithin, two_to_minus}
-use Rattle.rational.specs.Boxes.{of_scale}
+use Rattle.whole_math.specs.Rational.{Rational, AreWithin, two_to_minus}
+use Rattle.whole_math.specs.Boxes.{of_scale}
 use Rattle.iv_core.specs.declared.Iv.{Iv}
 use Rattle.iv_core.specs.Intervals.{Holds, width_of}
 use Rattle.orbit_model.specs.SeenPlaces.{point_of, IsAboveMask, IsBelowMask}

@@ -8,15 +8,15 @@ use Rattle.whole_math.proofs.Certificates.{cert, weak, ◌≼◌, hy}
 use Rattle.whole_math.proofs.Inequalities.{same_by, le_refl_ℤ, less_nn}
 use Rattle.whole_math.specs.Rounding.{floor_div}
 use Rattle.whole_math.proofs.Rounding.{floor_le, lt_floor}
-use Rattle.rational.specs.Rational.{Rational, ◌≈◌, ◌≤ʳ◌, of_whole, ◌+ʳ◌, ◌-ʳ◌, ◌*ʳ◌, neg_r, times, two_to_minus, AreWithin, InBox}
-use Rattle.rational.specs.Boxes.{of_scale}
-use Rattle.rational.proofs.Laws.{≤ʳ_trans, ≤ʳ_from_same}
-use Rattle.rational.proofs.Ends.{low_end, high_end}
+use Rattle.whole_math.specs.Rational.{Rational, ◌≈◌, ◌≤ʳ◌, of_whole, ◌+ʳ◌, ◌-ʳ◌, ◌*ʳ◌, neg_r, times, two_to_minus, AreWithin, InBox}
+use Rattle.whole_math.specs.Boxes.{of_scale}
+use Rattle.whole_math.proofs.RationalLaws.{≤ʳ_trans, ≤ʳ_from_same}
+use Rattle.whole_math.proofs.Ends.{low_end, high_end}
 use Rattle.trig_box.specs.AnglePairs.{Pair, doubled, part, IsAnglePair}
 use Rattle.trig_box.specs.CanonicalPairs.{taylor_pair, IsCanonicalPair}
 use Rattle.trig_box.proofs.PairLaws.{canonical_exists, canonical_is_pair, canonical_law, sharp_law, size_law_5}
 use Rattle.orbit_model.specs.Elements.{earth_rate}
-use Rattle.orbit_exists.proofs.Iterates.{no_sine}
+use Rattle.sv_orbit.proofs.Iterates.{no_sine}
 use Rattle.signal_travel.proofs.EarthTurnCertificates.{angle_up, angle_down, pad_low, pad_high, zero_right, zero_left}
 
 -- ---- a pair of a time of the box lies within the pad of the canonical pair of the middle

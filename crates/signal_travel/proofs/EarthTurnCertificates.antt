@@ -6,7 +6,7 @@ use Rattle.std.proofs.Common.{[], ◌∷◌, ℤ, pos, ◌+ℤ◌, ◌-ℤ◌, �
 use Rattle.std.proofs.lemmas.Int.{ints}
 use Rattle.whole_math.proofs.Ring.{va, ko, ◌⊕◌, ◌⊖◌, ◌⊗◌, ng}
 use Rattle.whole_math.proofs.Certificates.{cert, cancel, weak, ◌≼◌, hy, nm, ◌⊞◌, ◌⊠◌}
-use Rattle.rational.specs.Rational.{Rational, ◌≤ʳ◌, ◌+ʳ◌, ◌-ʳ◌}
+use Rattle.whole_math.specs.Rational.{Rational, ◌≤ʳ◌, ◌+ʳ◌, ◌-ʳ◌}
 use Rattle.orbit_model.proofs.Orders.{cert_r}
 
 -- the angle of a time of the box against that of its middle, rounded

@@ -8,10 +8,10 @@ use Rattle.whole_math.proofs.Inequalities.{same_by, le_by, both_nn, prod_nn, les
 use Rattle.whole_math.proofs.Certificates.{cancel}
 use Rattle.whole_math.proofs.Rounding.{floor_le, lt_floor}
 use Rattle.whole_math.proofs.IntLaws.{mul_assoc_ℤ}
-use Rattle.rational.specs.Rational.{Rational, of_whole, ◌-ʳ◌, ◌*ʳ◌, ◌+ʳ◌, divided, two_to_minus, AreWithin, InBox}
-use Rattle.rational.specs.Boxes.{of_scale}
-use Rattle.rational.specs.Over.{Over}
-use Rattle.rational.proofs.Over.{over_add, over_mul, over_times, over_zero, over_le, over_lt}
+use Rattle.whole_math.specs.Rational.{Rational, of_whole, ◌-ʳ◌, ◌*ʳ◌, ◌+ʳ◌, divided, two_to_minus, AreWithin, InBox}
+use Rattle.whole_math.specs.Boxes.{of_scale}
+use Rattle.whole_math.specs.Over.{Over}
+use Rattle.whole_math.proofs.Over.{over_add, over_mul, over_times, over_zero, over_le, over_lt}
 use Rattle.orbit_model.specs.SeenPlaces.{Place, point_of, difference, dot, square, mask_side, height_side, IsAboveMask, IsBelowMask}
 use Rattle.signal_travel.specs.Grid.{grid, offset, dot3, IsAboveWhole}
 

@@ -5,7 +5,7 @@ use Rattle.whole_math.proofs.Ring.{va, ko, ◌⊗◌}
 use Rattle.whole_math.proofs.Order.{lins, mul_le_cancel}
 use Rattle.whole_math.proofs.Certificates.{cert, weak, square_root, ◌≼◌, hy, nm, ◌⊞◌, ◌⊠◌}
 use Rattle.whole_math.proofs.Inequalities.{le_refl_ℤ, le_trans_ℤ, pos_nn}
-use Rattle.rational.specs.Rational.{Rational, ◌≤ʳ◌, of_whole, InBox}
+use Rattle.whole_math.specs.Rational.{Rational, ◌≤ʳ◌, of_whole, InBox}
 use Rattle.iv_core.specs.declared.Iv.{Iv}
 use Rattle.iv_core.specs.Intervals.{width_of, IsWithin}
 use Rattle.iv_core.specs.Boxes.{near_end, far_end}

@@ -7,8 +7,8 @@ use Rattle.whole_math.proofs.Order.{lins, mul_le_left}
 use Rattle.whole_math.proofs.Inequalities.{pos_nn, same_by}
 use Rattle.whole_math.proofs.Rounding.{floor_greatest, ceil_least}
 use Rattle.whole_math.proofs.Extremes.{min_case, max_case}
-use Rattle.rational.specs.Rational.{Rational, ◌≤ʳ◌, of_whole, ◌+ʳ◌, ◌*ʳ◌, IsAtMostInSize}
-use Rattle.rational.proofs.Laws.{≤ʳ_trans}
+use Rattle.whole_math.specs.Rational.{Rational, ◌≤ʳ◌, of_whole, ◌+ʳ◌, ◌*ʳ◌, IsAtMostInSize}
+use Rattle.whole_math.proofs.RationalLaws.{≤ʳ_trans}
 use Rattle.iv_core.specs.Boxes.{least_ratio, most_ratio}
 use Rattle.iv_core.proofs.QuotientLaws.{positive_is}
 use Rattle.orbit_model.specs.Places.{IsBetweenDistances}

@@ -1,9 +1,9 @@
 -- From the distances of the places in a box to the limits of its ends.
 use Rattle.std.proofs.Common.{ℕ, ◌*◌, ◌^◌, ℤ, pos, ◌*ℤ◌, neg_ℤ, ◌≤ℤ◌, arith}
 use Rattle.std.proofs.lemmas.Int.{ints}
-use Rattle.rational.specs.Rational.{Rational, ◌≤ʳ◌, of_whole, ◌+ʳ◌, ◌*ʳ◌, neg_r}
-use Rattle.rational.specs.Boxes.{of_scale}
-use Rattle.rational.proofs.Laws.{≤ʳ_trans}
+use Rattle.whole_math.specs.Rational.{Rational, ◌≤ʳ◌, of_whole, ◌+ʳ◌, ◌*ʳ◌, neg_r}
+use Rattle.whole_math.specs.Boxes.{of_scale}
+use Rattle.whole_math.proofs.RationalLaws.{≤ʳ_trans}
 use Rattle.iv_core.specs.declared.Iv.{Iv}
 use Rattle.iv_core.specs.Intervals.{IsWithin}
 use Rattle.iv_core.proofs.BoxLaws.{low_held, high_held}

@@ -4,10 +4,10 @@ use Rattle.std.proofs.lemmas.Int.{ints}
 use Rattle.whole_math.proofs.Ring.{◌⊕◌, ◌⊗◌}
 use Rattle.whole_math.proofs.Inequalities.{same_by, nat}
 use Rattle.whole_math.proofs.Order.{le_pos, lt_pos}
-use Rattle.rational.specs.Rational.{Rational, ◌≈◌, ◌≤ʳ◌, of_whole, ◌+ʳ◌, ◌-ʳ◌, ◌*ʳ◌, times, two_to_minus, AreWithin, InBox}
-use Rattle.rational.specs.Boxes.{of_scale}
-use Rattle.rational.proofs.Boxes.{end_in}
-use Rattle.rational.proofs.Laws.{≈_sym, ≤ʳ_trans, ≤ʳ_total, ≤ʳ_from_same}
+use Rattle.whole_math.specs.Rational.{Rational, ◌≈◌, ◌≤ʳ◌, of_whole, ◌+ʳ◌, ◌-ʳ◌, ◌*ʳ◌, times, two_to_minus, AreWithin, InBox}
+use Rattle.whole_math.specs.Boxes.{of_scale}
+use Rattle.whole_math.proofs.Boxes.{end_in}
+use Rattle.whole_math.proofs.RationalLaws.{≈_sym, ≤ʳ_trans, ≤ʳ_total, ≤ʳ_from_same}
 use Rattle.iv_core.specs.declared.Iv.{Iv}
 use Rattle.iv_core.specs.Intervals.{Holds}
 use Rattle.trig_box.specs.AnglePairs.{Pair, IsAnglePair}
@@ -19,7 +19,7 @@ use Rattle.orbit_model.proofs.NearRoots.{range_root, near_high, near_low, root_n
 use Rattle.orbit_model.proofs.Apart.{IsBetween, turned_square, loosely, vector_square}
 use Rattle.orbit_model.proofs.Seen.{square_same, difference_same}
 use Rattle.orbit_model.proofs.Exists.{AreApart, AreTurns, moves_slowly, both_within, rate_low}
-use Rattle.orbit_exists.proofs.Roots.{near_root_exists}
+use Rattle.sv_orbit.proofs.Roots.{near_root_exists}
 use Rattle.signal_travel.specs.declared.sent.Point.{Point}
 use Rattle.signal_travel.specs.declared.sent.SentBox.{SentBox}
 use Rattle.signal_travel.specs.SeenAfter.{IsSeenAfter}

@@ -4,10 +4,10 @@ use Rattle.std.proofs.lemmas.Int.{ints}
 use Rattle.whole_math.proofs.Ring.{va, ko, ◌⊖◌}
 use Rattle.whole_math.proofs.Certificates.{◌≼◌, hy, ◌⊞◌}
 use Rattle.whole_math.proofs.Inequalities.{le_refl_ℤ}
-use Rattle.rational.specs.Rational.{Rational, ◌≤ʳ◌, of_whole, ◌*ʳ◌, ◌-ʳ◌, InBox}
-use Rattle.rational.specs.Boxes.{of_scale}
-use Rattle.rational.proofs.Boxes.{InBox-along, end_in}
-use Rattle.rational.proofs.Laws.{≈_sym}
+use Rattle.whole_math.specs.Rational.{Rational, ◌≤ʳ◌, of_whole, ◌*ʳ◌, ◌-ʳ◌, InBox}
+use Rattle.whole_math.specs.Boxes.{of_scale}
+use Rattle.whole_math.proofs.Boxes.{InBox-along, end_in}
+use Rattle.whole_math.proofs.RationalLaws.{≈_sym}
 use Rattle.orbit_model.proofs.Orders.{cert_r}
 use Rattle.iv_core.specs.declared.Iv.{Iv}
 use Rattle.iv_core.specs.Intervals.{Holds, width_of}

@@ -1,6 +1,6 @@
 -- What the boxes of a seen place say.
 use Rattle.std.specs.Prelude.{List}
-use Rattle.rational.specs.Rational.{AreWithin, two_to_minus}
+use Rattle.whole_math.specs.Rational.{AreWithin, two_to_minus}
 use Rattle.iv_core.specs.declared.Iv.{Iv}
 use Rattle.orbit_model.specs.SeenPlaces.{Place}
 use Rattle.orbit_model.specs.Places.{HoldsPlace}

@@ -1,6 +1,6 @@
 -- What a spread says of a number, and three of a direction.
 use Rattle.std.specs.Prelude.{◌^◌, List, [], ◌∷◌, pos}
-use Rattle.rational.specs.Rational.{Rational, Near, of_whole, ◌*ʳ◌}
+use Rattle.whole_math.specs.Rational.{Rational, Near, of_whole, ◌*ʳ◌}
 use Rattle.orbit_model.specs.SeenPlaces.{Place}
 use Rattle.obs_rows.specs.declared.units.TheConstants.{DIRECTION_EXPONENT}
 use Rattle.signal_travel.specs.declared.spread.Spread.{Spread}

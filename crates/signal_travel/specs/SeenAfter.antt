@@ -1,5 +1,5 @@
 -- Where a receiver sees a satellite if the Earth turns in another time than light travels.
-use Rattle.rational.specs.Rational.{Rational, ◌*ʳ◌, IsNearRoot}
+use Rattle.whole_math.specs.Rational.{Rational, ◌*ʳ◌, IsNearRoot}
 use Rattle.trig_box.specs.AnglePairs.{Pair, IsAnglePair}
 use Rattle.orbit_model.specs.Elements.{earth_rate}
 use Rattle.orbit_model.specs.SeenPlaces.{Place, difference, square, turned_back, AreSamePlace, over_light_speed_squared}

@@ -1,7 +1,7 @@
 -- Boxes of vectors, as the code handles them, and what it says of travel times.
 use Rattle.std.specs.Prelude.{ℕ, ℤ, pos, ◌+ℤ◌, ◌*ℤ◌, neg_ℤ, ◌≤ℤ◌}
 use Rattle.std.proofs.Common.{lit<}
-use Rattle.rational.specs.Rational.{Rational, ◌≤ʳ◌, of_whole, divided}
+use Rattle.whole_math.specs.Rational.{Rational, ◌≤ʳ◌, of_whole, divided}
 use Rattle.iv_core.specs.declared.Iv.{Iv}
 use Rattle.iv_core.specs.Intervals.{Holds, width_of, IsWithin}
 use Rattle.iv_core.specs.Boxes.{near_end, far_end}

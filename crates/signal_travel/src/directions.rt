@@ -1,6 +1,6 @@
 //! The mean direction over a move: −(2 (x − p) − δ) over the sum of the ranges before and after it.
 ghost use Rattle.std.specs.Prelude.{◌≡◌, ◌+◌, ◌*◌, ◌^◌, ◌≤◌, pos, ◌+ℤ◌, ◌-ℤ◌, neg_ℤ, ◌≤ℤ◌, unsigned_abs};
-ghost use Rattle.rational.specs.Rational.{Rational, ◌≈◌, ◌≤ʳ◌, of_whole, ◌+ʳ◌, ◌-ʳ◌, ◌*ʳ◌, IsAtMostInSize};
+ghost use Rattle.whole_math.specs.Rational.{Rational, ◌≈◌, ◌≤ʳ◌, of_whole, ◌+ʳ◌, ◌-ʳ◌, ◌*ʳ◌, IsAtMostInSize};
 ghost use Rattle.iv_core.specs.Intervals.{Holds, width_of, IsWithin};
 ghost use Rattle.orbit_model.specs.Places.{IsBetweenDistances};
 ghost use Rattle.orbit_model.specs.SeenPlaces.{Place, difference, point_of, IsDisplacement, IsMeanDirection};

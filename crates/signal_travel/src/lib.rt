@@ -17,7 +17,7 @@ ghost use Rattle.std.specs.Prelude.{◌≡◌, ◌*◌, ◌^◌, ◌≤◌, ℤ,
 ghost use Rattle.iv_core.specs.declared.Iv.{Iv};
 ghost use Rattle.iv_core.specs.Intervals.{Holds, width_of};
 ghost use Rattle.orbit_model.specs.Places.{IsBetweenDistances, HasSeenPlace, HoldsPlace};
-ghost use Rattle.rational.specs.Rational.{Rational};
+ghost use Rattle.whole_math.specs.Rational.{Rational};
 ghost use Rattle.orbit_model.specs.SeenPlaces.{Place, point_of, IsSeenPlace, range_of, IsDisplacement, IsMeanDirection, IsAboveMask, IsBelowMask};
 ghost use Rattle.obs_rows.specs.ReceiverPoints.{IsReceiverPoint};
 ghost use Rattle.signal_travel.specs.Boxes.{HasNearPlace};

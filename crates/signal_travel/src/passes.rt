@@ -1,6 +1,6 @@
 //! The travel time, from a box of it to a narrower one.
 ghost use Rattle.std.specs.Prelude.{◌≡◌, ◌+◌, ◌*◌, ◌^◌, ◌<◌, ◌≤◌, ℤ, pos, ◌+ℤ◌, ◌-ℤ◌, ◌*ℤ◌, ◌≤ℤ◌, true};
-ghost use Rattle.rational.specs.Rational.{Rational, IsNearRoot};
+ghost use Rattle.whole_math.specs.Rational.{Rational, IsNearRoot};
 ghost use Rattle.iv_core.specs.Intervals.{Holds, width_of};
 ghost use Rattle.orbit_model.specs.Places.{IsBetweenDistances};
 ghost use Rattle.orbit_model.specs.SeenPlaces.{Place, difference, square, point_of, IsSeenPlace, range_of};

@@ -1,8 +1,8 @@
 //! The Earth's turn while a signal travels.
 ghost use Rattle.std.specs.Prelude.{◌≡◌, ◌+◌, ◌*◌, ◌/◌, ◌^◌, ◌<◌, ◌≤◌, pos, ◌+ℤ◌, ◌-ℤ◌, ◌*ℤ◌, ◌≤ℤ◌, ℤ};
 ghost use Rattle.whole_math.specs.Rounding.{floor_div};
-ghost use Rattle.rational.specs.Rational.{Rational, ◌*ʳ◌};
-ghost use Rattle.rational.specs.Boxes.{of_scale};
+ghost use Rattle.whole_math.specs.Rational.{Rational, ◌*ʳ◌};
+ghost use Rattle.whole_math.specs.Boxes.{of_scale};
 ghost use Rattle.iv_core.specs.Intervals.{Holds, width_of, IsWithin};
 ghost use Rattle.trig_box.specs.AnglePairs.{Pair, IsAnglePair};
 ghost use Rattle.trig_box.specs.PairBoxes.{HoldsPair, AreAtMostWide};

@@ -1,7 +1,7 @@
 //! The vector from a point to a place, and its length.
 ghost use Rattle.std.specs.Prelude.{◌≡◌, ◌+◌, ◌*◌, ◌^◌, ◌<◌, ◌≤◌, ℤ, pos, ◌+ℤ◌, ◌-ℤ◌, ◌*ℤ◌, ◌≤ℤ◌, ◌<ℤ◌, unsigned_abs};
 ghost use Rattle.whole_math.specs.Rounding.{floor_div, ceil_div};
-ghost use Rattle.rational.specs.Rational.{Rational, ◌-ʳ◌, ◌*ʳ◌, IsNearRoot};
+ghost use Rattle.whole_math.specs.Rational.{Rational, ◌-ʳ◌, ◌*ʳ◌, IsNearRoot};
 ghost use Rattle.iv_core.specs.Boxes.{near_end, far_end};
 ghost use Rattle.iv_core.specs.Intervals.{Holds, width_of, IsWithin};
 ghost use Rattle.orbit_model.specs.SeenPlaces.{Place, square};

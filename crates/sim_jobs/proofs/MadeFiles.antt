@@ -11,8 +11,8 @@ use Rattle.obs_store.specs.declared.file.ObsFile.{ObsFile}
 use Rattle.obs_store.specs.Epochs.{tags_of}
 use Rattle.epoch_pair.specs.Pairs.{AreApart}
 use Rattle.rinex_obs.specs.ObsForm.{IsObsFile}
-use Rattle.obs_source.specs.Formats.{IsObservation}
-use Rattle.obs_source.proofs.FormatLaws.{file_given}
+use Rattle.job_answers.specs.Formats.{IsObservation}
+use Rattle.job_answers.proofs.FormatLaws.{file_given}
 use Rattle.rinex_nav.specs.NavForm.{IsNavFile}
 use Rattle.sim_session.specs.declared.signals.Signals as made
 use Rattle.sim_session.specs.declared.signals.Tracking.{Tracking}
@@ -22,8 +22,8 @@ use Rattle.sim_session.specs.Texts.{has_l5, tracking_of, IsBaseText, IsRoverText
 use Rattle.sim_jobs.specs.NavRecords.{raws_of}
 use Rattle.sim_jobs.specs.ObsFiles.{epochs_of, file_of}
 use Rattle.sim_jobs.proofs.TextReadings.{base_reads, rover_reads, navigation_reads, step_some}
-use Rattle.run_options.specs.declared.options.Options.{Options}
-use Rattle.run_options.specs.Defaults.{Numbers}
+use Rattle.obs_rows.specs.declared.options.Options.{Options}
+use Rattle.obs_rows.specs.Defaults.{Numbers}
 use Rattle.obs_rows.specs.declared.band_sets.TheConstants.{BANDS_L1_L5}
 use Rattle.obs_rows.specs.BandSets.{IsBandsNumber, bands_of}
 use Rattle.obs_rows.proofs.BandSetLaws.{each_number}
@@ -31,12 +31,12 @@ use Rattle.obs_rows.specs.Ranges.{IsSystem}
 use Rattle.obs_rows.specs.declared.units.TheConstants.{BANDS_12, BANDS_15, BANDS_125}
 use Rattle.obs_rows.specs.declared.bands.Signals.{Signals}
 use Rattle.obs_rows.specs.declared.limits.TheConstants.{MOST_PAIRS}
-use Rattle.run_options.specs.declared.defaults.TheConstants.{DEFAULT_GAP}
+use Rattle.obs_rows.specs.declared.defaults.TheConstants.{DEFAULT_GAP}
 use Rattle.epoch_pair.specs.Signals.{letter_on, letter_of, is_among, IsLetterFor}
 use Rattle.epoch_pair.specs.Beginnings.{HasPosition, HaveSignals, AreSparse}
-use Rattle.session_files.specs.SessionFiles.{IsObsOf}
-use Rattle.session_files.specs.Admitted.{AreAdmitted}
-use Rattle.session_files.proofs.ReadingLaws.{text_told}
+use Rattle.job_answers.specs.SessionFiles.{IsObsOf}
+use Rattle.job_answers.specs.Admitted.{AreAdmitted}
+use Rattle.job_answers.proofs.ReadingLaws.{text_told}
 use Rattle.sim_jobs.specs.SimRunJobs.{AreOptionsOn}
 
 -- ---- what a text is

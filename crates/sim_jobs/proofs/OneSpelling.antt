@@ -5,8 +5,8 @@ use Rattle.std.proofs.lemmas.Nat.{pow-add}
 use Rattle.std.proofs.lemmas.Bool.Decides.{nat_tests}
 use Rattle.std.proofs.Math.Nat.{one-le-pow, pow-le-pow_right, mul-le-mul_right, le-mul_of_pos_right, mul_comm}
 use Rattle.whole_math.proofs.Order.{mul_eq_cancel}
-use Rattle.rational.specs.Rational.{Rational, ◌≈◌}
-use Rattle.rational.proofs.Laws.{≈_sym, ≈_trans}
+use Rattle.whole_math.specs.Rational.{Rational, ◌≈◌}
+use Rattle.whole_math.proofs.RationalLaws.{≈_sym, ≈_trans}
 use Rattle.eph_store.specs.Decimals.{with_exponent, value_of}
 use Rattle.decimal_text.specs.Whole.{size_of}
 use Rattle.decimal_text.specs.declared.exponent.Dec.{Dec}

@@ -11,7 +11,7 @@ use Rattle.cert_data.specs.declared.outcomes.Outcome.{Outcome}
 use Rattle.cert_data.specs.declared.outcomes.Answer.{Answer}
 use Rattle.cert_data.specs.declared.outcomes.Answer.TheVariants.{Few, Arcs, Early, Full}
 use Rattle.obs_rows.specs.BandSets.{bands_of}
-use Rattle.run_options.specs.declared.options.Options.{Options}
+use Rattle.obs_rows.specs.declared.options.Options.{Options}
 use Rattle.session.specs.Outcomes.{IsOutcome}
 use Rattle.session_jobs.proofs.Runs.{stands_for}
 use Rattle.sim_jobs.specs.Matches.{AreInOrder, HasMarkedArcs}

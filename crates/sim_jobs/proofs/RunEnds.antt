@@ -2,20 +2,20 @@
 use Rattle.std.proofs.Common.{◌≡◌, ◌≢◌, inl, inr, ℕ, List, Option, Bool, true, false, codes, sym, ap, ◌∙◌, subst}
 use Rattle.obs_store.specs.declared.file.ObsFile.{ObsFile}
 use Rattle.eph_store.specs.File.{Records}
-use Rattle.run_options.specs.declared.options.Options.{Options}
+use Rattle.obs_rows.specs.declared.options.Options.{Options}
 use Rattle.rinex_head.specs.Systems.{system_of}
 use Rattle.rinex_head.specs.declared.system.System.{System}
-use Rattle.outcome_report.specs.OutcomeText.{is_fixed}
+use Rattle.report_text.specs.OutcomeText.{is_fixed}
 use Rattle.job_answers.specs.declared.status.Status.TheVariants.{Refused, ReadFault}
 use Rattle.job_answers.specs.declared.stop.JobStop.{JobStop}
 use Rattle.job_answers.specs.declared.stop.JobStop.TheVariants.{Ended, NoMemory}
 use Rattle.job_answers.specs.Answers.{ending_of, IfEnds}
 use Rattle.job_answers.specs.Endings.{Ending}
 use Rattle.job_answers.specs.Statuses.{verdict_status}
-use Rattle.session_files.specs.SessionFiles.{AreFilesOf, StopsAtFiles}
-use Rattle.session_files.proofs.FileLaws.{no_stop}
-use Rattle.session_files.specs.Admitted.{AreAdmitted}
-use Rattle.session_files.proofs.RefusalLaws.{never_refused}
+use Rattle.job_answers.specs.SessionFiles.{AreFilesOf, StopsAtFiles}
+use Rattle.job_answers.proofs.FileLaws.{no_stop}
+use Rattle.job_answers.specs.Admitted.{AreAdmitted}
+use Rattle.job_answers.proofs.RefusalLaws.{never_refused}
 use Rattle.sim_jobs.specs.SimRunJobs.{AreMadeFiles, AreOptionsOn, SimRunEnd, SimRunEnds}
 
 no_read_fault : (fixed : Bool) → verdict_status fixed ≢ ReadFault

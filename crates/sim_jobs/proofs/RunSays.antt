@@ -1,7 +1,7 @@
 -- What the ending of `sim run` says of the session that it made, and its statuses.
 use Rattle.std.proofs.Common.{◌≡◌, ℕ, Bool, true, false, codes, refl, sym, subst}
 use Rattle.std.specs.Io.KnownBytes.{Appends}
-use Rattle.outcome_report.specs.OutcomeText.{is_fixed}
+use Rattle.report_text.specs.OutcomeText.{is_fixed}
 use Rattle.job_answers.specs.Statuses.{IsVerdictStatus, IsJobStatus, verdict_status}
 use Rattle.job_answers.specs.Endings.{Ending}
 use Rattle.job_answers.specs.Delivered.{SinkChange}

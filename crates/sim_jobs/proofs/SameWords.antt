@@ -1,6 +1,6 @@
 -- The texts of two sessions of the same words.
 use Rattle.std.proofs.Common.{◌≡◌, ◌∙◌, ℕ, ◌+◌, ℤ, pos, negsuc, List, [], ◌∷◌, ◌++◌, length, refl, sym, ap, arith}
-use Rattle.rational.specs.Rational.{of_whole}
+use Rattle.whole_math.specs.Rational.{of_whole}
 use Rattle.eph_store.specs.Decimals.{decimal}
 use Rattle.eph_store.specs.declared.ephemeris.Eph.{Eph}
 use Rattle.orbit_model.specs.Elements.{Constants}

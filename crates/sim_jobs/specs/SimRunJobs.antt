@@ -13,12 +13,12 @@ use Rattle.sim_session.specs.declared.Made.{Made}
 use Rattle.cert_data.specs.declared.outcomes.Outcome.{Outcome}
 use Rattle.cert_data.specs.declared.outcomes.Answer.{Answer}
 use Rattle.cert_data.specs.declared.outcomes.Answer.TheVariants.{Full}
-use Rattle.run_options.specs.declared.options.Options.{Options}
-use Rattle.run_options.specs.Defaults.{AreDefaults, numbers_of}
-use Rattle.outcome_report.specs.OutcomeText.{is_fixed}
+use Rattle.obs_rows.specs.declared.options.Options.{Options}
+use Rattle.obs_rows.specs.Defaults.{AreDefaults, numbers_of}
+use Rattle.report_text.specs.OutcomeText.{is_fixed}
 use Rattle.job_answers.specs.Endings.{Ending, ending}
-use Rattle.session_files.specs.SessionFiles.{AreFilesOf}
-use Rattle.session_files.specs.Refusals.{IsPairRefused}
+use Rattle.job_answers.specs.SessionFiles.{AreFilesOf}
+use Rattle.job_answers.specs.Refusals.{IsPairRefused}
 use Rattle.session_jobs.specs.FixJobs.{IsOutcomeFor, status_of}
 use Rattle.sim_jobs.specs.Matches.{IsMatched}
 

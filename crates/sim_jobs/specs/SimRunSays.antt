@@ -3,15 +3,15 @@ use Rattle.std.specs.Prelude.{◌≡◌, ◌↔◌, ℕ, Bool, true, false, IsTr
 use Rattle.std.specs.declared.option.Option.{Option}
 use Rattle.std.specs.Io.KnownBytes.{Appends}
 use Rattle.cert_data.specs.declared.outcomes.Outcome.{Outcome}
-use Rattle.run_options.specs.declared.options.Options.{Options}
-use Rattle.outcome_report.specs.OutcomeText.{is_fixed}
+use Rattle.obs_rows.specs.declared.options.Options.{Options}
+use Rattle.report_text.specs.OutcomeText.{is_fixed}
 use Rattle.job_answers.specs.declared.status.Status.{Status}
 use Rattle.job_answers.specs.declared.status.Status.TheVariants.{Done, Declined}
 use Rattle.job_answers.specs.Delivered.{SinkChange}
 use Rattle.obs_store.specs.declared.file.ObsFile.{ObsFile}
 use Rattle.eph_store.specs.File.{Records}
 use Rattle.rinex_head.specs.Systems.{system_of}
-use Rattle.session_files.specs.SessionFiles.{AreFilesOf}
+use Rattle.job_answers.specs.SessionFiles.{AreFilesOf}
 use Rattle.session_jobs.specs.FixJobs.{IsOutcomeFor}
 use Rattle.sim_jobs.specs.Matches.{IsMatched}
 use Rattle.sim_jobs.specs.SimRunJobs.{AreMadeFiles, AreOptionsOn, truth_in, run_text}

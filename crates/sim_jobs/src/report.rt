@@ -4,7 +4,7 @@ ghost use Rattle.sim_jobs.specs.SimRunJobs.{verdict_word, integers_of, match_wor
 
 use cert_data::Answer;
 use obs_rows::{fine_signals, integer_count};
-use outcome_report::is_fixed;
+use report_text::is_fixed;
 use std::alloc::{AllocError, Global};
 
 fn verdict_word(answer: &Answer) -> &'static str

@@ -12,13 +12,14 @@ ghost use Rattle.sim_jobs.specs.SimRunJobs.{AreOptionsOn, truth_in, run_text, Si
 use crate::matches::is_matched;
 use crate::report::run_text;
 use cert_data::Answer;
-use job_answers::{JobOutput, JobStop, Status, verdict_status};
+use job_answers::{
+    JobOutput, JobStop, SessionFiles, Status, read_session, refused_pair, verdict_status,
+};
 use line_source::{Files, Named, SureFiles};
-use outcome_report::is_fixed;
+use obs_rows::Options;
+use report_text::is_fixed;
 use rinex_head::System;
-use run_options::Options;
 use session::{SessionFault, process};
-use session_files::{SessionFiles, read_session, refused_pair};
 use sim_session::{Made, make};
 use std::alloc::{AllocError, Global};
 

@@ -5,9 +5,9 @@ use Rattle.obs_rows.specs.declared.units.TheConstants.{LIGHT_SPEED}
 use Rattle.whole_math.specs.Rounding.{IsFloor}
 use Rattle.whole_math.proofs.Ring.{va, ko, ◌⊕◌, ◌⊖◌, ◌⊗◌}
 use Rattle.whole_math.proofs.Certificates.{◌≼◌, hy, nm, ◌⊞◌, ◌⊠◌}
-use Rattle.rational.specs.Rational.{Rational, ◌≤ʳ◌, of_whole, ◌+ʳ◌, ◌-ʳ◌, ◌*ʳ◌, InBox}
-use Rattle.rational.specs.Boxes.{of_scale}
-use Rattle.rational.proofs.Orders.{order_r}
+use Rattle.whole_math.specs.Rational.{Rational, ◌≤ʳ◌, of_whole, ◌+ʳ◌, ◌-ʳ◌, ◌*ʳ◌, InBox}
+use Rattle.whole_math.specs.Boxes.{of_scale}
+use Rattle.whole_math.proofs.RationalOrders.{order_r}
 use Rattle.sim_session.specs.Observed.{IsDistance}
 
 lower : (lo clock f d : ℤ) → (LIGHT_SPEED *ℤ clock) <ℤ ((f *ℤ pos (2 ^ 24)) +ℤ pos (2 ^ 24)) → d ≡ lo -ℤ f →

@@ -6,9 +6,9 @@ use Rattle.whole_math.specs.Rounding.{IsNearest}
 use Rattle.whole_math.proofs.Ring.{va, ko, ng, ◌⊕◌, ◌⊖◌, ◌⊗◌}
 use Rattle.whole_math.proofs.Inequalities.{same_by, nat, weak, pos_nn, halve}
 use Rattle.whole_math.proofs.Certificates.{cert, ◌≼◌, hy, nm, ◌⊞◌, ◌⊠◌}
-use Rattle.rational.specs.Rational.{Rational, ◌≈◌, ◌≤ʳ◌, of_whole, ◌+ʳ◌, ◌-ʳ◌, ◌*ʳ◌, divided, AreWithin}
-use Rattle.rational.specs.Boxes.{of_scale}
-use Rattle.rational.proofs.Orders.{order_r, cancel_r, ◌≐◌}
+use Rattle.whole_math.specs.Rational.{Rational, ◌≈◌, ◌≤ʳ◌, of_whole, ◌+ʳ◌, ◌-ʳ◌, ◌*ʳ◌, divided, AreWithin}
+use Rattle.whole_math.specs.Boxes.{of_scale}
+use Rattle.whole_math.proofs.RationalOrders.{order_r, cancel_r, ◌≐◌}
 use Rattle.sim_session.specs.Observed.{IsDistance, measured, thousandths}
 
 sum_is : (a b c : ℤ) → a ≡ b +ℤ c → of_whole a ≈ of_whole b +ʳ of_whole c

@@ -3,8 +3,8 @@ use Rattle.std.proofs.Common.{◌≡◌, ℕ, suc, ◌+◌, ◌*◌, ◌^◌, �
 use Rattle.std.proofs.lemmas.Nat.{pow-add}
 use Rattle.whole_math.proofs.Ring.{◌⊗◌}
 use Rattle.whole_math.proofs.Inequalities.{same_by}
-use Rattle.rational.specs.Rational.{◌≈◌, ◌≤ʳ◌}
-use Rattle.rational.proofs.Laws.{≤ʳ_trans, ≤ʳ_from_same, ≈_sym}
+use Rattle.whole_math.specs.Rational.{◌≈◌, ◌≤ʳ◌}
+use Rattle.whole_math.proofs.RationalLaws.{≤ʳ_trans, ≤ʳ_from_same, ≈_sym}
 use Rattle.decimal_text.specs.declared.exponent.Dec.{Dec}
 use Rattle.eph_store.specs.Decimals.{decimal, with_exponent, value_of, IsFromTo}
 

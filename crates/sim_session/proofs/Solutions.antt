@@ -2,7 +2,7 @@
 use Rattle.std.proofs.Common.{◌≡◌, ℕ, List, ℤ, pos, ◌*ℤ◌, ◌≤ℤ◌, ◌<ℤ◌, ◌^◌, arith, w64, to_z, of_z, sym, subst}
 use Rattle.std.proofs.lemmas.Int.{ints}
 use Rattle.whole_math.proofs.Words.{as_w64}
-use Rattle.rational.specs.Rational.{Rational, of_whole, ◌+ʳ◌, AreWithin}
+use Rattle.whole_math.specs.Rational.{Rational, of_whole, ◌+ʳ◌, AreWithin}
 use Rattle.eph_store.specs.declared.ephemeris.Eph.{Eph}
 use Rattle.orbit_model.specs.Elements.{Constants}
 use Rattle.sim_session.specs.ObservationText.{IsInColumns}

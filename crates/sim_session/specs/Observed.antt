@@ -2,7 +2,7 @@
 -- one at each step.
 use Rattle.std.specs.Prelude.{◌≡◌, ℕ, zero, suc, ◌/◌, ◌^◌, List, [], ◌∷◌, ℤ, pos, ◌+ℤ◌, ◌-ℤ◌, ◌*ℤ◌, unsigned_abs, slice_index_or}
 use Rattle.std.proofs.Common.{lit<}
-use Rattle.rational.specs.Rational.{Rational, of_whole, ◌+ʳ◌, ◌-ʳ◌, ◌*ʳ◌, divided, AreWithin, InBox}
+use Rattle.whole_math.specs.Rational.{Rational, of_whole, ◌+ʳ◌, ◌-ʳ◌, ◌*ʳ◌, divided, AreWithin, InBox}
 use Rattle.obs_rows.specs.declared.units.TheConstants.{UNIT_FREQUENCY, LIGHT_SPEED}
 use Rattle.obs_rows.specs.Signals.{wavelength}
 use Rattle.eph_store.specs.declared.ephemeris.Eph.{Eph}

@@ -1,6 +1,6 @@
 -- The satellites' records.
 use Rattle.std.specs.Prelude.{◌≡◌, ℕ, ◌+◌, ◌==◌, if◌then◌else◌, List, [], ◌∷◌, ℤ, pos, negsuc, ◌-ℤ◌, ◌*ℤ◌, slice_index_or}
-use Rattle.rational.specs.Rational.{◌≈◌, of_whole}
+use Rattle.whole_math.specs.Rational.{◌≈◌, of_whole}
 use Rattle.eph_store.specs.Decimals.{decimal, value_of}
 use Rattle.eph_store.specs.declared.ephemeris.Eph.{Eph}
 use Rattle.sim_session.specs.Numbers.{IsNormal}

@@ -30,7 +30,7 @@
 //! neither noise nor atmosphere. Each number has room in its columns (`columns`), and no call fails. Who calls owes a tag
 //! within 7201 s of the record's time and cycles of at most 1,000,000; a `Receiver` is on the Earth, and its clock term
 //! at most 100 m, by its type. No clause says which of the numbers within these bounds comes. There is a solution at each
-//! step and for each phase (`exists` of `ForSolutions`, by the laws of orbit_exists and orbit_model).
+//! step and for each phase (`exists` of `ForSolutions`, by the laws of sv_orbit and orbit_model).
 //!
 //! *Records.* `satellites` gives exactly the records of the first satellites of a system, at most 15 (`AreSatellites`): each value
 //! equals the rational number that its definition states, with the time 2024-01-01 00:00:00, and is written with 13 digits

@@ -1,7 +1,7 @@
 //! Numbers in 19 columns.
 ghost use Rattle.std.specs.Prelude.{◌≡◌, ◌+◌, ◌<◌, ◌≤◌, ◌++◌, OnOk, pos, ◌+ℤ◌, unsigned_abs};
 ghost use Rattle.decimal_text.specs.Whole.{size_of};
-ghost use Rattle.rational.specs.Rational.{◌≈◌};
+ghost use Rattle.whole_math.specs.Rational.{◌≈◌};
 ghost use Rattle.eph_store.specs.Decimals.{decimal, value_of};
 ghost use Rattle.sim_session.specs.Numbers.{IsNormal, sign_or, number_text};
 

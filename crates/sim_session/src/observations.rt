@@ -1,6 +1,6 @@
 //! A receiver's observation file.
 ghost use Rattle.std.specs.Prelude.{◌≡◌, ◌+◌, ◌^◌, ◌<◌, ◌≤◌, length, All, IfOk};
-ghost use Rattle.orbit_clock.specs.Records.{constants_of};
+ghost use Rattle.sv_orbit.specs.Records.{constants_of};
 ghost use Rattle.sim_session.specs.Values.{AreSmall};
 ghost use Rattle.sim_session.specs.Observations.{step_of, AreObserved, IsObservationText};
 ghost use Rattle.sim_session.specs.Limits.{IsOnTime};
@@ -12,8 +12,8 @@ use crate::signals::{Signals, Tracking};
 use crate::texts::{write_epoch, write_header};
 use eph_store::Eph;
 use gps_time::{TICKS_IN_SECOND, Tick};
-use orbit_clock::World;
 use std::alloc::{AllocError, Global};
+use sv_orbit::World;
 
 /// 2024-01-01 00:00:00.
 const START: u64 = 13_881_024_000_000_000;

@@ -1,7 +1,7 @@
 //! A satellite's observations.
 ghost use Rattle.std.specs.Prelude.{◌^◌, ◌≤◌, pos, ◌≤ℤ◌, unsigned_abs, All};
 ghost use Rattle.std.specs.Int.{abs_diff};
-ghost use Rattle.orbit_clock.specs.Records.{constants_of};
+ghost use Rattle.sv_orbit.specs.Records.{constants_of};
 ghost use Rattle.sim_session.specs.ObservationText.{AreInColumns};
 ghost use Rattle.sim_session.specs.Observed.{ForSolutions, IsDistance, IsCodeAfter, IsReachedIn, IsObserved};
 ghost use Rattle.sim_session.specs.declared.drawn.TheConstants.{MOST_CYCLES};
@@ -12,9 +12,8 @@ use crate::signals::Signals;
 use eph_store::Eph;
 use gps_time::Tick;
 use obs_rows::{UNIT_FREQUENCY, WAVELENGTHS};
-use orbit_clock::World;
 use signal_travel::seen_from;
-use sv_orbit::sv_with;
+use sv_orbit::{World, sv_with};
 
 /// 25,000 km in mm.
 const FIRST_CODE: i64 = 25_000_000_000;

@@ -1,6 +1,6 @@
 //! The satellites' records.
 ghost use Rattle.std.specs.Prelude.{◌≡◌, ◌+◌, ◌<◌, ◌≤◌, pos, unsigned_abs, length, IfOk};
-ghost use Rattle.rational.specs.Rational.{◌≈◌};
+ghost use Rattle.whole_math.specs.Rational.{◌≈◌};
 ghost use Rattle.eph_store.specs.Decimals.{decimal, value_of, IsFromTo, IsWithin};
 ghost use Rattle.sim_session.specs.Numbers.{IsNormal};
 ghost use Rattle.sim_session.specs.Satellites.{anomaly, node, root_a_tenths, IsSatellite, AreNormal, AreSatellites};

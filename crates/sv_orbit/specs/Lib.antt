@@ -1,2 +1,10 @@
 pub mod Solutions
 pub mod Worlds
+pub mod ClockWorlds
+pub mod Records
+pub mod ClockTerms
+pub mod Timings
+pub mod LeastBoxes
+pub mod FixedAngles
+pub mod Usable
+pub mod Directions

@@ -1,6 +1,6 @@
 -- What the bound on the relativity of a clock takes from a system's constants.
 use Rattle.std.specs.Prelude.{pos, ◌^◌}
-use Rattle.rational.specs.Rational.{Rational, of_whole, ◌*ʳ◌}
+use Rattle.whole_math.specs.Rational.{Rational, of_whole, ◌*ʳ◌}
 use Rattle.orbit_model.specs.Elements.{Constants}
 
 -- F² c⁴ and 4 μ

@@ -1,22 +1,20 @@
 //! The place and the clock of a record's satellite.
 ghost use Rattle.std.specs.Prelude.{◌≡◌, ◌*◌, ◌^◌, ◌<◌, ◌≤◌, pos, ◌≤ℤ◌};
 ghost use Rattle.std.specs.Int.{abs_diff};
-ghost use Rattle.rational.specs.Rational.{Rational, ◌≈◌, ◌-ʳ◌, ◌*ʳ◌, times};
+ghost use Rattle.whole_math.specs.Rational.{Rational, ◌≈◌, ◌-ʳ◌, ◌*ʳ◌, times};
 ghost use Rattle.iv_core.specs.Intervals.{Holds};
 ghost use Rattle.orbit_model.specs.Elements.{Constants, earth_rate, sent_at, elements_of, gps};
 ghost use Rattle.trig_box.specs.AnglePairs.{Pair};
 ghost use Rattle.orbit_model.specs.Solution.{Quantities, IsNearSolution, with_share, IsPairOf5};
-ghost use Rattle.orbit_clock.specs.Records.{constants_of};
-ghost use Rattle.orbit_clock.specs.Timings.{HoldsTiming};
+ghost use Rattle.sv_orbit.specs.Records.{constants_of};
+ghost use Rattle.sv_orbit.specs.Timings.{HoldsTiming};
 ghost use Rattle.orbit_place.specs.Held.{HoldsOrbit};
 ghost use Rattle.orbit_place.specs.Rotations.{HoldsBoth};
 ghost use Rattle.sv_orbit.specs.Solutions.{HoldsSolution};
 
-use crate::SvBox;
-use decimal_box::decimal_box;
+use crate::{AXIS, ClockRecord, SvBox, Timing, World, axis, decimal_box, timing_at};
 use eph_store::Eph;
 use gps_time::Tick;
-use orbit_clock::{AXIS, ClockRecord, Timing, World, axis, timing_at};
 use orbit_place::{
     ANGLE, EARTH_TURN, Orbit, PERIGEE_WIDTH, RADIUS_CHANGE, RELATIVE_RATE, Rotation, SMALL, Shape,
     TINY, earth_turn, eccentric_pair, place_of, relative_rate, rotation_of,

@@ -4,13 +4,13 @@
 //! as the contract of a function that does nothing.
 ghost use Rattle.std.specs.Prelude.{◌≡◌, ◌*◌, ◌^◌, ℕ, ℤ, pos, neg_ℤ};
 ghost use Rattle.std.proofs.Common.{lit<};
-ghost use Rattle.rational.specs.Rational.{◌≈◌, ◌≤ʳ◌, of_whole, ◌-ʳ◌, divided};
+ghost use Rattle.whole_math.specs.Rational.{◌≈◌, ◌≤ʳ◌, of_whole, ◌-ʳ◌, divided};
 ghost use Rattle.eph_store.specs.Decimals.{decimal};
 ghost use Rattle.orbit_model.specs.Elements.{earth_rate, sent_at, gps, galileo, world_of};
-ghost use Rattle.orbit_clock.specs.Records.{constants_of};
+ghost use Rattle.sv_orbit.specs.Records.{constants_of};
 ghost use Rattle.sv_orbit.specs.Worlds.{squared_effect, four_mu};
 
-use orbit_clock::World;
+use crate::World;
 
 /// The constants of Galileo for its letter, E, else those of GPS.
 pub fn world_of(system: u8) -> World

@@ -23,10 +23,10 @@ use Rattle.fix_decide.specs.Decisions.{IsSeparated, first_of}
 use Rattle.track_data.specs.declared.tails.TrackTail.{TrackTail}
 use Rattle.track_data.specs.declared.tails.TrackTail.TheVariants.{Overwidth}
 use Rattle.track_data.specs.TrackTails.{AreTrackVectors, IsTrackTailOf, track_tail_of_vectors}
-use Rattle.track_sum.specs.Fronts.{track_top}
-use Rattle.track_sum.specs.PairFronts.{IsFrontOfPair, move_at}
-use Rattle.track_sum.specs.Decided.{IsTrackForm, IsSearchedIn, AreFound, IsSumWide, pair_uppers}
-use Rattle.track_sum.proofs.BestByRatio.{track_best_by_ratio}
+use Rattle.track_form.specs.Fronts.{track_top}
+use Rattle.track_form.specs.PairFronts.{IsFrontOfPair, move_at}
+use Rattle.track_form.specs.SumDecided.{IsTrackForm, IsSearchedIn, AreFound, IsSumWide, pair_uppers}
+use Rattle.track_form.proofs.BestByRatio.{track_best_by_ratio}
 use Rattle.track_form.specs.Decided.{IsFormRefused, track_tail_of, IsTrackWideAt, IsTrackDecision, IsTrackBestWhereFixed}
 use Rattle.track_form.specs.Uppers.{IsSomeWide}
 use Rattle.track_form.proofs.Lists.{none_mapped}

@@ -5,3 +5,16 @@ pub mod OneVerdict
 pub mod WeakLaws
 pub mod Found
 pub mod MoreBudget
+pub mod SumOfForms
+pub mod Sizes
+pub mod Bounds
+pub mod Decision
+pub mod Best
+pub mod OneFront
+pub mod KeptFactors
+pub mod TrackEntries
+pub mod FrontLists
+pub mod OneForm
+pub mod SumTables
+pub mod BestByRatio
+pub mod RatioLaws

@@ -11,7 +11,7 @@ use Rattle.cert_data.specs.declared.verdicts.Verdict.TheVariants.{Certified}
 use Rattle.cert_check.proofs.MoreBudget.{keeps_more}
 use Rattle.track_data.specs.declared.tails.TrackTail.{TrackTail}
 use Rattle.track_data.specs.declared.tails.TrackTail.TheVariants.{Fixed, Unseparated, Weak, Overwidth, Spent}
-use Rattle.track_sum.specs.Decided.{IsSearchedIn, AreFound, IsMoveWide, IsSumWide}
+use Rattle.track_form.specs.SumDecided.{IsSearchedIn, AreFound, IsMoveWide, IsSumWide}
 use Rattle.track_form.specs.Decided.{IsTrackWideAt, IsTrackDecision, IsFinal}
 use Rattle.track_form.specs.Verdicts.{IsSaidOf, IsTrackVerdict}
 

@@ -27,11 +27,11 @@ use Rattle.cert_check.proofs.SameNumbers.{same_numbers}
 use Rattle.cert_check.proofs.SameForms as sessions
 use Rattle.track_data.specs.declared.tails.TrackTail.{TrackTail}
 use Rattle.track_data.specs.declared.tails.TrackTail.TheVariants.{Fixed, Unseparated, Weak, Overwidth, Spent}
-use Rattle.track_sum.specs.Fronts.{track_top}
-use Rattle.track_sum.specs.PairFronts.{IsRefusedPair, HasFront, move_at}
-use Rattle.track_sum.specs.Decided.{IsTrackForm, IsFinishRefused, AreFound, IsMoveWide, IsSumWide, pair_uppers}
-use Rattle.track_sum.proofs.OneFront.{no_front}
-use Rattle.track_sum.proofs.OneForm.{SameForm, one_form, same_moves, no_fronts, no_form, one_first, one_finish}
+use Rattle.track_form.specs.Fronts.{track_top}
+use Rattle.track_form.specs.PairFronts.{IsRefusedPair, HasFront, move_at}
+use Rattle.track_form.specs.SumDecided.{IsTrackForm, IsFinishRefused, AreFound, IsMoveWide, IsSumWide, pair_uppers}
+use Rattle.track_form.proofs.OneFront.{no_front}
+use Rattle.track_form.proofs.OneForm.{SameForm, one_form, same_moves, no_fronts, no_form, one_first, one_finish}
 use Rattle.track_form.specs.Decided.{IsFormRefused, track_tail_of, IsTrackWideAt, IsTrackDecision, IsSameTail}
 use Rattle.track_form.proofs.Lists.{not_mapped, any_mapped, not_all_and_any}
 

@@ -11,8 +11,8 @@ use Rattle.cert_check.specs.SameTails.{AreSameNumbers}
 use Rattle.cert_check.proofs.SameNumbers.{same_numbers_on, same_numbers_back}
 use Rattle.track_data.specs.declared.tails.TrackTail.{TrackTail}
 use Rattle.track_data.specs.declared.tails.TrackTail.TheVariants.{Fixed, Unseparated, Weak, Overwidth, Spent}
-use Rattle.track_sum.specs.Decided.{IsBestByRatio}
-use Rattle.track_sum.proofs.RatioLaws.{ratio_is_strict}
+use Rattle.track_form.specs.SumDecided.{IsBestByRatio}
+use Rattle.track_form.proofs.RatioLaws.{ratio_is_strict}
 use Rattle.track_form.specs.Decided.{IsSameTail, IsTrackDecision, IsTrackBestWhereFixed}
 use Rattle.track_form.specs.Verdicts.{IsSaidOf, IsTrackVerdict, IsTrackBestIn, IsTrackBestByRatioIn}
 use Rattle.track_form.proofs.OneDecision.{one_decision}

@@ -21,8 +21,8 @@ use Rattle.cert_data.specs.Tails.{IsMove}
 use Rattle.integer_form.specs.FloatPoint.{HasWide}
 use Rattle.lower_form.proofs.FrontLaws.{fewer}
 use Rattle.track_data.specs.TrackTails.{AreTrackVectors}
-use Rattle.track_sum.specs.PairFronts.{AreFronts, IsFrontOfPair, move_at}
-use Rattle.track_sum.specs.Decided.{IsTrackForm}
+use Rattle.track_form.specs.PairFronts.{AreFronts, IsFrontOfPair, move_at}
+use Rattle.track_form.specs.SumDecided.{IsTrackForm}
 
 -- ---- the integers
 pub some_integers : (arcs : List Arc) (signals : Signals) → 1 ≤ free_count arcs → 1 ≤ integer_count arcs (fine_signals signals)

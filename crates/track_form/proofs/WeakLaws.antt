@@ -2,8 +2,8 @@
 use Rattle.std.proofs.Common.{◌≡◌, inl, inr, ℕ, ◌+◌, ◌-◌, ◌^◌, ◌<◌, ◌≤◌, true, List, ℤ, Err, unsigned_abs, arith, refl, ap, ◌∙◌}
 use Rattle.std.proofs.lemmas.Bool.Decides.{nat_tests}
 use Rattle.quadratic_form.specs.Elimination.{Refusal, form_small, steps}
-use Rattle.form_tables.specs.Tables.{entry}
-use Rattle.form_tables.specs.declared.sizes.TheConstants.{MOST_COLUMNS, MOST_FACTORS}
+use Rattle.quadratic_form.specs.Tables.{entry}
+use Rattle.quadratic_form.specs.declared.sizes.TheConstants.{MOST_COLUMNS, MOST_FACTORS}
 use Rattle.normal_sum.specs.declared.normal.Normal.{Normal}
 use Rattle.integer_form.specs.declared.front_form.FrontForm.{FrontForm}
 use Rattle.integer_form.specs.declared.faults.LowerFault.{LowerFault}
@@ -19,7 +19,7 @@ use Rattle.obs_rows.specs.declared.pair_rows.PairRows.{PairRows}
 use Rattle.cert_data.specs.Tails.{IsWeak}
 use Rattle.cert_check.proofs.WeakLaws.{IsPivot, weak_of, weak_of_steps, reported_weak}
 use Rattle.track_data.specs.TrackTails.{IsTrackTailOf}
-use Rattle.track_sum.specs.PairFronts.{IsRefusedPair}
+use Rattle.track_form.specs.PairFronts.{IsRefusedPair}
 use Rattle.track_form.specs.Decided.{IsFormRefused, track_tail_of}
 use Rattle.track_form.proofs.OneDecision.{some_pair}
 

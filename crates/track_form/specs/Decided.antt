@@ -13,8 +13,8 @@ use Rattle.cert_check.specs.Settled.{IsSpent, IsTooWide}
 use Rattle.cert_check.specs.SameTails.{AreSameNumbers}
 use Rattle.track_data.specs.declared.tails.TrackTail.{TrackTail}
 use Rattle.track_data.specs.declared.tails.TrackTail.TheVariants.{Fixed, Unseparated, Weak, Overwidth, Spent}
-use Rattle.track_sum.specs.PairFronts.{IsFirstRefused}
-use Rattle.track_sum.specs.Decided.{IsTrackForm, IsFinishRefused, AreFound, IsMoveWide, IsSumWide, IsBestByRatio}
+use Rattle.track_form.specs.PairFronts.{IsFirstRefused}
+use Rattle.track_form.specs.SumDecided.{IsTrackForm, IsFinishRefused, AreFound, IsMoveWide, IsSumWide, IsBestByRatio}
 
 -- the rows have no form: the front of some pair is refused, the first of these with this fault, or none is and the finish of their sum is
 abbrev pub IsFormRefused : List Arc → List ℕ → List PairRows → LowerFault → Type 0

@@ -1,3 +1,10 @@
 pub mod Uppers
 pub mod Decided
 pub mod Verdicts
+pub mod Fronts
+pub mod Best
+pub mod PairFronts
+pub mod Factors
+pub mod SumDecided
+pub mod Parts
+pub mod Sums

@@ -8,7 +8,7 @@ use Rattle.cert_data.specs.declared.verdicts.Verdict.TheVariants.{Certified, Not
 use Rattle.cert_data.specs.declared.verdicts.Cause.TheVariants as cause
 use Rattle.track_data.specs.declared.tails.TrackTail.{TrackTail}
 use Rattle.track_data.specs.declared.tails.TrackTail.TheVariants.{Fixed, Unseparated, Weak, Overwidth, Spent}
-use Rattle.track_sum.specs.Decided.{IsStrictlyBest, IsBestByRatio}
+use Rattle.track_form.specs.SumDecided.{IsStrictlyBest, IsBestByRatio}
 use Rattle.track_form.specs.Decided.{IsTrackDecision, IsSameTail}
 
 -- What is said of rows that are decided to say d, where a text says t: certified where d is fixed and t is the same,

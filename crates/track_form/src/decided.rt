@@ -8,19 +8,19 @@ ghost use Rattle.int_search.specs.Answers.{IsTwoBest};
 ghost use Rattle.fix_decide.specs.Decisions.{first_of};
 ghost use Rattle.track_data.specs.TrackTails.{IsTrackTailOf};
 ghost use Rattle.track_data.specs.declared.tails.TrackTail.{TrackTail};
-ghost use Rattle.track_sum.specs.PairFronts.{move_at};
-ghost use Rattle.track_sum.specs.Factors.{AreFactors};
-ghost use Rattle.track_sum.specs.Decided.{IsTrackForm, IsSearchedIn};
+ghost use Rattle.track_form.specs.PairFronts.{move_at};
+ghost use Rattle.track_form.specs.Factors.{AreFactors};
+ghost use Rattle.track_form.specs.SumDecided.{IsTrackForm, IsSearchedIn};
 ghost use Rattle.track_form.specs.Decided.{IsTrackDecision, IsTrackBestWhereFixed, IsSameTail, track_tail_of};
 
 use crate::uppers::track_upper;
+use crate::{PairFactors, form_of_track, moves_at};
 use cert_check::values_from;
 use fix_decide::is_separated;
 use int_search::{SearchFault, TwoBest, two_best};
 use integer_form::{Form, LowerFault, Place};
 use std::alloc::{AllocError, Global};
 use track_data::{Items, Track, TrackTail};
-use track_sum::{PairFactors, form_of_track, moves_at};
 
 /// A refusal as a tail.
 fn track_tail_of(fault: LowerFault) -> TrackTail

@@ -5,8 +5,8 @@ ghost use Rattle.obs_rows.specs.declared.pair_rows.PairRows.{PairRows};
 ghost use Rattle.integer_form.specs.declared.faults.LowerFault.{LowerFault};
 ghost use Rattle.cert_data.specs.declared.verdicts.Verdict.TheVariants.{Certified};
 ghost use Rattle.track_data.specs.declared.tails.TrackTail.{TrackTail};
-ghost use Rattle.track_sum.specs.PairFronts.{HasFront};
-ghost use Rattle.track_sum.specs.Decided.{IsFinishRefused};
+ghost use Rattle.track_form.specs.PairFronts.{HasFront};
+ghost use Rattle.track_form.specs.SumDecided.{IsFinishRefused};
 ghost use Rattle.track_form.specs.Decided.{IsFormRefused, IsTrackDecision, IsFinal};
 ghost use Rattle.track_form.specs.Verdicts.{IsTrackVerdict};
 

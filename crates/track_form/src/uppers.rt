@@ -10,8 +10,8 @@ ghost use Rattle.obs_rows.specs.Integers.{integer_count};
 ghost use Rattle.obs_rows.specs.Signals.{fine_signals};
 ghost use Rattle.obs_rows.specs.declared.limits.TheConstants.{MOST_PAIRS};
 ghost use Rattle.fix_decide.specs.Widths.{IsWide};
-ghost use Rattle.track_sum.specs.Fronts.{track_top};
-ghost use Rattle.track_sum.specs.Decided.{pair_uppers};
+ghost use Rattle.track_form.specs.Fronts.{track_top};
+ghost use Rattle.track_form.specs.SumDecided.{pair_uppers};
 ghost use Rattle.track_form.specs.Uppers.{IsSomeWide};
 
 use fix_decide::pair_upper;

@@ -2,7 +2,7 @@
 use Rattle.std.proofs.Common.{◌≡◌, ◌+◌, ◌<◌, ℕ, ℤ, List, ◌∷◌, ◌++◌, length, drop, get_or, sym, ap, ◌∙◌, append_assoc}
 use Rattle.std.proofs.lemmas.List.{drop_more}
 use Rattle.obs_rows.specs.declared.pair_rows.PairRows.{PairRows}
-use Rattle.outcome_report.specs.Baselines.{baseline_of}
+use Rattle.report_text.specs.Baselines.{baseline_of}
 use Rattle.track_job.specs.TrackTexts.{pair_place_line, place_lines}
 
 pub place_pushed : (a b whole : List ℕ) (base : List ℤ) (pairs : List PairRows) (points moves : List (List ℤ)) (i : ℕ) (p : PairRows) (x m : List ℤ) → i < length pairs → i < length points

@@ -6,7 +6,7 @@ use Rattle.obs_rows.specs.declared.arcs.Arc.{Arc}
 use Rattle.obs_rows.specs.Arcs.{AreArcs}
 use Rattle.slip_arcs.specs.Linked.{IsCutOf}
 use Rattle.screening.specs.declared.screened.Screened.{Screened}
-use Rattle.run_options.specs.declared.options.Options.{Options}
+use Rattle.obs_rows.specs.declared.options.Options.{Options}
 use Rattle.session.specs.Origins.{origin_of}
 use Rattle.session.proofs.RangeLaws.{able, no_shifts}
 use Rattle.track_data.specs.declared.certs.TrackCert.{TrackCert}

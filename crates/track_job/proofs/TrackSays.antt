@@ -7,12 +7,12 @@ use Rattle.obs_rows.specs.Signals.{fine_signals}
 use Rattle.fix_decide.specs.Decisions.{first_of}
 use Rattle.cert_data.specs.declared.verdicts.Verdict.{Verdict}
 use Rattle.cert_data.specs.declared.verdicts.Verdict.TheVariants.{Certified}
-use Rattle.run_options.specs.declared.options.Options.{Options}
+use Rattle.obs_rows.specs.declared.options.Options.{Options}
 use Rattle.track_data.specs.declared.certs.TrackCert.{TrackCert}
 use Rattle.track_data.specs.declared.tails.TrackTail.{TrackTail}
 use Rattle.track_data.specs.declared.tails.TrackTail.TheVariants as tail
-use Rattle.track_sum.specs.Decided.{IsBestByRatio}
-use Rattle.track_sum.proofs.RatioLaws.{ratio_is_strict}
+use Rattle.track_form.specs.SumDecided.{IsBestByRatio}
+use Rattle.track_form.proofs.RatioLaws.{ratio_is_strict}
 use Rattle.track_form.specs.Decided.{IsTrackDecision, IsSameTail, IsTrackBestWhereFixed}
 use Rattle.track_form.specs.Verdicts.{IsTrackVerdict}
 use Rattle.track_job.specs.declared.answers.TrackOutcome.{TrackOutcome}

@@ -4,15 +4,15 @@ use Rattle.rinex_head.specs.declared.place.At.{At}
 use Rattle.obs_rows.specs.Signals.{fine_signals}
 use Rattle.cert_data.specs.declared.verdicts.Verdict.{Verdict}
 use Rattle.cert_data.specs.declared.verdicts.Verdict.TheVariants.{Certified}
-use Rattle.cert_report.specs.VerdictText.{verdict_text}
-use Rattle.cert_jobs.specs.CertJobs.{status_of}
+use Rattle.report_text.specs.VerdictText.{verdict_text}
+use Rattle.file_jobs.specs.CertJobs.{status_of}
 use Rattle.job_answers.specs.Endings.{Ending, ending}
 use Rattle.job_answers.specs.TextJobs.{TextJob}
 use Rattle.track_data.specs.declared.certs.TrackCert.{TrackCert}
-use Rattle.track_spelling.specs.Spelling.{track_spelling}
-use Rattle.track_spelling.specs.Lengths.{IsWholeTrackCert, IsTrackCertificate}
+use Rattle.track_text.specs.Spelling.{track_spelling}
+use Rattle.track_text.specs.Lengths.{IsWholeTrackCert, IsTrackCertificate}
 use Rattle.track_form.specs.Verdicts.{IsTrackVerdict, IsTrackBestIn, IsTrackBestByRatioIn}
-use Rattle.grammar_lines.specs.Beginnings.{NoneBegins}
+use Rattle.cert_text.specs.Beginnings.{NoneBegins}
 use Rattle.cert_text.specs.BeforePairs.{BeginsBefore}
 use Rattle.track_text.specs.Rules.{track_reading}
 

@@ -9,7 +9,7 @@ use Rattle.int_search.specs.declared.answer.TwoBest.{TwoBest}
 use Rattle.fix_decide.specs.Decisions.{first_of}
 use Rattle.cert_data.specs.declared.verdicts.Verdict.{Verdict}
 use Rattle.cert_data.specs.declared.verdicts.Verdict.TheVariants.{Certified}
-use Rattle.run_options.specs.declared.options.Options.{Options}
+use Rattle.obs_rows.specs.declared.options.Options.{Options}
 use Rattle.obs_rows.specs.BandSets.{bands_of}
 use Rattle.epoch_pair.specs.Beginnings.{IsPosition, AreSignals, AreTaken}
 use Rattle.session.specs.Origins.{origin_of}
@@ -18,7 +18,7 @@ use Rattle.job_answers.specs.Statuses.{verdict_status}
 use Rattle.job_answers.specs.Endings.{Ending, ending}
 use Rattle.track_data.specs.declared.certs.TrackCert.{TrackCert}
 use Rattle.track_data.specs.declared.tails.TrackTail.TheVariants.{Fixed}
-use Rattle.track_sum.specs.Decided.{IsStrictlyBest, IsBestByRatio}
+use Rattle.track_form.specs.SumDecided.{IsStrictlyBest, IsBestByRatio}
 use Rattle.track_form.specs.Verdicts.{IsTrackVerdict}
 use Rattle.track_rows.specs.Stands.{TrackStands}
 use Rattle.track_job.specs.declared.answers.TrackOutcome.{TrackOutcome}

@@ -10,7 +10,7 @@ use Rattle.epoch_pair.specs.declared.pairs.PairOf.{PairOf}
 use Rattle.obs_rows.specs.BandSets.{bands_of}
 use Rattle.screening.specs.declared.screened.Screened.{Screened}
 use Rattle.round_steps.specs.Counts.{AreFew, AreMany}
-use Rattle.run_options.specs.declared.options.Options.{Options}
+use Rattle.obs_rows.specs.declared.options.Options.{Options}
 use Rattle.epoch_pair.specs.Beginnings.{IsPosition, AreSignals, AreSparse, AreTaken, pairs_of}
 use Rattle.session.specs.Answers.{HasDelta}
 use Rattle.session.specs.ScreenedArcs.{AreScreenedArcs}
@@ -19,7 +19,7 @@ use Rattle.track_data.specs.declared.tails.TrackTail.{TrackTail}
 use Rattle.track_data.specs.declared.certs.TrackCert.{TrackCert}
 use Rattle.track_data.specs.declared.lost.Lost.{Lost}
 use Rattle.track_data.specs.declared.lost.Tracked.{Tracked}
-use Rattle.track_sum.specs.PairFronts.{HasFront}
+use Rattle.track_form.specs.PairFronts.{HasFront}
 use Rattle.track_form.specs.Decided.{IsTrackDecision, IsSameTail, IsTrackBestWhereFixed}
 use Rattle.track_job.specs.declared.answers.TrackOutcome.{TrackOutcome}
 use Rattle.track_job.specs.declared.answers.TrackAnswer.{TrackAnswer}

@@ -3,16 +3,16 @@
 use Rattle.std.specs.Prelude.{ℕ, ℤ, Bool, true, false, List, [], ◌∷◌, ◌++◌, codes}
 use Rattle.std.specs.Fmt.{decimal}
 use Rattle.obs_rows.specs.declared.pair_rows.PairRows.{PairRows}
-use Rattle.outcome_report.specs.Baselines.{baseline_of, place_line}
-use Rattle.outcome_report.specs.OutcomeText.{counts_text, decline_line, delta_text, verdict_line}
+use Rattle.report_text.specs.Baselines.{baseline_of, place_line}
+use Rattle.report_text.specs.OutcomeText.{counts_text, decline_line, delta_text, verdict_line}
 use Rattle.track_data.specs.declared.tracks.Track.{Track}
 use Rattle.track_data.specs.declared.tails.TrackTail.{TrackTail}
 use Rattle.track_data.specs.declared.tails.TrackTail.TheVariants.{Fixed}
 use Rattle.track_data.specs.declared.lost.Lost.{Lost}
 use Rattle.track_data.specs.declared.lost.LostCause.{LostCause}
 use Rattle.track_data.specs.declared.lost.LostCause.TheVariants.{Rows, Coarse, Unsettled, Y, Weak, Wide}
-use Rattle.track_spelling.specs.Spelling.{track_spelling}
-use Rattle.track_spelling.specs.Lengths.{IsWholeTrackCert}
+use Rattle.track_text.specs.Spelling.{track_spelling}
+use Rattle.track_text.specs.Lengths.{IsWholeTrackCert}
 use Rattle.track_job.specs.declared.answers.TrackOutcome.{TrackOutcome}
 use Rattle.track_job.specs.declared.answers.TrackAnswer.{TrackAnswer}
 use Rattle.track_job.specs.declared.answers.TrackAnswer.TheVariants as answer

@@ -1,7 +1,7 @@
 //! The command `check-track`.
 ghost use Rattle.track_job.specs.CheckJobs.{check_track_job};
 
-use cert_jobs::verdict_output;
+use file_jobs::verdict_output;
 use job_answers::{JobOutput, TextCommand};
 use rinex_head::TextFault;
 use std::alloc::Global;

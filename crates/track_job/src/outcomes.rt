@@ -11,10 +11,10 @@ ghost use Rattle.track_job.specs.TrackOutcomes.{IsTrackable, IsTrackAnswer, IsTr
 
 use crate::answers::{TrackAnswer, TrackOutcome};
 use epoch_pair::{Options, SessionFault, SessionStart, begin};
+use job_answers::SessionFiles;
 use obs_rows::Arc;
 use round_steps::{are_few, are_many, free_count};
 use session::{ScreenedArcs, have_delta, screened_arcs};
-use session_files::SessionFiles;
 use std::alloc::{AllocError, Global};
 use track_data::{Items, Lost, TrackCert, Tracked};
 use track_form::decide_track;

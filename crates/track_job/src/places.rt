@@ -2,11 +2,11 @@
 ghost use Rattle.std.specs.Prelude.{◌≡◌, ◌^◌, ◌++◌, OnOk, All, length};
 ghost use Rattle.obs_rows.specs.Ranges.{IsPoint, IsBelow};
 ghost use Rattle.cert_data.specs.Tails.{IsMove};
-ghost use Rattle.outcome_report.specs.Baselines.{baseline_of};
+ghost use Rattle.report_text.specs.Baselines.{baseline_of};
 ghost use Rattle.track_job.specs.TrackTexts.{pair_place_line, place_lines};
 
 use obs_rows::PairRows;
-use outcome_report::push_place;
+use report_text::push_place;
 use std::alloc::{AllocError, Global};
 
 fn push_pair_place(

@@ -6,11 +6,11 @@ ghost use Rattle.track_job.specs.TrackTexts.{track_answer_text, IsWholeTrackAnsw
 use crate::answers::{TrackAnswer, TrackOutcome};
 use crate::lost::push_lost_lines;
 use crate::places::push_places;
-use outcome_report::{push_counts, push_decline, push_delta, push_verdict_line};
+use report_text::{push_counts, push_decline, push_delta, push_verdict_line};
 use session_jobs::SessionOutcome;
 use std::alloc::{AllocError, Global};
 use track_data::{Track, TrackCert, TrackTail};
-use track_spelling::write_track;
+use track_text::write_track;
 
 // Appends the certificate, or why there is none.
 fn write_answer(alloc: Global, out: &mut Vec<u8>, answer: &TrackAnswer) -> Result<(), AllocError>

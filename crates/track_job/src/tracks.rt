@@ -3,9 +3,8 @@ ghost use Rattle.track_job.specs.TrackJobs.{AnswersTrack};
 
 use crate::outcomes::track_outcome;
 use epoch_pair::SessionFault;
-use job_answers::JobOutput;
-use run_options::Options;
-use session_files::{SessionCommand, SessionFiles};
+use job_answers::{JobOutput, SessionCommand, SessionFiles};
+use obs_rows::Options;
 use session_jobs::output_of;
 use std::alloc::Global;
 

@@ -22,7 +22,7 @@ use Rattle.screening.specs.declared.screened.Screened.{Screened}
 use Rattle.round_steps.specs.Shifts.{AreSameArcs, without_shifts}
 use Rattle.round_steps.proofs.ShiftLaws.{free_same}
 use Rattle.track_data.specs.declared.lost.Tracked.{Tracked}
-use Rattle.track_sum.specs.PairFronts.{HasFront}
+use Rattle.track_form.specs.PairFronts.{HasFront}
 use Rattle.track_rows.specs.Tracks.{unshifted, IsTrackOf}
 
 -- ---- the integers of the same arcs

@@ -17,7 +17,7 @@ use Rattle.obs_rows.proofs.ReceiverPointLaws.{receiver_is_point}
 use Rattle.row_build.proofs.UnusedLaws.{used_rows}
 use Rattle.round_steps.specs.Counts.{held}
 use Rattle.round_steps.specs.Runs.{EndsEarly, coarse_alone}
-use Rattle.track_sum.specs.PairFronts.{IsFrontOfPair, IsRefusedPair}
+use Rattle.track_form.specs.PairFronts.{IsFrontOfPair, IsRefusedPair}
 use Rattle.track_rows.specs.PairRules.{TrackSetting, rows_setting, rules_of_pair}
 use Rattle.track_rows.specs.Trials.{IsFew, IsSettledAt, IsLost, AreTried, IsTried, MayBeFar, IsWeak, IsWide, IsTrackedBy, FitsTrack, cause_of}
 

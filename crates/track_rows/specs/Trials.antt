@@ -21,7 +21,7 @@ use Rattle.round_steps.specs.Shifts.{AreSameArcs, without_shifts}
 use Rattle.round_steps.specs.Runs.{EndsEarly, SettlesAt, coarse_alone}
 use Rattle.track_data.specs.declared.lost.LostCause.{LostCause}
 use Rattle.track_data.specs.declared.lost.LostCause.TheVariants.{Rows, Coarse, Unsettled, Y, Weak, Wide}
-use Rattle.track_sum.specs.PairFronts.{HasFront, IsRefusedPair}
+use Rattle.track_form.specs.PairFronts.{HasFront, IsRefusedPair}
 use Rattle.track_rows.specs.declared.trials.Trial.{Trial}
 use Rattle.track_rows.specs.declared.trials.Trial.TheVariants.{Lost, Tracked}
 use Rattle.track_rows.specs.PairRules.{TrackSetting, rows_setting, rules_of_pair}

@@ -17,7 +17,7 @@ use round_steps::{CoarseEnd, LEAST_SATELLITES, coarse_rounds, held};
 use row_build::RowFault;
 use std::alloc::{AllocError, Global};
 use track_data::LostCause;
-use track_sum::PairRoom;
+use track_form::PairRoom;
 
 /// What became of a pair that was tried.
 #[derive(Debug, Drop)]

@@ -14,7 +14,7 @@ use crate::trials::{Trial, try_pair};
 use obs_rows::{Arc, PairRows};
 use std::alloc::{AllocError, Global};
 use track_data::{Lost, LostCause};
-use track_sum::PairRoom;
+use track_form::PairRoom;
 
 /// The track of the pairs so far, and those of them that it hasn't got.
 #[derive(Debug, Drop)]

@@ -2,7 +2,7 @@
 use Rattle.std.proofs.Common.{◌≡◌, ◌+◌, ◌-◌, ◌<◌, ◌≤◌, ◌^◌, ℕ, ℤ, suc, pos, Bool, true, false, List, [], ◌∷◌, ◌++◌, length, take, codes, All, Result, Ok, Err, refl, sym, ap, ◌∙◌, subst, lit≤, arith, append_assoc}
 use Rattle.std.proofs.lemmas.List.{append-nil, length-take-le}
 use Rattle.std.proofs.lemmas.List.Elements.{All-head, All-tail}
-use Rattle.form_tables.specs.declared.sizes.TheConstants.{MOST_INTEGERS}
+use Rattle.quadratic_form.specs.declared.sizes.TheConstants.{MOST_INTEGERS}
 use Rattle.obs_rows.specs.declared.arcs.Arc.{Arc}
 use Rattle.obs_rows.specs.declared.units.TheConstants.{SIGNALS}
 use Rattle.obs_rows.specs.declared.rows.Row.{Row}
@@ -34,17 +34,17 @@ use Rattle.cert_lines.proofs.TailSpells.{values_spell, last_read, last_length}
 use Rattle.cert_lines.proofs.LetterLaws.{not_one, letters_of_signals, letters_spell, letters_length, system_spells}
 use Rattle.cert_lines.proofs.Spreading.{signals_good}
 use Rattle.cert_data.specs.Tails.{IsMove}
-use Rattle.cert_spelling.specs.Spelling.{spent_line}
-use Rattle.grammar_lines.proofs.PlaceLaws.{place_length}
-use Rattle.grammar_lines.specs.Beginnings.{NoneBegins}
-use Rattle.grammar_lines.proofs.FirstLines.{none_agrees}
-use Rattle.grammar_lines.proofs.Accepts.{AreAccepted, step, line_accepted, end_accepted, RisesFrom, rises, rows_accepted, counted_arcs_accepted}
+use Rattle.cert_text.specs.Spelling.{spent_line}
+use Rattle.cert_text.proofs.PlaceLaws.{place_length}
+use Rattle.cert_text.specs.Beginnings.{NoneBegins}
+use Rattle.cert_text.proofs.FirstLines.{none_agrees}
+use Rattle.cert_text.proofs.Accepts.{AreAccepted, step, line_accepted, end_accepted, RisesFrom, rises, rows_accepted, counted_arcs_accepted}
 use Rattle.track_data.specs.TrackTails.{AreTrackVectors, IsTrackTailOf}
 use Rattle.track_data.specs.declared.tails.TrackTail.{TrackTail}
 use Rattle.track_data.specs.declared.tails.TrackTail.TheVariants.{Fixed, Unseparated, Weak, Overwidth, Spent}
 use Rattle.track_data.specs.declared.certs.TrackCert.{TrackCert}
-use Rattle.track_spelling.specs.Lengths.{AreTriples, AreWholeTrackVectors, IsWholeTrackTail, IsWholeTrackCert, IsTrackCertificate}
-use Rattle.track_spelling.specs.Spelling.{track_form, track_head_lines, placed_pair_lines, all_placed_pairs, counted_placed_pairs, move_line, move_lines, track_vectors_lines, track_tail_lines, lines_of_track, track_spelling}
+use Rattle.track_text.specs.Lengths.{AreTriples, AreWholeTrackVectors, IsWholeTrackTail, IsWholeTrackCert, IsTrackCertificate}
+use Rattle.track_text.specs.Spelling.{track_form, track_head_lines, placed_pair_lines, all_placed_pairs, counted_placed_pairs, move_line, move_lines, track_vectors_lines, track_tail_lines, lines_of_track, track_spelling}
 use Rattle.track_text.specs.TailForms.{move_in, declined_in}
 use Rattle.track_text.specs.Rules.{Frame, frame, Form, Ratio, Budget, SystemLine, Base, Letters, ArcCount, PairCount, PairPoint, Tail, Second, Values, Last, End}
 use Rattle.track_text.specs.Rules.{numbers_of, track_rules, track_reading, admit, before_arcs, before_pairs, before_rows, before_moves}

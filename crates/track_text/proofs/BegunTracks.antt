@@ -20,8 +20,8 @@ use Rattle.cert_lines.specs.declared.version.Version.TheVariants.{Two}
 use Rattle.cert_lines.specs.Lines.{count_line, vector_line, system_line, signals_line, arc_line, arc_lines, counted_arcs}
 use Rattle.cert_lines.specs.Forms.{count_in, vector_in, system_in, Letters as LettersOf, signals_in, signals_of, arc_in}
 use Rattle.cert_lines.proofs.LetterLaws.{not_one}
-use Rattle.grammar_lines.specs.LineParts.{word_in}
-use Rattle.grammar_lines.proofs.ArcSteps.{arcs_took}
+use Rattle.cert_text.specs.LineParts.{word_in}
+use Rattle.cert_text.proofs.ArcSteps.{arcs_took}
 use Rattle.cert_data.specs.declared.certs.Cert.{Cert}
 use Rattle.cert_text.specs.BeforePairs.{lines_before, SomeBegins, BeginsBefore}
 use Rattle.cert_text.proofs.ReadBack.{word_was, count_was, point_was, system_was, signals_were, arc_was}
@@ -30,8 +30,8 @@ use Rattle.cert_text.proofs.BegunCertificates.{admitted_lines, arc_lines-append,
 use Rattle.track_data.specs.declared.tracks.Track.{Track}
 use Rattle.track_data.specs.declared.certs.TrackCert.{TrackCert}
 use Rattle.track_data.specs.declared.tails.TrackTail.TheVariants.{Overwidth}
-use Rattle.track_spelling.specs.Spelling.{track_form, counted_placed_pairs, track_tail_lines, lines_of_track, track_spelling}
-use Rattle.track_spelling.specs.Lengths.{IsWholeTrackCert, IsTrackCertificate}
+use Rattle.track_text.specs.Spelling.{track_form, counted_placed_pairs, track_tail_lines, lines_of_track, track_spelling}
+use Rattle.track_text.specs.Lengths.{IsWholeTrackCert, IsTrackCertificate}
 use Rattle.track_text.specs.Rules.{Expected, Frame, frame, Form, Ratio, Budget, SystemLine, Base, Letters, ArcCount, NextArc, PairCount, NextPair, PairPoint, NextRow, Tail, Second, NextMove, Values, Last, End}
 use Rattle.track_text.specs.Rules.{before_arcs, before_pairs, admit, track_rules, track_reading}
 use Rattle.track_text.proofs.Feeds.{track_feed}

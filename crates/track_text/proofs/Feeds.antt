@@ -16,13 +16,13 @@ use Rattle.cert_lines.proofs.Sizes.{moves_small}
 use Rattle.cert_lines.proofs.Feeds.{worded, count_feed, point_feed, entries_feed, counted_arcs_feed, rows_feed, pair_line_feed, values_feed, weak_feed}
 use Rattle.cert_lines.proofs.LetterLaws.{not_one, signals_feed, system_line_feed}
 use Rattle.cert_data.specs.Tails.{IsMove}
-use Rattle.grammar_lines.proofs.PlaceLaws.{place_feed}
+use Rattle.cert_text.proofs.PlaceLaws.{place_feed}
 use Rattle.track_data.specs.TrackTails.{AreTrackVectors, IsTrackTailOf}
 use Rattle.track_data.specs.declared.tracks.Track.{Track}
 use Rattle.track_data.specs.declared.tails.TrackTail.{TrackTail}
 use Rattle.track_data.specs.declared.tails.TrackTail.TheVariants.{Fixed, Unseparated, Weak, Overwidth, Spent}
 use Rattle.track_data.specs.declared.certs.TrackCert.{TrackCert}
-use Rattle.track_spelling.specs.Spelling.{track_head_lines, placed_pair_lines, all_placed_pairs, counted_placed_pairs, track_lines, move_lines, track_vectors_lines, track_tail_lines, lines_of_track}
+use Rattle.track_text.specs.Spelling.{track_head_lines, placed_pair_lines, all_placed_pairs, counted_placed_pairs, track_lines, move_lines, track_vectors_lines, track_tail_lines, lines_of_track}
 
 -- the number of a pair, and its move
 pub move_small : (p : PairRows) (m : List ℤ) → IsMove m → AreSmall (pos p.number ∷ m)

@@ -8,3 +8,4 @@ pub mod Accepted
 pub mod SameStructs
 pub mod SameTrack
 pub mod BegunTracks
+pub mod Blocks

@@ -9,9 +9,9 @@ use Rattle.cert_lines.specs.Forms.{count_in, vector_in, system_in, Letters as Le
 use Rattle.cert_lines.specs.TailForms.{begins, values_in, last_in}
 use Rattle.cert_lines.specs.declared.ranges.TheConstants.{COORDINATES, ENTRIES}
 use Rattle.cert_lines.specs.declared.version.Version.TheVariants.{Two}
-use Rattle.grammar_lines.specs.LineParts.{word_in, TakesLine, IsEnd}
-use Rattle.grammar_lines.specs.Parts.{ArcsAreTaken, RowsAreTaken}
-use Rattle.track_spelling.specs.Spelling.{track_form}
+use Rattle.cert_text.specs.LineParts.{word_in, TakesLine, IsEnd}
+use Rattle.cert_text.specs.Parts.{ArcsAreTaken, RowsAreTaken}
+use Rattle.track_text.specs.Spelling.{track_form}
 use Rattle.track_text.specs.TailForms.{move_in, declined_in}
 use Rattle.track_text.specs.Rules.{Expected, Frame, frame, Form, Ratio, Budget, SystemLine, Base, Letters, ArcCount, PairCount, PairPoint, Tail, Second, Values, Last, End}
 use Rattle.track_text.specs.Rules.{track_rules, admit, before_arcs, before_pairs, before_rows, before_moves}

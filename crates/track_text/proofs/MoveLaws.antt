@@ -14,7 +14,7 @@ use Rattle.cert_words.proofs.RangeLaws.{all_passed}
 use Rattle.cert_data.specs.Tails.{IsMove}
 use Rattle.cert_lines.specs.declared.ranges.TheConstants.{MOVES}
 use Rattle.cert_lines.proofs.Values.{all_small}
-use Rattle.track_spelling.specs.Spelling.{move_line, move_lines}
+use Rattle.track_text.specs.Spelling.{move_line, move_lines}
 
 -- a line that was read is the spelling of the move
 move_read : (line : List ℕ) (ns s part : List Number) (x : Number) (number n : ℕ) (m : List ℤ) → Ok ns ≡ numbers_behind (codes "move") 4 line → length ns ≡ 4 → s ≡ ns

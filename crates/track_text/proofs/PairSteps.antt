@@ -2,7 +2,7 @@
 use Rattle.std.proofs.Common.{◌≡◌, ◌<◌, ◌≤◌, ℕ, ℤ, List, [], ◌∷◌, ◌++◌, length, codes, All, AllPairs, sym, ap, ◌∙◌, subst, arith, append_assoc}
 use Rattle.obs_rows.specs.declared.pair_rows.PairRows.{PairRows}
 use Rattle.cert_lines.specs.Lines.{pair_line, vector_line, row_lines}
-use Rattle.track_spelling.specs.Spelling.{placed_pair_lines, all_placed_pairs}
+use Rattle.track_text.specs.Spelling.{placed_pair_lines, all_placed_pairs}
 
 pub placed_took : (ss : List ℕ) (pairs : List PairRows) (points : List (List ℤ)) (p : PairRows) (x : List ℤ) (rest : List (List ℕ)) → length points ≡ length pairs
     → all_placed_pairs ss pairs points ++ (placed_pair_lines ss p x ++ rest) ≡ all_placed_pairs ss (pairs ++ p ∷ []) (points ++ x ∷ []) ++ rest

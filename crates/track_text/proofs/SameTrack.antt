@@ -21,14 +21,14 @@ use Rattle.cert_lines.proofs.TailSpells.{last_read}
 use Rattle.cert_lines.proofs.SameLines.{cons_same, numbers_same, count_same, system_line_same, signals_line_same, rows_same, pair_line_same, counted_arcs_same}
 use Rattle.cert_lines.proofs.SameStructs.{pair_same}
 use Rattle.cert_data.specs.Tails.{IsMove}
-use Rattle.cert_spelling.specs.Spelling.{spent_line}
-use Rattle.cert_spelling.proofs.SameVectors.{bests_same}
+use Rattle.cert_text.specs.Spelling.{spent_line}
+use Rattle.cert_text.proofs.SameVectors.{bests_same}
 use Rattle.track_data.specs.TrackTails.{AreTrackVectors, IsTrackTailOf, track_tail_of_vectors}
 use Rattle.track_data.specs.declared.tails.TrackTail.{TrackTail}
 use Rattle.track_data.specs.declared.tails.TrackTail.TheVariants.{Fixed, Unseparated, Weak, Overwidth, Spent}
 use Rattle.track_data.specs.declared.certs.TrackCert.{TrackCert}
-use Rattle.track_spelling.specs.Lengths.{AreTriples, AreWholeTrackVectors, IsWholeTrackTail, IsWholeTrackCert}
-use Rattle.track_spelling.specs.Spelling.{placed_pair_lines, all_placed_pairs, counted_placed_pairs, move_line, move_lines, track_vectors_lines, track_tail_lines, lines_of_track, track_spelling}
+use Rattle.track_text.specs.Lengths.{AreTriples, AreWholeTrackVectors, IsWholeTrackTail, IsWholeTrackCert}
+use Rattle.track_text.specs.Spelling.{placed_pair_lines, all_placed_pairs, counted_placed_pairs, move_line, move_lines, track_vectors_lines, track_tail_lines, lines_of_track, track_spelling}
 use Rattle.track_text.specs.TailForms.{declined_in}
 use Rattle.track_text.proofs.Feeds.{move_small, track_feed}
 use Rattle.track_text.proofs.TailSpells.{weak_read, spent_read, place_line, place_read}

@@ -5,8 +5,8 @@ use Rattle.int_search.specs.declared.answer.TwoBest.{TwoBest}
 use Rattle.cert_lines.specs.Lines.{vector_line, values_line, last_line}
 use Rattle.track_data.specs.declared.tails.TrackTail.{TrackTail}
 use Rattle.track_data.specs.TrackTails.{track_tail_of_vectors}
-use Rattle.track_spelling.specs.Lengths.{AreWholeTrackVectors, IsWholeTrackTail}
-use Rattle.track_spelling.specs.Spelling.{move_lines, track_vectors_lines, track_tail_lines}
+use Rattle.track_text.specs.Lengths.{AreWholeTrackVectors, IsWholeTrackTail}
+use Rattle.track_text.specs.Spelling.{move_lines, track_vectors_lines, track_tail_lines}
 
 -- the lines of two vectors as a tail
 pub vectors_told : (pairs : List PairRows) (fixed : Bool) (h : ℕ) (moves : List (List ℤ)) (best : TwoBest) (top : ℤ) (t : TrackTail) → t ≡ track_tail_of_vectors fixed h moves best top

@@ -20,9 +20,9 @@ use Rattle.cert_lines.proofs.LineSpells.{HaveValues, placed_values, split_values
 use Rattle.cert_lines.proofs.TailSpells.{weak_spells}
 use Rattle.cert_data.specs.Tails.{IsMove, IsWeak}
 use Rattle.cert_data.specs.Places.{name_of_place}
-use Rattle.cert_spelling.specs.Spelling.{spent_line}
+use Rattle.cert_text.specs.Spelling.{spent_line}
 use Rattle.track_data.specs.declared.tails.TrackTail.TheVariants.{Weak, Overwidth, Spent}
-use Rattle.track_spelling.specs.Spelling.{move_line}
+use Rattle.track_text.specs.Spelling.{move_line}
 use Rattle.track_text.specs.TailForms.{move_in, declined_in}
 use Rattle.track_text.proofs.Feeds.{move_small}
 

@@ -1,2 +1,4 @@
 pub mod TailForms
 pub mod Rules
+pub mod Spelling
+pub mod Lengths

@@ -15,8 +15,8 @@ use Rattle.cert_lines.specs.Forms.{count_in, vector_in, system_in, signals_in, s
 use Rattle.cert_lines.specs.declared.ranges.TheConstants.{COORDINATES, ENTRIES}
 use Rattle.cert_lines.specs.declared.version.Version.TheVariants.{Two}
 use Rattle.cert_lines.specs.TailForms.{begins, values_in, last_in}
-use Rattle.grammar_lines.specs.LineParts.{word_in}
-use Rattle.track_spelling.specs.Spelling.{track_form}
+use Rattle.cert_text.specs.LineParts.{word_in}
+use Rattle.track_text.specs.Spelling.{track_form}
 use Rattle.track_text.specs.TailForms.{move_in, declined_in}
 
 abbrev pub numbers_of : List PairRows → List ℕ

@@ -8,7 +8,7 @@ use Rattle.cert_lines.specs.TailForms.{begins, weak_in}
 use Rattle.cert_lines.specs.declared.ranges.TheConstants.{MOVES}
 use Rattle.cert_lines.specs.declared.version.Version.TheVariants.{Two}
 use Rattle.cert_lines.specs.Versions.{last_column}
-use Rattle.grammar_lines.specs.TailParts.{place_in}
+use Rattle.cert_text.specs.TailParts.{place_in}
 use Rattle.track_data.specs.declared.tails.TrackTail.{TrackTail}
 use Rattle.track_data.specs.declared.tails.TrackTail.TheVariants.{Weak, Overwidth, Spent}
 

@@ -30,5 +30,5 @@ pub(crate) fn read_arcs(
     ensures used { IfOk result (All (HasUsedShifts (fine_signals signals))) }
     ensures whole { IfOk result (All IsWholeArc) }
 {
-    grammar_lines::read_arcs::<TrackText>(alloc, lines, Version::Two, signals)
+    cert_text::read_arcs::<TrackText>(alloc, lines, Version::Two, signals)
 }

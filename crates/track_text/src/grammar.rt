@@ -1,7 +1,7 @@
 //! The form of the certificate of a track.
 ghost use Rattle.track_text.specs.Rules.{Expected, track_rules};
 
-use grammar_lines::Grammar;
+use cert_text::Grammar;
 
 /// Certificates of tracks.
 pub struct TrackText {}

@@ -3,12 +3,12 @@ ghost use Rattle.std.specs.Prelude.{◌≡◌, ◌≤◌, ◌++◌, length, IfOk
 ghost use Rattle.obs_rows.specs.Ranges.{IsPoint, IsSystem};
 ghost use Rattle.obs_rows.specs.Signals.{fine_signals};
 ghost use Rattle.rinex_head.specs.LineRules.{ReadsFree};
-ghost use Rattle.track_spelling.specs.Spelling.{track_head_lines};
+ghost use Rattle.track_text.specs.Spelling.{track_head_lines};
 ghost use Rattle.track_text.specs.Rules.{track_rules, frame, Form, ArcCount};
 
 use crate::grammar::TrackText;
 use cert_lines::{COORDINATES, Version};
-use grammar_lines::{next_count, next_letters, next_system, next_triple, next_word};
+use cert_text::{next_count, next_letters, next_system, next_triple, next_word};
 use line_source::Lines;
 use obs_rows::{MOST_BUDGET, MOST_RATIO, Signals};
 use rinex_head::At;

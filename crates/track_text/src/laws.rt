@@ -4,8 +4,8 @@ ghost use Rattle.rinex_head.specs.declared.place.At.{At};
 ghost use Rattle.rinex_head.specs.OwnFlaws.{IsOwnFlaw};
 ghost use Rattle.line_source.specs.EndedLines.{ended_lines};
 ghost use Rattle.track_data.specs.declared.certs.TrackCert.{TrackCert};
-ghost use Rattle.track_spelling.specs.Spelling.{track_spelling};
-ghost use Rattle.track_spelling.specs.Lengths.{IsWholeTrackCert};
+ghost use Rattle.track_text.specs.Spelling.{track_spelling};
+ghost use Rattle.track_text.specs.Lengths.{IsWholeTrackCert};
 ghost use Rattle.track_text.specs.Rules.{track_rules, track_reading};
 
 /// No two certificates of tracks have the same spelling: what is written of one determines it.

@@ -2,8 +2,8 @@
 ghost use Rattle.std.specs.Prelude.{◌≡◌, ◌≤◌, ◌++◌, ◌∷◌, ℕ, List, All, length, IfOk};
 ghost use Rattle.rinex_head.specs.LineRules.{Reads, ReadsFree};
 ghost use Rattle.cert_data.specs.Tails.{IsMove};
-ghost use Rattle.track_spelling.specs.Lengths.{AreTriples};
-ghost use Rattle.track_spelling.specs.Spelling.{move_line, move_lines};
+ghost use Rattle.track_text.specs.Lengths.{AreTriples};
+ghost use Rattle.track_text.specs.Spelling.{move_line, move_lines};
 ghost use Rattle.track_text.specs.TailForms.{move_in};
 ghost use Rattle.track_text.specs.Rules.{track_rules, numbers_of, before_moves, Values};
 

@@ -9,13 +9,13 @@ ghost use Rattle.obs_rows.specs.declared.limits.TheConstants.{MOST_SATELLITES, M
 ghost use Rattle.rinex_head.specs.LineRules.{Reads, ReadsFree};
 ghost use Rattle.cert_lines.specs.Lengths.{IsWholePair};
 ghost use Rattle.cert_lines.specs.Lines.{pair_line, vector_line};
-ghost use Rattle.track_spelling.specs.Lengths.{AreTriples};
-ghost use Rattle.track_spelling.specs.Spelling.{placed_pair_lines, counted_placed_pairs};
+ghost use Rattle.track_text.specs.Lengths.{AreTriples};
+ghost use Rattle.track_text.specs.Spelling.{placed_pair_lines, counted_placed_pairs};
 ghost use Rattle.track_text.specs.Rules.{track_rules, frame, numbers_of, before_pairs, before_rows, PairCount, Tail};
 
 use crate::grammar::TrackText;
 use cert_lines::{COORDINATES, PairHead, Version};
-use grammar_lines::{next_count, next_pair_head, next_triple, read_rows};
+use cert_text::{next_count, next_pair_head, next_triple, read_rows};
 use line_source::Lines;
 use obs_rows::{Arc, MOST_PAIRS, PairList, PairRows, Signals};
 use rinex_head::{At, TextFault};

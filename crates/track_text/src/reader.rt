@@ -3,9 +3,9 @@ ghost use Rattle.std.specs.Prelude.{◌≡◌, ◌≤◌, [], length, Ok, Err, I
 ghost use Rattle.line_source.specs.declared.transfer.TheConstants.{MAX_FILE};
 ghost use Rattle.rinex_head.specs.LineRules.{rest_gives, Gives, OnRefusal, IfRefused};
 ghost use Rattle.track_data.specs.declared.certs.TrackCert.{TrackCert};
-ghost use Rattle.track_spelling.specs.Spelling.{lines_of_track, track_spelling};
-ghost use Rattle.track_spelling.specs.Lengths.{IsWholeTrackCert, IsTrackCertificate};
-ghost use Rattle.grammar_lines.specs.Beginnings.{NoneBegins};
+ghost use Rattle.track_text.specs.Spelling.{lines_of_track, track_spelling};
+ghost use Rattle.track_text.specs.Lengths.{IsWholeTrackCert, IsTrackCertificate};
+ghost use Rattle.cert_text.specs.Beginnings.{NoneBegins};
 ghost use Rattle.cert_text.specs.BeforePairs.{BeginsBefore};
 ghost use Rattle.track_text.specs.Rules.{track_rules, track_reading, Form, End};
 
@@ -26,7 +26,7 @@ fn read_end(lines: &mut Lines<'_>) -> Result<(), At>
         (λ u. (rest_gives track_rules lines.old End ≡ Ok tt) × (lines.old.left ≡ []))
         (λ at. rest_gives track_rules lines.old End ≡ Err at) }
 {
-    grammar_lines::read_end::<TrackText>(lines)
+    cert_text::read_end::<TrackText>(lines)
 }
 
 fn read_lines(alloc: Global, mut lines: Lines<'_>) -> Result<TrackCert, TextFault>

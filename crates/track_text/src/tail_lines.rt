@@ -3,12 +3,12 @@ ghost use Rattle.std.specs.Prelude.{◌≡◌, ◌≤◌, ◌∷◌, [], ℕ, Li
 ghost use Rattle.obs_rows.specs.declared.arcs.Arc.{Arc};
 ghost use Rattle.obs_rows.specs.declared.pair_rows.PairRows.{PairRows};
 ghost use Rattle.track_data.specs.TrackTails.{IsTrackTailOf};
-ghost use Rattle.track_spelling.specs.Spelling.{track_tail_lines};
-ghost use Rattle.track_spelling.specs.Lengths.{IsWholeTrackTail};
+ghost use Rattle.track_text.specs.Spelling.{track_tail_lines};
+ghost use Rattle.track_text.specs.Lengths.{IsWholeTrackTail};
 ghost use Rattle.track_text.specs.TailForms.{weak_tail_in, spent_in, overwidth_in, declined_in};
 
 use cert_lines::{Version, WeakPivot, begins, count_in, weak_in};
-use grammar_lines::place_in;
+use cert_text::place_in;
 use rinex_head::Flaw;
 use track_data::TrackTail;
 

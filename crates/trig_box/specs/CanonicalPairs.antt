@@ -1,6 +1,6 @@
 -- The angle pair that begins with the first Taylor sums.
 use Rattle.std.specs.Prelude.{ℕ}
-use Rattle.rational.specs.Rational.{Rational, ◌≈◌}
+use Rattle.whole_math.specs.Rational.{Rational, ◌≈◌}
 use Rattle.trig_box.specs.AnglePairs.{cosine_sum, sine_sum, Pair, doubled, InRange, part}
 
 -- the Taylor sums of v through the degrees 18 and 19

@@ -1,6 +1,6 @@
 //! The point pair of one angle, from which boxes of the pairs of all angles nearby are made.
 ghost use Rattle.std.specs.Prelude.{◌≡◌, ◌*◌, ◌^◌, ◌≤◌, pos, ◌+ℤ◌, ◌-ℤ◌, ◌*ℤ◌, neg_ℤ, ◌≤ℤ◌, unsigned_abs};
-ghost use Rattle.rational.specs.Rational.{Rational, InBox};
+ghost use Rattle.whole_math.specs.Rational.{Rational, InBox};
 ghost use Rattle.trig_box.specs.AnglePairs.{IsAnglePair};
 ghost use Rattle.trig_box.specs.PairBoxes.{HoldsPair, AreAtMostWide, HasEndsWithin};
 ghost use Rattle.trig_box.specs.Chain.{code_pair};

@@ -6,7 +6,7 @@ use Rattle.std.proofs.Math.Numerals.{lt-add-one}
 use Rattle.whole_math.proofs.Ring.{◌⊖◌, ◌⊗◌}
 use Rattle.whole_math.proofs.Extremes.{max_is, max_case}
 use Rattle.whole_math.proofs.Inequalities.{le_by, prod_nn, less_nn, pos_nn, nat, le_trans_ℤ}
-use Rattle.rational.specs.Rational.{◌≤ʳ◌}
+use Rattle.whole_math.specs.Rational.{◌≤ʳ◌}
 use Rattle.obs_rows.specs.declared.arcs.Arc.{Arc}
 use Rattle.obs_rows.specs.declared.pair_rows.PairRows.{PairRows}
 use Rattle.obs_rows.specs.Integers.{integer_count}

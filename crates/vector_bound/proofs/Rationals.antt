@@ -4,11 +4,11 @@ use Rattle.whole_math.specs.Vectors.{len}
 use Rattle.whole_math.specs.Bounds.{Within}
 use Rattle.whole_math.proofs.Ring.{◌⊕◌, ◌⊖◌, ◌⊗◌, ng}
 use Rattle.whole_math.proofs.Inequalities.{le_by, both_nn, prod_nn, less_nn, pos_nn, pos_one, le_eq, nat}
-use Rattle.rational.specs.Rational.{Rational, ◌≤ʳ◌, AreWithin, of_whole, ◌-ʳ◌}
-use Rattle.rational.proofs.Over.{Over, over_whole, over_sub, over_wide, over_le}
+use Rattle.whole_math.specs.Rational.{Rational, ◌≤ʳ◌, AreWithin, of_whole, ◌-ʳ◌}
+use Rattle.whole_math.proofs.Over.{Over, over_whole, over_sub, over_wide, over_le}
 use Rattle.quadratic_form.specs.Rows.{WholeBaseline, SignalGroup, whole_sum_of_squares, GroupsOf}
 use Rattle.quadratic_form.specs.RationalData.{RowData, FitsAll, sum_of_squares, moved}
-use Rattle.rational.specs.Spread.{Baseline}
+use Rattle.whole_math.specs.Spread.{Baseline}
 use Rattle.quadratic_form.proofs.RationalData.{OverBase, F_over}
 use Rattle.quadratic_form.proofs.RationalData.{CommonAll, CommonBase, common, common_base, swap, fits_all_over}
 use Rattle.vector_bound.proofs.Curvatures.{cancel_one}

@@ -7,15 +7,15 @@ use Rattle.whole_math.proofs.Ring.{◌⊕◌, ◌⊖◌, ◌⊗◌}
 use Rattle.whole_math.proofs.Order.{lins}
 use Rattle.whole_math.proofs.Rounding.{ceil_close}
 use Rattle.whole_math.proofs.Inequalities.{le_by, prod_nn, less_nn, pos_nn, le_eq, same_by, nat}
-use Rattle.rational.specs.Rational.{Rational, of_whole, ◌-ʳ◌, ◌≤ʳ◌, AreWithin}
-use Rattle.rational.proofs.Laws.{≤ʳ_trans}
+use Rattle.whole_math.specs.Rational.{Rational, of_whole, ◌-ʳ◌, ◌≤ʳ◌, AreWithin}
+use Rattle.whole_math.proofs.RationalLaws.{≤ʳ_trans}
 use Rattle.quadratic_form.specs.Places.{list_from}
 use Rattle.quadratic_form.specs.MatrixEntries.{matrix_entry}
 use Rattle.quadratic_form.specs.Rows.{SignalGroup, radii, columns_at}
-use Rattle.rational.specs.Spread.{Baseline}
+use Rattle.whole_math.specs.Spread.{Baseline}
 use Rattle.quadratic_form.specs.UpperSum.{size}
 use Rattle.quadratic_form.proofs.Places.{list_same}
-use Rattle.form_tables.specs.Tables.{entry}
+use Rattle.quadratic_form.specs.Tables.{entry}
 use Rattle.obs_rows.specs.declared.arcs.Arc.{Arc}
 use Rattle.obs_rows.specs.declared.pair_rows.PairRows.{PairRows}
 use Rattle.obs_rows.specs.Integers.{integer_count}

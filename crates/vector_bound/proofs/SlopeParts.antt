@@ -7,7 +7,7 @@ use Rattle.whole_math.proofs.Vectors.{len_is}
 use Rattle.quadratic_form.specs.Places.{list_from}
 use Rattle.quadratic_form.specs.Rows.{columns_at}
 use Rattle.quadratic_form.proofs.Places.{len_list}
-use Rattle.form_tables.specs.Tables.{entry}
+use Rattle.quadratic_form.specs.Tables.{entry}
 use Rattle.obs_rows.specs.Data.{number_at}
 use Rattle.obs_rows.specs.SignalGroups.{whole_move}
 use Rattle.normal_sum.specs.declared.normal.Normal.{Normal}

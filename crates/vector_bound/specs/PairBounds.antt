@@ -1,7 +1,7 @@
 -- How far the least-squares baseline of one pair of a track may lie from the pair's move, and the greatest of these numbers.
 -- With the integers held each pair has its own rows, data and baseline, so no pair's depends on another.
 use Rattle.std.specs.Prelude.{◌≡◌, ◌⊎◌, ℕ, ◌<◌, List, [], ◌∷◌, length, get_or, ℤ, pos, ◌≤ℤ◌}
-use Rattle.rational.specs.Rational.{Rational}
+use Rattle.whole_math.specs.Rational.{Rational}
 use Rattle.quadratic_form.specs.Lowering.{IsExponent}
 use Rattle.obs_rows.specs.declared.arcs.Arc.{Arc}
 use Rattle.obs_rows.specs.declared.pair_rows.PairRows.{PairRows}

@@ -3,12 +3,12 @@ use Rattle.std.specs.Prelude.{ℕ, ◌+◌, ◌^◌, ◌<◌, ◌≤◌, List, l
 use Rattle.std.proofs.Common.{◌*◌, mul-pos, lit<, pow_pos}
 use Rattle.whole_math.specs.Rounding.{floor_div, ceil_div, nearest_div, IsCeil}
 use Rattle.whole_math.specs.Vectors.{dot}
-use Rattle.rational.specs.Rational.{Rational, ◌≤ʳ◌, AreWithin}
+use Rattle.whole_math.specs.Rational.{Rational, ◌≤ʳ◌, AreWithin}
 use Rattle.quadratic_form.specs.Places.{list_from}
 use Rattle.quadratic_form.specs.Rows.{columns_at}
-use Rattle.rational.specs.Spread.{Baseline}
+use Rattle.whole_math.specs.Spread.{Baseline}
 use Rattle.quadratic_form.specs.UpperSum.{size}
-use Rattle.form_tables.specs.Tables.{entry}
+use Rattle.quadratic_form.specs.Tables.{entry}
 use Rattle.obs_rows.specs.declared.arcs.Arc.{Arc}
 use Rattle.obs_rows.specs.declared.pair_rows.PairRows.{PairRows}
 use Rattle.obs_rows.specs.declared.units.TheConstants.{UNIT_FREQUENCY}

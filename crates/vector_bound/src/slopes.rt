@@ -6,14 +6,14 @@ ghost use Rattle.whole_math.specs.Rounding.{ceil_div};
 ghost use Rattle.whole_math.specs.Vectors.{dot};
 ghost use Rattle.quadratic_form.specs.Places.{list_from};
 ghost use Rattle.quadratic_form.specs.UpperSum.{size};
-ghost use Rattle.form_tables.specs.Tables.{entry};
-ghost use Rattle.form_tables.specs.declared.sizes.TheConstants.{MOST_COLUMNS};
+ghost use Rattle.quadratic_form.specs.Tables.{entry};
+ghost use Rattle.quadratic_form.specs.declared.sizes.TheConstants.{MOST_COLUMNS};
 ghost use Rattle.obs_rows.specs.Ranges.{IsBelow};
 ghost use Rattle.obs_rows.specs.Data.{number_at};
 ghost use Rattle.vector_bound.specs.VectorBounds.{slope, steepness, FitsTerms, FitsSlopes};
 
-use form_tables::{BASELINE_COLUMNS, MOST_COLUMNS};
 use normal_sum::Normal;
+use quadratic_form::{BASELINE_COLUMNS, MOST_COLUMNS};
 use whole_math::ceil_shift;
 
 /// 2^16: a move is in 2^-16 of the unit of a baseline.

@@ -14,3 +14,12 @@ pub mod Words
 pub mod Lists
 pub mod Examples
 pub mod Products
+pub mod RationalLaws
+pub mod Over
+pub mod Boxes
+pub mod RationalIdentities
+pub mod RationalOrders
+pub mod RationalSizes
+pub mod Ends
+pub mod RationalQuotients
+pub mod NearRoots

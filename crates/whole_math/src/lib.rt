@@ -1,17 +1,31 @@
-//! Whole numbers: quotients rounded down, up and to the nearest, and the laws that every later proof
-//! cites: polynomial identities, orders and products, roundings, sums and vectors of whole numbers.
+//! Exact numbers: quotients and products of whole numbers, rationals, and the laws of both that all later proofs cite.
 //!
-//! `specs/` has the definitions, `proofs/` the laws; `laws` names those that a newcomer should see.
+//! `floor`, `ceil` and `nearest` give ⌊n/m⌋, ⌈n/m⌉ and ⌊n/m + 1/2⌋ for every 128-bit n and every m above 0, and `remainder` what
+//! `floor` leaves; `floor_shift` and `ceil_shift` divide by a power of two. `product` and `wide_product` multiply two numbers of at
+//! most 2^A and 2^B in size, where A + B is at most 126. Nothing overflows, no call fails, and none takes memory.
 //!
-//! `floor`, `ceil` and `nearest` answer ⌊n/m⌋, ⌈n/m⌉ and ⌊n/m + 1/2⌋ for every 128-bit n and every m above 0, without
-//! overflow; `floor_shift` and `ceil_shift` the same by powers of two. `laws` names the laws of roundings, products,
-//! powers, sums and vectors.
+//! A rational is a whole number over a positive one, not always in lowest terms. It exists in contracts and proofs alone, so there is
+//! no code of it. Equality and order go by cross products; a box holds what lies between its two ends, whole numbers over a power of
+//! two; a near-root of q has a square within 2^-60 of q, in proportion.
+//!
+//! Definitions stand in `specs/`, lemmas in `proofs/`. The functions of `laws` and those whose names end in `_laws` have empty bodies:
+//! their contracts name the laws that a newcomer should see. Of whole numbers these are the laws of roundings, products, powers of
+//! two, sums and vectors (`laws`). Of rationals: the order is total (`order_laws`); equal ones may stand for each other in every
+//! operation, order and box (`equality_laws`); sums and products obey the laws of an ordered ring (`ring_laws`,
+//! `ordered_ring_laws`); a box holds exactly what lies between its ends (`box_laws`); every list of rationals has a common
+//! denominator (`common_denominator_laws`). For other proofs there are polynomial identities and inequalities of whole numbers by a
+//! solver, and through one denominator the same of rationals (`proofs/Examples.antt` has one of each kind).
 #![tactic(auto)]
 
 pub mod laws;
+mod rational_laws;
 
 ghost use Rattle.std.specs.Prelude.{◌≡◌, ◌^◌, ◌<◌, ◌≤◌, pos, ◌+ℤ◌, ◌*ℤ◌, ◌≤ℤ◌, ◌<ℤ◌, unsigned_abs, ◌+◌};
 ghost use Rattle.whole_math.specs.Rounding.{floor_div, ceil_div, nearest_div, IsFloor, IsCeil, IsNearest};
+
+pub use rational_laws::{
+    box_laws, common_denominator_laws, equality_laws, order_laws, ordered_ring_laws, ring_laws,
+};
 
 /// ⌊n / m⌋, the greatest whole number that is at most n / m.
 pub fn floor(n: i128, m: i128) -> i128

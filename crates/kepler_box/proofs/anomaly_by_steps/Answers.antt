@@ -1,8 +1,8 @@
 use Rattle.std.proofs.Common.{◌≡◌, ◌*◌, ◌^◌, ◌≤◌, neg_ℤ, unsigned_abs, arith, ℤ, pos, ◌+ℤ◌, ◌-ℤ◌, ◌≤ℤ◌, subst, subst₂, sym, ◌∙◌}
 use Rattle.std.proofs.lemmas.Int.{ints, to_z-of_z}
 use Rattle.std.specs.Int.{w64}
-use Rattle.rational.specs.Rational.{Rational, InBox}
-use Rattle.rational.specs.Boxes.{of_scale}
+use Rattle.whole_math.specs.Rational.{Rational, InBox}
+use Rattle.whole_math.specs.Boxes.{of_scale}
 use Rattle.trig_box.specs.AnglePairs.{IsAnglePair}
 use Rattle.kepler_box.specs.Steps.{IsStep, AreNear}
 use Rattle.kepler_box.proofs.Contract.{IsFound, found_holds, found_near}

@@ -1,6 +1,6 @@
 use Rattle.std.proofs.Common.{◌≡◌, ◌^◌}
 use Rattle.std.proofs.lemmas.Result.{IfOk-at_ok}
-use Rattle.rational.specs.Rational.{Rational, InBox, ◌+ʳ◌, ◌*ʳ◌}
+use Rattle.whole_math.specs.Rational.{Rational, InBox, ◌+ʳ◌, ◌*ʳ◌}
 use Rattle.iv_core.specs.Boxes.{least_corner, most_corner}
 use Rattle.whole_math.specs.Rounding.{floor_div, ceil_div}
 use Rattle.iv_core.proofs.BoxLaws.{ok_of}

@@ -1,8 +1,8 @@
 use Rattle.std.proofs.Common.{◌≡◌, ℤ, pos, ◌-ℤ◌, arith}
 use Rattle.std.proofs.lemmas.Int.{ints}
 use Rattle.std.proofs.Math.IntN.{+ℤ_idr}
-use Rattle.rational.specs.Boxes.{of_scale}
-use Rattle.rational.proofs.Boxes.{point_in}
+use Rattle.whole_math.specs.Boxes.{of_scale}
+use Rattle.whole_math.proofs.Boxes.{point_in}
 use Rattle.kepler_box.proofs.sine_at.Goals as goal
 
 less : (x : ℤ) → x -ℤ pos 0 ≡ x

@@ -1,5 +1,5 @@
 use Rattle.std.proofs.Common.{subst}
-use Rattle.rational.specs.Rational.{◌*ʳ◌}
+use Rattle.whole_math.specs.Rational.{◌*ʳ◌}
 use Rattle.iv_core.specs.declared.Iv.{Iv}
 use Rattle.orbit_model.specs.Places.{IsBetweenDistances}
 use Rattle.orbit_place.specs.Directions.{direction}

@@ -1,5 +1,5 @@
 use Rattle.std.proofs.Common.{◌≡◌, ◌^◌, [], ◌∷◌, ℤ, pos, sym, subst}
-use Rattle.rational.specs.Rational.{Rational}
+use Rattle.whole_math.specs.Rational.{Rational}
 use Rattle.orbit_model.specs.SeenPlaces.{Place, point_of, IsSeenPlace}
 use Rattle.signal_travel.proofs.Handed.{same_point, held, all_narrow, all_between}
 use Rattle.signal_travel.proofs.seen_by_guess.Goals as goal

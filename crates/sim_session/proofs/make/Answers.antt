@@ -1,6 +1,6 @@
 use Rattle.std.proofs.Common.{ℕ, Bool, List, ◌++◌, length, get_or, ℤ, pos, All, sym, subst, ap, ◌∙◌}
 use Rattle.eph_store.specs.declared.ephemeris.Eph.{Eph}
-use Rattle.orbit_clock.specs.Records.{constants_of}
+use Rattle.sv_orbit.specs.Records.{constants_of}
 use Rattle.orbit_model.specs.Elements.{world_of}
 use Rattle.sim_session.specs.Sequence.{drawn_within}
 use Rattle.sim_session.specs.Values.{base_clock_of, rover_clock_of, base_cycles, rover_cycles, truth_of, first_of, AreSmall}

@@ -3,8 +3,8 @@ use Rattle.job_answers.specs.Works.{file_work}
 use Rattle.file_jobs.specs.Zero.{zero_job}
 use Rattle.file_jobs.specs.Listing.{list_job}
 use Rattle.file_jobs.specs.Orbits.{orbit_job}
-use Rattle.cert_jobs.specs.CertJobs.{check_job, residuals_job}
-use Rattle.cert_jobs.specs.Migrations.{migrate_job}
+use Rattle.file_jobs.specs.CertJobs.{check_job, residuals_job}
+use Rattle.file_jobs.specs.Migrations.{migrate_job}
 use Rattle.track_job.specs.CheckJobs.{check_track_job}
 use Rattle.baseline_app.proofs.Files.{text_asked, job_asked, part_done}
 use Rattle.baseline_app.proofs.top.do_job.Goals as goal

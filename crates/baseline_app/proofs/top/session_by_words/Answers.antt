@@ -1,6 +1,6 @@
 use Rattle.std.proofs.Common.{[], ◌∷◌, ℕ, List, subst}
 use Rattle.job_answers.specs.Works.{file_work, IsDoneOver}
-use Rattle.session_files.specs.SessionJobs.{SessionEnds, IsPairLine}
+use Rattle.job_answers.specs.SessionJobs.{SessionEnds, IsPairLine}
 use Rattle.baseline_app.proofs.top.session_by_words.Goals as goal
 
 pub returns : goal.returns

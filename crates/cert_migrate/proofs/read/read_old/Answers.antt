@@ -6,7 +6,7 @@ use Rattle.rinex_head.specs.declared.place.TextFault.TheVariants.{Refused, NoMem
 use Rattle.rinex_head.specs.LineRules.{OnRefusal, IfRefused}
 use Rattle.cert_lines.specs.declared.version.Version.TheVariants.{One}
 use Rattle.cert_data.specs.declared.certs.Cert.{Cert}
-use Rattle.cert_spelling.specs.Editions.{IsCertificateAs}
+use Rattle.cert_text.specs.Editions.{IsCertificateAs}
 use Rattle.cert_text.proofs.BegunCertificates.{begins_as}
 use Rattle.cert_migrate.specs.OldSpelling.{IsOldCertificate}
 use Rattle.cert_migrate.specs.declared.old_certs.OldCert.{OldCert}

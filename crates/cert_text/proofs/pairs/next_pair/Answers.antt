@@ -3,8 +3,8 @@ use Rattle.std.proofs.lemmas.Result.{err_from_is_err_and}
 use Rattle.obs_rows.specs.Signals.{fine_signals}
 use Rattle.cert_text.specs.Rules.{cert_rules, frame, before_pairs, before_rows}
 use Rattle.cert_text.proofs.LineLaws.{pair_taken, rows_taken}
-use Rattle.grammar_lines.proofs.LineLaws.{reads_behind}
-use Rattle.grammar_lines.proofs.RowSteps.{pair_renumbered}
+use Rattle.cert_text.proofs.GrammarLaws.{reads_behind}
+use Rattle.cert_text.proofs.RowSteps.{pair_renumbered}
 use Rattle.cert_text.proofs.pairs.next_pair.Goals as goal
 
 pub returns-in_err-head-clause-reads : goal.returns-in_err-head-clause-reads

@@ -3,14 +3,14 @@ use Rattle.std.proofs.lemmas.Result.{err_from_is_err_and}
 use Rattle.std.proofs.lemmas.List.{length_push}
 use Rattle.obs_rows.specs.declared.pair_rows.PairRows.{PairRows}
 use Rattle.rinex_head.proofs.LineRuleLaws.{handed_on}
-use Rattle.cert_spelling.specs.Spelling.{all_pair_lines}
+use Rattle.cert_text.specs.Spelling.{all_pair_lines}
 use Rattle.std.proofs.lemmas.List.Elements.{All-push}
 use Rattle.cert_lines.specs.Lengths.{IsWholePair}
 use Rattle.obs_rows.specs.Signals.{fine_signals}
 use Rattle.obs_rows.proofs.HeadLaws.{keeps_on}
 use Rattle.cert_lines.specs.Versions.{group_limit}
 use Rattle.cert_text.proofs.PairSteps.{pairs_took}
-use Rattle.grammar_lines.proofs.RowSteps.{pairs_below}
+use Rattle.cert_text.proofs.RowSteps.{pairs_below}
 use Rattle.cert_text.proofs.pairs.read_all_pairs.Goals as goal
 
 pub returns-in_err-pair-clause-reads : goal.returns-in_err-pair-clause-reads

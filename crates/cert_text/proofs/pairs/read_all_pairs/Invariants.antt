@@ -1,6 +1,6 @@
 use Rattle.std.proofs.Common.{◌≡◌, ◌+◌, ◌<◌, ◌++◌, ℕ, length, unsigned_abs, All}
 use Rattle.rinex_head.specs.LineRules.{rest_gives}
-use Rattle.cert_spelling.specs.Spelling.{all_pair_lines}
+use Rattle.cert_text.specs.Spelling.{all_pair_lines}
 use Rattle.cert_lines.specs.Lengths.{IsWholePair}
 use Rattle.cert_text.specs.Rules.{cert_rules, frame, before_pairs}
 use Rattle.obs_rows.specs.Heads.{KeepsHead}

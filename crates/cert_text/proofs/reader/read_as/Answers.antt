@@ -5,14 +5,14 @@ use Rattle.line_source.specs.EndedLines.{ended_lines}
 use Rattle.cert_words.proofs.TextLaws.{AreLines, text_of_ended}
 use Rattle.rinex_head.specs.declared.place.TextFault.{TextFault}
 use Rattle.cert_data.specs.declared.certs.Cert.{Cert}
-use Rattle.cert_spelling.specs.Spelling.{lines_of_cert, spelling_as}
+use Rattle.cert_text.specs.Spelling.{lines_of_cert, spelling_as}
 use Rattle.rinex_head.specs.LineRules.{rest_gives}
 use Rattle.rinex_head.proofs.LineRuleLaws.{gives_same}
 use Rattle.cert_text.specs.Rules.{cert_rules, Form}
 use Rattle.cert_lines.specs.declared.version.Version.{Version}
 use Rattle.cert_text.proofs.Accepted.{refused_text, stuck_text}
-use Rattle.cert_spelling.specs.Lengths.{IsWhole}
-use Rattle.cert_spelling.specs.Editions.{IsOfVersion}
+use Rattle.cert_text.specs.Lengths.{IsWhole}
+use Rattle.cert_text.specs.Editions.{IsOfVersion}
 use Rattle.cert_text.proofs.BegunCertificates.{first_text}
 use Rattle.cert_text.proofs.SameSpelling.{spelling_same}
 use Rattle.cert_text.proofs.FeedLaws.{cert_feed}

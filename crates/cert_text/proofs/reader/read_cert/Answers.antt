@@ -4,10 +4,10 @@ use Rattle.rinex_head.specs.declared.place.TextFault.TheVariants.{Refused, NoMem
 use Rattle.rinex_head.specs.LineRules.{OnRefusal, IfRefused}
 use Rattle.cert_lines.specs.declared.version.Version.TheVariants.{Two}
 use Rattle.cert_data.specs.declared.certs.Cert.{Cert}
-use Rattle.cert_spelling.specs.Spelling.{spelling_as, spelling}
-use Rattle.cert_spelling.specs.Lengths.{IsWhole, IsCertificate}
-use Rattle.cert_spelling.specs.Editions.{IsOfVersion, IsCertificateAs}
-use Rattle.grammar_lines.specs.Beginnings.{NoneBegins}
+use Rattle.cert_text.specs.Spelling.{spelling_as, spelling}
+use Rattle.cert_text.specs.Lengths.{IsWhole, IsCertificate}
+use Rattle.cert_text.specs.Editions.{IsOfVersion, IsCertificateAs}
+use Rattle.cert_text.specs.Beginnings.{NoneBegins}
 use Rattle.cert_text.specs.BeforePairs.{BeginsBefore}
 use Rattle.cert_text.proofs.BegunCertificates.{begins_as}
 use Rattle.cert_text.proofs.Versions.{of_two}

@@ -6,7 +6,7 @@ use Rattle.cert_lines.specs.Forms.{vector_in}
 use Rattle.cert_lines.specs.declared.ranges.TheConstants.{ENTRIES}
 use Rattle.cert_text.specs.Rules.{cert_rules, frame, Tail, Second, End}
 use Rattle.cert_text.specs.TailForms.{declined_in}
-use Rattle.grammar_lines.proofs.LineLaws.{line_read_by}
+use Rattle.cert_text.proofs.GrammarLaws.{line_read_by}
 use Rattle.cert_text.proofs.LineLaws.{admits_vectors, admits_declined}
 use Rattle.cert_text.proofs.tail.read_tail.Goals as goal
 

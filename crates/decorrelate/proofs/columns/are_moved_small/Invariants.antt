@@ -1,5 +1,5 @@
 use Rattle.std.proofs.Common.{ℕ, ◌^◌, ◌<◌, unsigned_abs}
-use Rattle.form_tables.specs.Tables.{entry, item}
+use Rattle.quadratic_form.specs.Tables.{entry, item}
 use Rattle.decorrelate.specs.Moving.{sheared}
 use Rattle.decorrelate.proofs.columns.are_moved_small.Given as goal
 

@@ -1,5 +1,5 @@
 use Rattle.std.proofs.Common.{ℕ, arith, refl, below_more, ◌∙◌}
-use Rattle.form_tables.specs.Tables.{entry, item}
+use Rattle.quadratic_form.specs.Tables.{entry, item}
 use Rattle.decorrelate.specs.Moving.{IsMoved}
 use Rattle.decorrelate.proofs.TurnLaws.{moved_along}
 use Rattle.decorrelate.proofs.columns.move_rows.Goals as goal

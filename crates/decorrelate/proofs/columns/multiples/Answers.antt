@@ -1,8 +1,8 @@
 use Rattle.std.proofs.Common.{◌≡◌, ℕ, ◌+◌, ◌*◌, ◌^◌, ◌<◌, ◌≤◌, ℤ, pos, ◌+ℤ◌, ◌*ℤ◌, unsigned_abs, arith, to_z, of_z, ap, ap₂, sym, ◌∙◌, subst}
 use Rattle.std.proofs.lemmas.Int.{ints}
 use Rattle.std.specs.Int.{w64, w128}
-use Rattle.form_tables.specs.Tables.{entry, item}
-use Rattle.form_tables.specs.declared.sizes.TheConstants.{MOST_FORM_COLUMNS}
+use Rattle.quadratic_form.specs.Tables.{entry, item}
+use Rattle.quadratic_form.specs.declared.sizes.TheConstants.{MOST_FORM_COLUMNS}
 use Rattle.decorrelate.specs.Moving.{taken}
 use Rattle.whole_math.proofs.Words.{as_w128}
 use Rattle.decorrelate.proofs.Words.{small_w64, multiple_w64}

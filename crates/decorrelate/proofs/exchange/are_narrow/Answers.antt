@@ -1,6 +1,6 @@
 use Rattle.std.proofs.Common.{ℕ, ◌^◌, ◌<◌, unsigned_abs, arith, rules, SFits, w64, refl, below_more}
 use Rattle.std.proofs.lemmas.Int.{ints}
-use Rattle.form_tables.specs.Tables.{item}
+use Rattle.quadratic_form.specs.Tables.{item}
 use Rattle.decorrelate.proofs.exchange.are_narrow.Goals as goal
 
 pub loop-m-preserved : goal.loop-m-preserved

@@ -1,5 +1,5 @@
 use Rattle.std.proofs.Common.{ℕ, ◌^◌, ◌<◌, unsigned_abs}
-use Rattle.form_tables.specs.Tables.{item}
+use Rattle.quadratic_form.specs.Tables.{item}
 use Rattle.decorrelate.proofs.exchange.are_narrow.Given as goal
 
 abbrev pub invariant-loop-m : goal.invariant-loop-m

@@ -1,5 +1,5 @@
 use Rattle.std.proofs.Common.{ℕ, ◌+◌, ◌<◌}
-use Rattle.form_tables.specs.Tables.{entry}
+use Rattle.quadratic_form.specs.Tables.{entry}
 use Rattle.decorrelate.specs.Turning.{AreColumnsSmall}
 use Rattle.decorrelate.proofs.exchange.are_rows_narrow.Given as goal
 

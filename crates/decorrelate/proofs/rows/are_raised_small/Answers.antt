@@ -1,6 +1,6 @@
 use Rattle.std.proofs.Common.{◌≡◌, ℕ, ◌+◌, ◌^◌, ◌<◌, ℤ, ◌+ℤ◌, ◌*ℤ◌, unsigned_abs, arith, to_z, of_z, refl, sym, subst, below_more}
 use Rattle.std.specs.Int.{w64}
-use Rattle.form_tables.specs.Tables.{entry, item}
+use Rattle.quadratic_form.specs.Tables.{entry, item}
 use Rattle.decorrelate.specs.Moving.{raised}
 use Rattle.decorrelate.proofs.Words.{multiple_w64}
 use Rattle.decorrelate.proofs.rows.are_raised_small.Goals as goal

@@ -1,5 +1,5 @@
 use Rattle.std.proofs.Common.{ℕ, ◌^◌, ◌<◌, unsigned_abs}
-use Rattle.form_tables.specs.Tables.{entry, item}
+use Rattle.quadratic_form.specs.Tables.{entry, item}
 use Rattle.decorrelate.specs.Moving.{raised}
 use Rattle.decorrelate.proofs.rows.are_raised_small.Given as goal
 

@@ -1,5 +1,5 @@
 use Rattle.std.proofs.Common.{ℕ, ◌^◌, ◌<◌, ◌+ℤ◌, ◌*ℤ◌, unsigned_abs}
-use Rattle.form_tables.specs.Tables.{entry}
+use Rattle.quadratic_form.specs.Tables.{entry}
 use Rattle.decorrelate.proofs.rows.is_raised_small.Given as goal
 
 abbrev pub invariant-loop-c : goal.invariant-loop-c

@@ -1,6 +1,6 @@
 use Rattle.std.proofs.Common.{◌≡◌, ℕ, ◌+◌, ℤ, Option, arith, sym, ap, ◌∙◌}
 use Rattle.std.specs.Prelude.{MatchOption}
-use Rattle.form_tables.specs.Tables.{entry, item}
+use Rattle.quadratic_form.specs.Tables.{entry, item}
 use Rattle.decorrelate.specs.Turning.{left_of, rest_of, IsTurnable}
 use Rattle.decorrelate.specs.TurnNumbers.{AreNumbersOf}
 use Rattle.decorrelate.specs.TurnedStates.{state_of}

@@ -1,7 +1,7 @@
 use Rattle.std.proofs.Common.{◌≡◌, List, ℤ, pos, arith, subst, sym}
-use Rattle.form_tables.specs.declared.sizes.TheConstants.{MOST_INTEGERS}
-use Rattle.form_tables.specs.Tables.{entry}
-use Rattle.form_tables.proofs.TableLaws.{zero_entry}
+use Rattle.quadratic_form.specs.declared.sizes.TheConstants.{MOST_INTEGERS}
+use Rattle.quadratic_form.specs.Tables.{entry}
+use Rattle.quadratic_form.proofs.TableLaws.{zero_entry}
 use Rattle.decorrelate.proofs.unimodular.ones.Goals as goal
 
 pub loop-i-init : goal.loop-i-init

@@ -1,7 +1,7 @@
 use Rattle.std.proofs.Common.{◌≡◌, ℕ, ◌^◌, ◌≤◌, pos, ◌*ℤ◌, unsigned_abs, arith, to_z, of_z, ap, ◌∙◌}
 use Rattle.std.proofs.lemmas.Int.{ints, to_z-of_z}
 use Rattle.std.specs.Int.{w64, w128}
-use Rattle.form_tables.specs.declared.sizes.TheConstants.{MOST_COLUMNS}
+use Rattle.quadratic_form.specs.declared.sizes.TheConstants.{MOST_COLUMNS}
 use Rattle.whole_math.specs.Rounding.{ceil_div}
 use Rattle.whole_math.proofs.Words.{as_w128}
 use Rattle.elimination.proofs.entries.factor_loss.Goals as goal

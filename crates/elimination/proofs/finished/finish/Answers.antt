@@ -3,9 +3,9 @@ use Rattle.std.proofs.lemmas.Int.{ints}
 use Rattle.std.specs.Int.{w64, w128}
 use Rattle.quadratic_form.specs.Elimination.{steps}
 use Rattle.quadratic_form.specs.Places.{form_from}
-use Rattle.form_tables.specs.declared.sizes.TheConstants.{BASELINE_COLUMNS, MOST_COLUMNS, MOST_FACTORS}
-use Rattle.form_tables.specs.Tables.{entry, zero_rows, IsZeroOutside}
-use Rattle.form_tables.proofs.TableLaws.{zero_entry}
+use Rattle.quadratic_form.specs.declared.sizes.TheConstants.{BASELINE_COLUMNS, MOST_COLUMNS, MOST_FACTORS}
+use Rattle.quadratic_form.specs.Tables.{entry, zero_rows, IsZeroOutside}
+use Rattle.quadratic_form.proofs.TableLaws.{zero_entry}
 use Rattle.integer_form.specs.declared.front_form.FrontForm.{FrontForm}
 use Rattle.integer_form.specs.Factors.{stored}
 use Rattle.integer_form.specs.Kept.{form_of_table, IsZeroFrom}

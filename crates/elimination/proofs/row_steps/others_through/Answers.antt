@@ -1,6 +1,6 @@
 use Rattle.std.proofs.Common.{◌≡◌, ◌≢◌, ℕ, ◌<◌, ◌≤◌, List, length, set, ℤ, pos, slice_index_or, get_or-set_same, get_or-set_other, length-set, arith, sym, ◌∙◌, subst, below_more}
 use Rattle.whole_math.proofs.Words.{as_w64}
-use Rattle.form_tables.specs.Tables.{item}
+use Rattle.quadratic_form.specs.Tables.{item}
 use Rattle.elimination.specs.RowSteps.{IsLeft}
 use Rattle.elimination.proofs.RowWords.{word, read, read_size}
 use Rattle.elimination.proofs.row_steps.others_through.Goals as goal

@@ -1,6 +1,6 @@
 use Rattle.std.proofs.Common.{◌≡◌, ℕ, ◌<◌, ◌≤◌, length}
-use Rattle.form_tables.specs.declared.sizes.TheConstants.{MOST_COLUMNS}
-use Rattle.form_tables.specs.Tables.{item}
+use Rattle.quadratic_form.specs.declared.sizes.TheConstants.{MOST_COLUMNS}
+use Rattle.quadratic_form.specs.Tables.{item}
 use Rattle.elimination.specs.RowSteps.{IsLeft}
 use Rattle.elimination.proofs.row_steps.others_through.Given as goal
 

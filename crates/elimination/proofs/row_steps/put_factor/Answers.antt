@@ -2,7 +2,7 @@ use Rattle.std.proofs.Common.{◌≡◌, ◌≢◌, ◌⊎◌, inl, inr, ⊎_eli
 use Rattle.std.proofs.lemmas.Int.{to_z-of_z}
 use borrow.Author.Tests.{ltb-true}
 use Rattle.std.specs.Int.{w64}
-use Rattle.form_tables.specs.Tables.{entry}
+use Rattle.quadratic_form.specs.Tables.{entry}
 use Rattle.integer_form.specs.declared.front_form.FrontForm.{FrontForm}
 use Rattle.elimination.specs.StepEntries.{is_small}
 use Rattle.elimination.proofs.row_steps.put_factor.Goals as goal

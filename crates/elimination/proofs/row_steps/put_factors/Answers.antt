@@ -1,6 +1,6 @@
 use Rattle.std.proofs.Common.{◌≡◌, ℕ, ℤ, true, arith, sym, ◌∙◌, refl, subst, below_more, lt_of_lt_of_le}
 use Rattle.whole_math.proofs.Words.{as_w64}
-use Rattle.form_tables.specs.Tables.{entry}
+use Rattle.quadratic_form.specs.Tables.{entry}
 use Rattle.elimination.specs.StepEntries.{is_small}
 use Rattle.elimination.specs.RowSteps.{HasFactors}
 use Rattle.elimination.proofs.SmallEntries.{small_size}

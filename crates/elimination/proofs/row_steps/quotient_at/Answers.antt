@@ -1,5 +1,5 @@
 use Rattle.std.proofs.Common.{◌∙◌}
-use Rattle.form_tables.specs.Tables.{entry}
+use Rattle.quadratic_form.specs.Tables.{entry}
 use Rattle.elimination.proofs.RowWords.{read, read_size, read_positive}
 use Rattle.elimination.proofs.row_steps.quotient_at.Goals as goal
 

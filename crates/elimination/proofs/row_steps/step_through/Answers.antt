@@ -1,7 +1,7 @@
 use Rattle.std.proofs.Common.{◌≡◌, ⊎_elim, ℕ, ◌^◌, ◌<◌, ◌≤◌, List, length, ℤ, pos, true, unsigned_abs, slice_index_or, get_or-set_same, get_or-set_other, arith, sym, ◌∙◌, refl, rules, subst, eq-or-lt_of_le}
 use Rattle.whole_math.proofs.Words.{as_w64}
-use Rattle.form_tables.specs.declared.sizes.TheConstants.{MOST_COLUMNS}
-use Rattle.form_tables.specs.Tables.{item}
+use Rattle.quadratic_form.specs.declared.sizes.TheConstants.{MOST_COLUMNS}
+use Rattle.quadratic_form.specs.Tables.{item}
 use Rattle.elimination.specs.RowSteps.{IsLeft}
 use Rattle.elimination.proofs.RowWords.{word, read, read_size}
 use Rattle.elimination.proofs.row_steps.step_through.Goals as goal

@@ -5,7 +5,7 @@ use Rattle.quadratic_form.specs.Forms.{Column}
 use Rattle.quadratic_form.specs.Elimination.{factors, kept, next, Factor, Refusal, all_small, form_small}
 use Rattle.quadratic_form.specs.Places.{list_from}
 use Rattle.quadratic_form.proofs.Places.{list_same, form_same}
-use Rattle.form_tables.specs.Tables.{entry}
+use Rattle.quadratic_form.specs.Tables.{entry}
 use Rattle.elimination.specs.StepEntries.{is_small, factor_entry, new_entry}
 use Rattle.elimination.specs.Stops.{column_at, form_after}
 use Rattle.whole_math.proofs.Words.{as_w128}

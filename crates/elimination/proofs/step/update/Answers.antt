@@ -1,7 +1,7 @@
 use Rattle.std.proofs.Common.{◌≡◌, ℕ, ◌-◌, ◌<◌, ◌≤◌, ◌^◌, ℤ, pos, true, false, unsigned_abs, arith, to_z, of_z, sym, ap, ◌∙◌, subst, below_more}
 use Rattle.std.proofs.lemmas.Int.{to_z-of_z}
 use Rattle.std.specs.Int.{w128}
-use Rattle.form_tables.specs.Tables.{entry}
+use Rattle.quadratic_form.specs.Tables.{entry}
 use Rattle.elimination.specs.StepEntries.{is_small, new_entry}
 use Rattle.elimination.proofs.NewEntries.{new_same}
 use Rattle.elimination.proofs.step.update.Goals as goal

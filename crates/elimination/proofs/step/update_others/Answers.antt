@@ -1,6 +1,6 @@
 use Rattle.std.proofs.Common.{◌≡◌, ◌≢◌, inl, inr, ℕ, ◌<◌, List, ℤ, true, false, unsigned_abs, refl, arith, to_z, of_z, ◌∙◌, subst, below_more, lt_of_lt_of_le}
 use Rattle.std.specs.Int.{w64}
-use Rattle.form_tables.specs.Tables.{entry}
+use Rattle.quadratic_form.specs.Tables.{entry}
 use Rattle.elimination.specs.StepEntries.{is_small, other_entry}
 use Rattle.elimination.specs.Quotients.{other_by}
 use Rattle.elimination.proofs.SmallEntries.{small_size}

@@ -3,7 +3,7 @@ use Rattle.std.proofs.Common.{get_or-set_same, get_or-set_other, length-set, ari
 use Rattle.std.specs.Int.{w64, w128}
 use Rattle.quadratic_form.specs.Elimination.{Factor, steps, StepsAnswer}
 use Rattle.quadratic_form.specs.Places.{form_from}
-use Rattle.form_tables.specs.Tables.{entry}
+use Rattle.quadratic_form.specs.Tables.{entry}
 use Rattle.elimination.specs.Stops.{refusal_of, column_at, form_after}
 use Rattle.integer_form.specs.Factors.{factor_at}
 use Rattle.integer_form.specs.Factors.{stored}

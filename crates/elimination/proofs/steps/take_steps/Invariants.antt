@@ -1,8 +1,8 @@
 use Rattle.std.proofs.Common.{◌≡◌, ◌⊎◌, ℕ, ◌-◌, ◌^◌, ◌<◌, ◌≤◌, length, pos, slice_index_or, unsigned_abs}
 use Rattle.quadratic_form.specs.Elimination.{steps}
 use Rattle.quadratic_form.specs.Places.{form_from}
-use Rattle.form_tables.specs.declared.sizes.TheConstants.{MOST_FACTORS}
-use Rattle.form_tables.specs.Tables.{entry}
+use Rattle.quadratic_form.specs.declared.sizes.TheConstants.{MOST_FACTORS}
+use Rattle.quadratic_form.specs.Tables.{entry}
 use Rattle.integer_form.specs.Factors.{stored}
 use Rattle.elimination.specs.Taken.{before}
 use Rattle.elimination.proofs.steps.take_steps.Given as goal

@@ -1,6 +1,6 @@
 use Rattle.std.proofs.Common.{◌≡◌, ℕ, ◌+◌, ◌<◌, ◌≤◌}
-use Rattle.form_tables.specs.Tables.{entry, IsZeroOutside}
-use Rattle.form_tables.specs.Matrices.{IsSymmetric}
+use Rattle.quadratic_form.specs.Tables.{entry, IsZeroOutside}
+use Rattle.quadratic_form.specs.Matrices.{IsSymmetric}
 use Rattle.elimination.proofs.tables.copy_row.Given as goal
 
 abbrev pub invariant-loop-c : goal.invariant-loop-c

@@ -1,5 +1,5 @@
 use Rattle.std.proofs.Common.{◌≡◌, ℕ, ◌+◌, ◌<◌, ℤ, unsigned_abs, arith, sym, subst, ◌^◌, ap₂, ◌∙◌, zero-add}
-use Rattle.form_tables.specs.Tables.{entry}
+use Rattle.quadratic_form.specs.Tables.{entry}
 use Rattle.elimination.proofs.TableLaws.{form_moved, small_of_form, small_table}
 use Rattle.elimination.proofs.tables.fill_form_table.Goals as goal
 

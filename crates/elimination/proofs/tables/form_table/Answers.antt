@@ -1,6 +1,6 @@
 use Rattle.std.proofs.Common.{sym, ◌∙◌}
-use Rattle.form_tables.specs.declared.sizes.TheConstants.{MOST_FORM_COLUMNS}
-use Rattle.form_tables.proofs.TableLaws.{all_zero}
+use Rattle.quadratic_form.specs.declared.sizes.TheConstants.{MOST_FORM_COLUMNS}
+use Rattle.quadratic_form.proofs.TableLaws.{all_zero}
 use Rattle.elimination.proofs.tables.form_table.Goals as goal
 
 pub fill_form_table-requires-clause-symmetric : goal.fill_form_table-requires-clause-symmetric

@@ -1,6 +1,6 @@
 use Rattle.std.proofs.Common.{arith, refl}
-use Rattle.form_tables.specs.declared.sizes.TheConstants.{MOST_FACTORS}
-use Rattle.form_tables.proofs.TableLaws.{zero_item}
+use Rattle.quadratic_form.specs.declared.sizes.TheConstants.{MOST_FACTORS}
+use Rattle.quadratic_form.proofs.TableLaws.{zero_item}
 use Rattle.elimination.proofs.tables.kept_list.Goals as goal
 
 pub loop-i-init : goal.loop-i-init

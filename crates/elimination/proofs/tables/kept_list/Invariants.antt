@@ -1,5 +1,5 @@
 use Rattle.std.proofs.Common.{◌≡◌, ℕ, ◌<◌, ◌≤◌, length, pos, slice_index_or}
-use Rattle.form_tables.specs.declared.sizes.TheConstants.{MOST_FACTORS}
+use Rattle.quadratic_form.specs.declared.sizes.TheConstants.{MOST_FACTORS}
 use Rattle.elimination.proofs.tables.kept_list.Given as goal
 
 abbrev pub invariant-loop-i : goal.invariant-loop-i

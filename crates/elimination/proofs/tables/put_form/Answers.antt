@@ -1,5 +1,5 @@
 use Rattle.std.proofs.Common.{◌≡◌, ℕ, ◌+◌, ◌-◌, ◌^◌, ◌<◌, ◌≤◌, ℤ, unsigned_abs, arith, sym, ap₂, ◌∙◌, subst, zero-add}
-use Rattle.form_tables.specs.Tables.{entry}
+use Rattle.quadratic_form.specs.Tables.{entry}
 use Rattle.elimination.proofs.TableLaws.{form_moved}
 use Rattle.elimination.proofs.tables.put_form.Goals as goal
 

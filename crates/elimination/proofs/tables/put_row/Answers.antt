@@ -1,5 +1,5 @@
 use Rattle.std.proofs.Common.{rules, ◌≡◌, ◌≢◌, ◌⊎◌, inl, inr, ⊎_elim, ℕ, ◌+◌, ◌^◌, ◌<◌, ◌≤◌, ℤ, pos, unsigned_abs, slice_index_or, arith, sym, ap₂, ◌∙◌, subst, below_more}
-use Rattle.form_tables.specs.Tables.{entry, item}
+use Rattle.quadratic_form.specs.Tables.{entry, item}
 use Rattle.whole_math.proofs.Words.{as_w64}
 use Rattle.elimination.proofs.tables.put_row.Goals as goal
 

@@ -1,6 +1,6 @@
 use Rattle.std.proofs.Common.{◌≡◌, ℕ, ◌+◌, ◌^◌, ◌<◌, ◌≤◌}
-use Rattle.form_tables.specs.Tables.{entry, item, IsZeroOutside}
-use Rattle.form_tables.specs.Matrices.{IsSymmetric, EntriesBelow}
+use Rattle.quadratic_form.specs.Tables.{entry, item, IsZeroOutside}
+use Rattle.quadratic_form.specs.Matrices.{IsSymmetric, EntriesBelow}
 use Rattle.elimination.proofs.tables.put_row.Given as goal
 
 abbrev pub invariant-loop-c : goal.invariant-loop-c

@@ -4,7 +4,7 @@ use Rattle.rinex_head.specs.declared.system.System.TheVariants.{Gps}
 use Rattle.job_answers.proofs.KnownLaws.{known_from, whole_known}
 use Rattle.job_answers.proofs.WorkLaws.{text_done}
 use Rattle.job_answers.specs.Endings.{IsTextOf}
-use Rattle.session_files.specs.SessionFiles.{IsObsOf}
+use Rattle.job_answers.specs.SessionFiles.{IsObsOf}
 use Rattle.file_jobs.specs.Listing.{list_job}
 use Rattle.file_jobs.proofs.ListEndings.{listed, list_stop}
 use Rattle.file_jobs.proofs.listing.list.Goals as goal

@@ -3,7 +3,7 @@ use Rattle.std.proofs.lemmas.Int.{ints}
 use Rattle.std.specs.Int.{abs_diff}
 use Rattle.orbit_model.specs.Elements.{Constants, sent_at, elements_of}
 use Rattle.orbit_model.specs.Solution.{Quantities, IsNearSolution, HasNearSolution}
-use Rattle.orbit_exists.proofs.Ranges.{near}
+use Rattle.sv_orbit.proofs.Ranges.{near}
 use Rattle.sv_orbit.specs.Solutions.{HoldsSolution}
 use Rattle.report_text.specs.Orbit.{orbit_lines}
 use Rattle.report_text.proofs.OrbitLaws.{numbers_hold, numbers_narrow}

@@ -1,5 +1,5 @@
 use Rattle.std.proofs.Common.{◌^◌}
-use Rattle.form_tables.specs.Matrices.{EntriesBelow}
+use Rattle.quadratic_form.specs.Matrices.{EntriesBelow}
 use Rattle.form_examples.proofs.decorrelate_tests.drawn_factors.Given as goal
 
 abbrev pub invariant-loop-i : goal.invariant-loop-i

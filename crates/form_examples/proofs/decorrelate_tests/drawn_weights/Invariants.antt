@@ -1,6 +1,6 @@
 use Rattle.std.proofs.Common.{◌≡◌, ℕ, ◌+◌, ◌<◌, length}
-use Rattle.form_tables.specs.declared.sizes.TheConstants.{MOST_FACTORS}
-use Rattle.form_tables.specs.Tables.{item}
+use Rattle.quadratic_form.specs.declared.sizes.TheConstants.{MOST_FACTORS}
+use Rattle.quadratic_form.specs.Tables.{item}
 use Rattle.decorrelate.specs.States.{IsWeight}
 use Rattle.form_examples.proofs.decorrelate_tests.drawn_weights.Given as goal
 

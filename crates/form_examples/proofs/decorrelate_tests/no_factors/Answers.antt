@@ -1,7 +1,7 @@
 use Rattle.std.proofs.Common.{◌<◌, ◌^◌, List, ℤ, unsigned_abs, subst, sym, ap, ◌∙◌}
-use Rattle.form_tables.specs.declared.sizes.TheConstants.{MOST_FACTORS, MOST_COLUMNS}
-use Rattle.form_tables.specs.Tables.{entry}
-use Rattle.form_tables.proofs.TableLaws.{zero_entry, zero_small}
+use Rattle.quadratic_form.specs.declared.sizes.TheConstants.{MOST_FACTORS, MOST_COLUMNS}
+use Rattle.quadratic_form.specs.Tables.{entry}
+use Rattle.quadratic_form.proofs.TableLaws.{zero_entry, zero_small}
 use Rattle.form_examples.proofs.decorrelate_tests.no_factors.Goals as goal
 
 pub returns : goal.returns

@@ -1,6 +1,6 @@
 use Rattle.std.proofs.Common.{◌^◌, ◌<◌, ℤ, unsigned_abs, arith, sym, ◌∙◌, subst}
-use Rattle.form_tables.specs.declared.sizes.TheConstants.{MOST_FORM_COLUMNS}
-use Rattle.form_tables.proofs.TableLaws.{all_zero}
+use Rattle.quadratic_form.specs.declared.sizes.TheConstants.{MOST_FORM_COLUMNS}
+use Rattle.quadratic_form.proofs.TableLaws.{all_zero}
 use Rattle.form_examples.proofs.fix_decide_tests.in_greatest_unit.Goals as goal
 
 pub of-requires-clause-symmetric : goal.of-requires-clause-symmetric

@@ -1,6 +1,6 @@
 use Rattle.std.proofs.Common.{◌^◌}
-use Rattle.form_tables.specs.Tables.{IsZeroOutside}
-use Rattle.form_tables.specs.Matrices.{IsSymmetric, EntriesBelow}
+use Rattle.quadratic_form.specs.Tables.{IsZeroOutside}
+use Rattle.quadratic_form.specs.Matrices.{IsSymmetric, EntriesBelow}
 use Rattle.form_examples.proofs.int_search_tests.table.Given as goal
 
 abbrev pub invariant-loop-r : goal.invariant-loop-r

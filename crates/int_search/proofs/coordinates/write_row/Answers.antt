@@ -2,7 +2,7 @@ use Rattle.std.proofs.Common.{◌≡◌, inl, inr, ⊎_elim, ℕ, ◌+◌, ◌^�
 use Rattle.std.proofs.lemmas.Bool.{cases_eq}
 use Rattle.std.specs.Int.{w64, w128}
 use Rattle.decorrelate.proofs.Words.{narrow_w64}
-use Rattle.form_tables.specs.Tables.{entry}
+use Rattle.quadratic_form.specs.Tables.{entry}
 use Rattle.int_search.specs.Transformed.{whole_entry}
 use Rattle.whole_math.proofs.Words.{as_w128}
 use Rattle.int_search.proofs.coordinates.write_row.Goals as goal

@@ -1,5 +1,5 @@
 use Rattle.std.proofs.Common.{◌≡◌, ℕ, arith, refl, ◌∙◌, below_more}
-use Rattle.form_tables.specs.Tables.{entry}
+use Rattle.quadratic_form.specs.Tables.{entry}
 use Rattle.int_search.specs.Transformed.{whole_entry}
 use Rattle.int_search.proofs.coordinates.write_wholes.Goals as goal
 

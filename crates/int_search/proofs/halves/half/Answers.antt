@@ -1,8 +1,8 @@
 use Rattle.std.proofs.Common.{◌≡◌, ℕ, ◌+◌, ◌*◌, ◌^◌, ◌<◌, ◌≤◌, ℤ, ◌+ℤ◌, ◌*ℤ◌, unsigned_abs, arith, to_z, of_z, ap, ap₂, sym, ◌∙◌, subst, zero-add}
 use Rattle.std.specs.Int.{w64, w128}
 use Rattle.decorrelate.proofs.Words.{rest_w64, narrow_w64}
-use Rattle.form_tables.specs.declared.sizes.TheConstants.{MOST_FORM_COLUMNS}
-use Rattle.form_tables.specs.Tables.{entry}
+use Rattle.quadratic_form.specs.declared.sizes.TheConstants.{MOST_FORM_COLUMNS}
+use Rattle.quadratic_form.specs.Tables.{entry}
 use Rattle.int_search.specs.Sums.{total}
 use Rattle.int_search.specs.Transformed.{with_constant}
 use Rattle.int_search.proofs.TotalLaws.{total_last}

@@ -1,5 +1,5 @@
 use Rattle.std.proofs.Common.{◌≡◌, ◌*◌, ◌^◌, ◌≤◌, ◌*ℤ◌, unsigned_abs}
-use Rattle.form_tables.specs.Tables.{entry}
+use Rattle.quadratic_form.specs.Tables.{entry}
 use Rattle.int_search.specs.Sums.{total}
 use Rattle.int_search.specs.Transformed.{with_constant}
 use Rattle.int_search.proofs.halves.half.Given as goal

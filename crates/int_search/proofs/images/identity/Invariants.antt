@@ -1,6 +1,6 @@
 use Rattle.std.proofs.Common.{◌≡◌, ◌≢◌, ◌⊎◌, ℕ, ◌<◌, ◌≤◌, pos}
-use Rattle.form_tables.specs.Tables.{entry, HasShape}
-use Rattle.form_tables.specs.declared.sizes.TheConstants.{MOST_INTEGERS}
+use Rattle.quadratic_form.specs.Tables.{entry, HasShape}
+use Rattle.quadratic_form.specs.declared.sizes.TheConstants.{MOST_INTEGERS}
 use Rattle.int_search.proofs.images.identity.Given as goal
 
 abbrev pub invariant-loop-i : goal.invariant-loop-i

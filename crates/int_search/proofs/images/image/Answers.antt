@@ -1,7 +1,7 @@
 use Rattle.std.proofs.Common.{◌≡◌, ◌<◌, ◌≤◌, ◌^◌, List, get_or, ℤ, pos, arith, rules, refl, sym, ◌∙◌, unsigned_abs, to_z, of_z, w64, length-set}
 use Rattle.std.specs.Int.{w128}
 use Rattle.std.proofs.lemmas.Int.{ints}
-use Rattle.form_tables.specs.declared.sizes.TheConstants.{MOST_INTEGERS}
+use Rattle.quadratic_form.specs.declared.sizes.TheConstants.{MOST_INTEGERS}
 use Rattle.int_search.specs.Vectors.{suffix}
 use Rattle.int_search.specs.Images.{image_of}
 use Rattle.int_search.proofs.PointLaws.{small_zero, small_set, zeros_start, zeros_set}

@@ -1,6 +1,6 @@
 use Rattle.std.proofs.Common.{◌≡◌, ℕ, ◌<◌, [], pos, get_or, length}
 use Rattle.whole_math.specs.Vectors.{dot}
-use Rattle.form_tables.specs.declared.sizes.TheConstants.{MOST_INTEGERS}
+use Rattle.quadratic_form.specs.declared.sizes.TheConstants.{MOST_INTEGERS}
 use Rattle.integer_form.specs.Kept.{IsZeroFrom}
 use Rattle.int_search.specs.Vectors.{suffix, IsSmall}
 use Rattle.int_search.proofs.images.image.Given as goal

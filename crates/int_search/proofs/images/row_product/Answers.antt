@@ -3,7 +3,7 @@ use Rattle.std.specs.Int.{w128}
 use Rattle.std.proofs.lemmas.Int.{ints, to_z-of_z}
 use Rattle.whole_math.specs.Vectors.{dot}
 use Rattle.whole_math.proofs.Order.{lins}
-use Rattle.form_tables.specs.declared.sizes.TheConstants.{MOST_INTEGERS}
+use Rattle.quadratic_form.specs.declared.sizes.TheConstants.{MOST_INTEGERS}
 use Rattle.int_search.specs.Vectors.{suffix}
 use Rattle.int_search.proofs.ImageLaws.{product_step, product_end}
 use Rattle.int_search.proofs.images.row_product.Goals as goal

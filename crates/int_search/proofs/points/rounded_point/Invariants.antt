@@ -1,5 +1,5 @@
 use Rattle.std.proofs.Common.{◌≡◌, ◌-◌, ◌≤◌, length}
-use Rattle.form_tables.specs.declared.sizes.TheConstants.{MOST_INTEGERS}
+use Rattle.quadratic_form.specs.declared.sizes.TheConstants.{MOST_INTEGERS}
 use Rattle.integer_form.specs.Forms.{integers_of}
 use Rattle.int_search.specs.PlainCount.{rounded}
 use Rattle.integer_form.specs.Kept.{IsZeroFrom}

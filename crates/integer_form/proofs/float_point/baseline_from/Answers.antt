@@ -2,7 +2,7 @@ use Rattle.std.proofs.Common.{◌≡◌, ℕ, ◌-◌, ◌^◌, ◌<◌, ◌≤�
 use Rattle.std.specs.Result.{is_err}
 use Rattle.std.proofs.lemmas.Result.{err_from_is_err_and}
 use Rattle.std.specs.Int.{w64}
-use Rattle.form_tables.specs.Tables.{item}
+use Rattle.quadratic_form.specs.Tables.{item}
 use Rattle.integer_form.specs.FloatPoint.{baseline_at, HasWide}
 use Rattle.whole_math.proofs.Words.{as_w64}
 use Rattle.integer_form.proofs.FloatLaws.{baseline_is, baseline_wide, narrow_three, not_wide}

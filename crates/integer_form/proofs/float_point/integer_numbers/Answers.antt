@@ -1,6 +1,6 @@
 use Rattle.std.proofs.Common.{◌≡◌, ℕ, ◌+◌, ◌-◌, ◌^◌, ◌<◌, ℤ, pos, ◌*ℤ◌, unsigned_abs, arith, sym, ap, ◌∙◌, subst}
 use Rattle.std.proofs.lemmas.Int.{ints}
-use Rattle.form_tables.specs.Tables.{item}
+use Rattle.quadratic_form.specs.Tables.{item}
 use Rattle.integer_form.proofs.FloatLaws.{list_scaled}
 use Rattle.integer_form.proofs.float_point.integer_numbers.Goals as goal
 

@@ -1,6 +1,6 @@
 use Rattle.std.proofs.Common.{◌≡◌, ℕ, ◌+◌, ◌^◌, ◌<◌, length, pos, ◌*ℤ◌}
-use Rattle.form_tables.specs.declared.sizes.TheConstants.{MOST_FACTORS}
-use Rattle.form_tables.specs.Tables.{item}
+use Rattle.quadratic_form.specs.declared.sizes.TheConstants.{MOST_FACTORS}
+use Rattle.quadratic_form.specs.Tables.{item}
 use Rattle.integer_form.proofs.float_point.integer_numbers.Given as goal
 
 abbrev pub invariant-loop-i : goal.invariant-loop-i

@@ -5,7 +5,7 @@ use borrow.Author.Tests.{ltb-true}
 use Rattle.std.proofs.lemmas.Bool.Decides.{nat_tests}
 use Rattle.quadratic_form.specs.Places.{list_from}
 use Rattle.integer_form.specs.Factors.{stored}
-use Rattle.form_tables.specs.Tables.{item}
+use Rattle.quadratic_form.specs.Tables.{item}
 use Rattle.integer_form.specs.FloatPoint.{solved}
 use Rattle.whole_math.proofs.Words.{as_w64, as_w128}
 use Rattle.integer_form.proofs.FloatLaws.{solved_more, wide_column}

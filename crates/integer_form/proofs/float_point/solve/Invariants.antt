@@ -1,8 +1,8 @@
 use Rattle.std.proofs.Common.{◌≡◌, ℕ, ◌-◌, ◌^◌, ◌<◌, ◌≤◌, List, ℤ, length, unsigned_abs}
 use Rattle.quadratic_form.specs.Places.{list_from}
-use Rattle.form_tables.specs.declared.sizes.TheConstants.{MOST_FACTORS}
+use Rattle.quadratic_form.specs.declared.sizes.TheConstants.{MOST_FACTORS}
 use Rattle.integer_form.specs.Factors.{stored}
-use Rattle.form_tables.specs.Tables.{item}
+use Rattle.quadratic_form.specs.Tables.{item}
 use Rattle.integer_form.specs.FloatPoint.{solved}
 use Rattle.integer_form.proofs.float_point.solve.Given as goal
 

@@ -1,8 +1,8 @@
 use Rattle.std.proofs.Common.{◌≡◌, ◌⊎◌, ⊎_elim, inl, inr, ℕ, ◌^◌, ◌<◌, ◌≤◌, List, [], ℤ, pos, unsigned_abs, slice_index_or, arith, sym, ap, ◌∙◌, subst}
 use Rattle.std.proofs.lemmas.List.{get_or_past}
-use Rattle.form_tables.specs.declared.sizes.TheConstants.{MOST_FORM_COLUMNS}
-use Rattle.form_tables.specs.Tables.{entry, HasShape}
-use Rattle.form_tables.proofs.TableLaws.{zero_small}
+use Rattle.quadratic_form.specs.declared.sizes.TheConstants.{MOST_FORM_COLUMNS}
+use Rattle.quadratic_form.specs.Tables.{entry, HasShape}
+use Rattle.quadratic_form.proofs.TableLaws.{zero_small}
 use Rattle.integer_form.proofs.tables.is_form_table.Goals as goal
 
 either : (i : ℕ) → (i < MOST_FORM_COLUMNS) ⊎ (MOST_FORM_COLUMNS ≤ i)

@@ -3,8 +3,8 @@ use Rattle.std.specs.Int.{w64, w128}
 use Rattle.whole_math.proofs.Order.{abs_mul_le}
 use Rattle.whole_math.specs.Vectors.{dot}
 use Rattle.quadratic_form.specs.Places.{list_from}
-use Rattle.form_tables.specs.declared.sizes.TheConstants.{MOST_FORM_COLUMNS}
-use Rattle.form_tables.specs.Tables.{entry, item}
+use Rattle.quadratic_form.specs.declared.sizes.TheConstants.{MOST_FORM_COLUMNS}
+use Rattle.quadratic_form.specs.Tables.{entry, item}
 use Rattle.whole_math.proofs.Words.{as_w64, as_w128, size_add}
 use Rattle.integer_form.proofs.PlaceLaws.{dot_more}
 use Rattle.integer_form.proofs.values.later_products.Goals as goal

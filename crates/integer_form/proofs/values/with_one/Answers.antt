@@ -1,6 +1,6 @@
 use Rattle.std.proofs.Common.{◌≡◌, ℕ, suc, ◌+◌, ◌<◌, ◌≤◌, List, [], ◌∷◌, ◌++◌, length, set, ℤ, pos, get_or-set_same, get_or-set_other, arith, ap, ap₂, ◌∙◌, zero-add}
 use Rattle.quadratic_form.specs.Places.{list_from}
-use Rattle.form_tables.specs.Tables.{item}
+use Rattle.quadratic_form.specs.Tables.{item}
 use Rattle.integer_form.proofs.PlaceLaws.{list_last, list_whole}
 use Rattle.integer_form.proofs.values.with_one.Goals as goal
 

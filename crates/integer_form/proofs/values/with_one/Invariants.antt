@@ -1,6 +1,6 @@
 use Rattle.std.proofs.Common.{◌≡◌, ℕ, ◌<◌, length}
-use Rattle.form_tables.specs.declared.sizes.TheConstants.{MOST_FORM_COLUMNS}
-use Rattle.form_tables.specs.Tables.{item}
+use Rattle.quadratic_form.specs.declared.sizes.TheConstants.{MOST_FORM_COLUMNS}
+use Rattle.quadratic_form.specs.Tables.{item}
 use Rattle.integer_form.proofs.values.with_one.Given as goal
 
 abbrev pub invariant-loop-i : goal.invariant-loop-i

@@ -1,7 +1,7 @@
 use Rattle.std.proofs.Common.{◌≡◌, ℕ, ◌+◌, ◌-◌, ◌^◌, ℤ, pos, ◌+ℤ◌, ◌-ℤ◌, ◌*ℤ◌, ◌≤ℤ◌, ◌<ℤ◌, arith, to_z, of_z, pow_pos, sym, subst₂}
 use Rattle.std.specs.Int.{w128}
 use Rattle.std.proofs.lemmas.Int.{ints, to_z-of_z}
-use Rattle.rational.specs.Rational.{Rational, InBox, ◌*ʳ◌}
+use Rattle.whole_math.specs.Rational.{Rational, InBox, ◌*ʳ◌}
 use Rattle.iv_core.specs.Boxes.{near_end, far_end}
 use Rattle.whole_math.specs.Rounding.{floor_div, ceil_div}
 use Rattle.whole_math.proofs.Rounding.{floor_le_ceil}

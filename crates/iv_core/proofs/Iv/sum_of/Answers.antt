@@ -1,6 +1,6 @@
 use Rattle.std.proofs.Common.{arith, sym, subst₂}
 use Rattle.std.proofs.lemmas.Int.{ints}
-use Rattle.rational.specs.Rational.{Rational, InBox, ◌+ʳ◌}
+use Rattle.whole_math.specs.Rational.{Rational, InBox, ◌+ʳ◌}
 use Rattle.iv_core.proofs.SumLaws.{add_holds}
 use Rattle.iv_core.proofs.Iv.sum_of.Goals as goal
 

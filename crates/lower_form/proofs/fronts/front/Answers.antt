@@ -1,8 +1,8 @@
 use Rattle.std.proofs.Common.{◌≡◌, ◌⊎◌, ℕ, ◌-◌, ◌≤◌, List, ℤ, pos, arith, ap, ◌∙◌, refl}
 use Rattle.quadratic_form.specs.Places.{form_from}
-use Rattle.form_tables.specs.declared.sizes.TheConstants.{MOST_COLUMNS, MOST_FACTORS}
-use Rattle.form_tables.specs.Tables.{entry}
-use Rattle.form_tables.proofs.TableLaws.{zero_entry}
+use Rattle.quadratic_form.specs.declared.sizes.TheConstants.{MOST_COLUMNS, MOST_FACTORS}
+use Rattle.quadratic_form.specs.Tables.{entry}
+use Rattle.quadratic_form.proofs.TableLaws.{zero_entry}
 use Rattle.normal_sum.specs.declared.normal.Normal.{Normal}
 use Rattle.integer_form.specs.Factors.{stored}
 use Rattle.lower_form.proofs.FrontKept.{front_range, fronted, Fronted}

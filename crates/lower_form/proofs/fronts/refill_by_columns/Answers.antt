@@ -1,6 +1,6 @@
 use Rattle.std.proofs.Common.{◌≡◌, ◌⊎◌, ℕ, ◌-◌, ◌≤◌, pos, arith, sym, ◌∙◌, subst}
 use Rattle.quadratic_form.specs.Places.{form_from}
-use Rattle.form_tables.specs.Tables.{entry, IsZeroOutside}
+use Rattle.quadratic_form.specs.Tables.{entry, IsZeroOutside}
 use Rattle.normal_sum.specs.declared.normal.Normal.{Normal}
 use Rattle.integer_form.specs.declared.front_form.FrontForm.{FrontForm}
 use Rattle.integer_form.specs.Factors.{stored}

@@ -3,7 +3,7 @@ use Rattle.std.proofs.lemmas.Result.{on_ok_weaker}
 use Rattle.quadratic_form.specs.Forms.{Column}
 use Rattle.quadratic_form.specs.Elimination.{steps}
 use Rattle.quadratic_form.specs.Places.{form_from}
-use Rattle.form_tables.specs.Tables.{entry}
+use Rattle.quadratic_form.specs.Tables.{entry}
 use Rattle.lower_form.specs.FirstRounding.{first_form}
 use Rattle.integer_form.specs.Factors.{stored}
 use Rattle.lower_form.proofs.FrontLaws.{bounds_all}

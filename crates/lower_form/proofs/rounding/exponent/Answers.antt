@@ -2,7 +2,7 @@ use Rattle.std.proofs.Common.{ℕ, ◌+◌, ◌^◌, ℤ, pos, ◌≤ℤ◌, ◌
 use Rattle.std.proofs.lemmas.Int.{ints}
 use Rattle.std.specs.Int.{w128}
 use Rattle.whole_math.proofs.Order.{lins}
-use Rattle.form_tables.specs.Tables.{entry}
+use Rattle.quadratic_form.specs.Tables.{entry}
 use Rattle.lower_form.proofs.ExponentLaws.{own_below, own_of, power_above}
 use Rattle.lower_form.proofs.rounding.exponent.Goals as goal
 

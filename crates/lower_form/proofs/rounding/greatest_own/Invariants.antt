@@ -1,5 +1,5 @@
 use Rattle.std.proofs.Common.{ℕ, ◌^◌, ◌<◌, ℤ, pos, ◌*ℤ◌, ◌≤ℤ◌, ◌<ℤ◌}
-use Rattle.form_tables.specs.Tables.{entry}
+use Rattle.quadratic_form.specs.Tables.{entry}
 use Rattle.lower_form.proofs.rounding.greatest_own.Given as goal
 
 abbrev pub invariant-loop-i : goal.invariant-loop-i

@@ -2,7 +2,7 @@ use Rattle.std.proofs.Common.{◌≡◌, ℕ, ◌<◌, ◌≤◌, true, false, a
 use Rattle.quadratic_form.specs.Forms.{Column}
 use Rattle.quadratic_form.specs.Elimination.{form_small}
 use Rattle.quadratic_form.proofs.Places.{form_same}
-use Rattle.form_tables.specs.Tables.{entry}
+use Rattle.quadratic_form.specs.Tables.{entry}
 use Rattle.elimination.specs.StepEntries.{is_small}
 use Rattle.lower_form.specs.FirstRounding.{first_entry}
 use Rattle.elimination.proofs.SmallEntries.{form_all_small, form_wide}

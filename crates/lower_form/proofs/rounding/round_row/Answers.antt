@@ -1,6 +1,6 @@
 use Rattle.std.proofs.Common.{◌≡◌, inl, inr, ℕ, ◌≤◌, ℤ, true, arith, to_z, of_z, sym, ap, ◌∙◌, subst, below_more}
 use Rattle.std.specs.Int.{w128}
-use Rattle.form_tables.specs.Tables.{entry}
+use Rattle.quadratic_form.specs.Tables.{entry}
 use Rattle.elimination.specs.StepEntries.{is_small}
 use Rattle.lower_form.specs.FirstRounding.{first_entry}
 use Rattle.elimination.proofs.Words.{wide_w128}

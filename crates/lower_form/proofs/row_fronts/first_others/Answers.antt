@@ -2,8 +2,8 @@ use Rattle.std.proofs.Common.{◌≡◌, ◌≢◌, ℕ, ◌^◌, ◌<◌, ◌�
 use Rattle.std.specs.Int.{w64, w128}
 use Rattle.whole_math.specs.Rounding.{floor_div, nearest_div}
 use Rattle.whole_math.proofs.Words.{as_w64, as_w128}
-use Rattle.form_tables.specs.declared.sizes.TheConstants.{MOST_COLUMNS}
-use Rattle.form_tables.specs.Tables.{entry, item}
+use Rattle.quadratic_form.specs.declared.sizes.TheConstants.{MOST_COLUMNS}
+use Rattle.quadratic_form.specs.Tables.{entry, item}
 use Rattle.normal_sum.specs.declared.normal.Normal.{Normal}
 use Rattle.elimination.specs.StepEntries.{is_small}
 use Rattle.elimination.proofs.NewEntries.{apart}

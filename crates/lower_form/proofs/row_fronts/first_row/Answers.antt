@@ -1,8 +1,8 @@
 use Rattle.std.proofs.Common.{◌≡◌, ⊎_elim, ℕ, ◌<◌, ◌≤◌, length, ℤ, pos, true, get_or-set_same, arith, to_z, of_z, sym, ap, ◌∙◌, subst, eq-or-lt_of_le}
 use Rattle.std.specs.Int.{w64, w128}
 use Rattle.whole_math.proofs.Words.{as_w64}
-use Rattle.form_tables.specs.declared.sizes.TheConstants.{MOST_COLUMNS}
-use Rattle.form_tables.specs.Tables.{item}
+use Rattle.quadratic_form.specs.declared.sizes.TheConstants.{MOST_COLUMNS}
+use Rattle.quadratic_form.specs.Tables.{item}
 use Rattle.normal_sum.specs.declared.normal.Normal.{Normal}
 use Rattle.elimination.specs.StepEntries.{is_small}
 use Rattle.elimination.proofs.SmallEntries.{small_size}

@@ -1,6 +1,6 @@
 use Rattle.std.proofs.Common.{◌≡◌, ℕ, ◌+◌, ◌-◌, ◌^◌, ◌<◌, ◌≤◌, List, ℤ, true, unsigned_abs, arith, sym, ap, ◌∙◌, refl, subst, below_more}
 use borrow.Author.Tests.{ltb-true}
-use Rattle.form_tables.specs.Tables.{entry, item, IsZeroOutside}
+use Rattle.quadratic_form.specs.Tables.{entry, item, IsZeroOutside}
 use Rattle.integer_form.specs.declared.front_form.FrontForm.{FrontForm}
 use Rattle.elimination.specs.StepEntries.{is_small}
 use Rattle.elimination.specs.RowSteps.{row_entry, HasFactors}

@@ -2,7 +2,7 @@ use Rattle.std.proofs.Common.{◌≡◌, ℕ, ◌^◌, ◌<◌, ◌≤◌, List,
 use Rattle.std.specs.Int.{w64}
 use Rattle.whole_math.proofs.Words.{as_w64}
 use Rattle.quadratic_form.specs.Elimination.{kept}
-use Rattle.form_tables.specs.Tables.{entry, item}
+use Rattle.quadratic_form.specs.Tables.{entry, item}
 use Rattle.normal_sum.specs.declared.normal.Normal.{Normal}
 use Rattle.elimination.specs.StepEntries.{is_small}
 use Rattle.elimination.proofs.SmallEntries.{small_entry}

@@ -1,5 +1,5 @@
 use Rattle.std.proofs.Common.{◌≡◌, length, rules}
-use Rattle.form_tables.specs.declared.sizes.TheConstants.{MOST_COLUMNS}
+use Rattle.quadratic_form.specs.declared.sizes.TheConstants.{MOST_COLUMNS}
 use Rattle.normal_sum.proofs.CoefficientPlaces.{zeros_again}
 use Rattle.normal_sum.proofs.coefficients.clear_coefficients.Goals as goal
 

@@ -1,7 +1,7 @@
 use Rattle.std.proofs.Common.{rules, ◌≡◌, ℕ, ◌+◌, ◌^◌, ◌<◌, ◌≤◌, length, List, set, replicate, Option, pos, neg_ℤ, ◌-ℤ◌, ℤ, unsigned_abs, arith, to_z, of_z, ap, sym, ◌∙◌, subst}
 use Rattle.std.specs.Int.{w64}
 use Rattle.obs_rows.specs.Data.{number_at}
-use Rattle.form_tables.specs.declared.sizes.TheConstants.{MOST_COLUMNS}
+use Rattle.quadratic_form.specs.declared.sizes.TheConstants.{MOST_COLUMNS}
 use Rattle.whole_math.proofs.Words.{as_w64}
 use Rattle.normal_sum.specs.Places.{put_at}
 use Rattle.normal_sum.proofs.Words.{neg_w64, size_neg}

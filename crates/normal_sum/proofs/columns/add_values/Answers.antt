@@ -1,7 +1,7 @@
 use Rattle.std.proofs.Common.{rules, ◌≡◌, ℕ, ◌<◌, ◌≤◌, ◌^◌, length, ℤ, pos, ◌+ℤ◌, unsigned_abs, slice_index_or, get_or, to_z, of_z, arith, sym, ◌∙◌, subst, length-set, get_or-set_same, get_or-set_other}
 use Rattle.std.proofs.lemmas.Int.{ints}
 use Rattle.std.specs.Int.{w64}
-use Rattle.form_tables.specs.declared.sizes.TheConstants.{MOST_COLUMNS}
+use Rattle.quadratic_form.specs.declared.sizes.TheConstants.{MOST_COLUMNS}
 use Rattle.whole_math.proofs.Words.{as_w64}
 use Rattle.normal_sum.proofs.ColumnLaws.{none_added, one_more, untouched, all_added}
 use Rattle.normal_sum.proofs.columns.add_values.Goals as goal

@@ -1,5 +1,5 @@
 use Rattle.std.proofs.Common.{◌≡◌, ◌<◌, length, pos, slice_index_or}
-use Rattle.form_tables.specs.declared.sizes.TheConstants.{MOST_COLUMNS}
+use Rattle.quadratic_form.specs.declared.sizes.TheConstants.{MOST_COLUMNS}
 use Rattle.normal_sum.proofs.ColumnLaws.{AddedIn}
 use Rattle.normal_sum.proofs.columns.add_values.Given as goal
 

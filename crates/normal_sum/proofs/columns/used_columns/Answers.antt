@@ -1,5 +1,5 @@
 use Rattle.std.proofs.Common.{rules, ◌≡◌, ℕ, ◌+◌, arith, List, [], ◌∷◌, ◌++◌, ℤ, pos, slice_index_or, sym, subst}
-use Rattle.form_tables.specs.declared.sizes.TheConstants.{BASELINE_COLUMNS}
+use Rattle.quadratic_form.specs.declared.sizes.TheConstants.{BASELINE_COLUMNS}
 use Rattle.normal_sum.proofs.ColumnLaws.{AreUsed, one_used, not_used, all_used}
 use Rattle.normal_sum.proofs.columns.used_columns.Goals.{then-values-j-ne0, else-values-j-ne0}
 use Rattle.normal_sum.proofs.columns.used_columns.Goals as goal

@@ -1,6 +1,6 @@
 use Rattle.std.proofs.Common.{◌≡◌, ℕ, ◌+◌, ◌^◌, ◌≤◌, ◌+ℤ◌, ◌*ℤ◌, ℤ, arith, ap, ◌∙◌, to_z, of_z, below_more, unsigned_abs, sym, subst}
 use Rattle.std.specs.Int.{w64}
-use Rattle.form_tables.specs.Tables.{entry}
+use Rattle.quadratic_form.specs.Tables.{entry}
 use Rattle.normal_sum.specs.Directions.{direction_spread}
 use Rattle.normal_sum.proofs.directions.add_directions.Goals as goal
 

@@ -1,6 +1,6 @@
 use Rattle.std.proofs.Common.{◌≡◌, ⊎_elim, ℕ, ◌<◌, ◌≤◌, arith, sym, ◌∙◌, below_more}
 use Rattle.std.proofs.lemmas.Bool.{cases_lt}
-use Rattle.form_tables.specs.Tables.{entry}
+use Rattle.quadratic_form.specs.Tables.{entry}
 use Rattle.normal_sum.proofs.mirror.mirror.Goals as goal
 
 pub loop-row-preserved : goal.loop-row-preserved

@@ -1,8 +1,8 @@
 use Rattle.std.proofs.Common.{ℕ, ◌+◌, ◌^◌, ◌≤◌, ◌+ℤ◌, ◌*ℤ◌, pos, length, unsigned_abs, ℤ, arith, sym, ap, ◌∙◌, subst, to_z, of_z}
 use Rattle.std.specs.Int.{w64, w128}
 use Rattle.whole_math.proofs.Words.{as_w64, as_w128}
-use Rattle.form_tables.specs.declared.sizes.TheConstants.{BASELINE_COLUMNS}
-use Rattle.form_tables.specs.Tables.{entry}
+use Rattle.quadratic_form.specs.declared.sizes.TheConstants.{BASELINE_COLUMNS}
+use Rattle.quadratic_form.specs.Tables.{entry}
 use Rattle.obs_rows.specs.SumOfSquares.{share}
 use Rattle.normal_sum.specs.Observations.{observation_spread}
 use Rattle.normal_sum.proofs.RowSums.{spread_fits, spread_size, twice_turned}

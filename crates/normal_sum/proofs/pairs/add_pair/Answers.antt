@@ -5,8 +5,8 @@ use Rattle.std.specs.Int.{w64}
 use Rattle.whole_math.specs.Vectors.{sum}
 use Rattle.quadratic_form.specs.Rows.{SignalGroup}
 use Rattle.quadratic_form.specs.MatrixEntries.{group_entry, matrix_entry}
-use Rattle.form_tables.specs.declared.sizes.TheConstants.{BASELINE_COLUMNS}
-use Rattle.form_tables.specs.Tables.{entry}
+use Rattle.quadratic_form.specs.declared.sizes.TheConstants.{BASELINE_COLUMNS}
+use Rattle.quadratic_form.specs.Tables.{entry}
 use Rattle.obs_rows.specs.declared.arcs.Arc.{Arc}
 use Rattle.obs_rows.specs.declared.rows.Row.{Row}
 use Rattle.obs_rows.specs.declared.units.TheConstants.{PHASES}

@@ -1,7 +1,7 @@
 use Rattle.std.proofs.Common.{◌≡◌, ◌⊎◌, ℕ, ◌+◌, ◌*◌, ◌^◌, ◌<◌, ◌≤◌, map, drop, ◌+ℤ◌, unsigned_abs}
 use Rattle.quadratic_form.specs.MatrixEntries.{matrix_entry}
-use Rattle.form_tables.specs.declared.sizes.TheConstants.{BASELINE_COLUMNS, MOST_COLUMNS}
-use Rattle.form_tables.specs.Tables.{entry}
+use Rattle.quadratic_form.specs.declared.sizes.TheConstants.{BASELINE_COLUMNS, MOST_COLUMNS}
+use Rattle.quadratic_form.specs.Tables.{entry}
 use Rattle.obs_rows.specs.SignalGroups.{signal_group}
 use Rattle.normal_sum.proofs.pairs.add_pair.Given as goal
 

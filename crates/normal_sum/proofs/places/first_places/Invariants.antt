@@ -1,5 +1,5 @@
 use Rattle.std.proofs.Common.{◌≡◌, ℕ, ◌<◌, ◌≤◌, length, slice_index_or, None, IfSome}
-use Rattle.form_tables.specs.declared.sizes.TheConstants.{MOST_INTEGERS}
+use Rattle.quadratic_form.specs.declared.sizes.TheConstants.{MOST_INTEGERS}
 use Rattle.obs_rows.specs.declared.rows.Row.{Row}
 use Rattle.obs_rows.specs.Arcs.{free_before}
 use Rattle.obs_rows.specs.Signals.{phases}

@@ -3,8 +3,8 @@ use Rattle.std.proofs.lemmas.Bool.{cases_eq}
 use Rattle.std.proofs.lemmas.Int.{to_z-of_z}
 use Rattle.std.proofs.lemmas.List.{take_rest}
 use Rattle.std.specs.Int.{w64}
-use Rattle.form_tables.specs.declared.sizes.TheConstants.{BASELINE_COLUMNS}
-use Rattle.form_tables.specs.Tables.{entry}
+use Rattle.quadratic_form.specs.declared.sizes.TheConstants.{BASELINE_COLUMNS}
+use Rattle.quadratic_form.specs.Tables.{entry}
 use Rattle.normal_sum.specs.Columns.{AreColumnsFrom}
 use Rattle.normal_sum.proofs.RowSums.{product_nothing}
 use Rattle.normal_sum.proofs.ColumnLaws.{none_added, one_more, untouched, all_added, columns_from}

@@ -1,6 +1,6 @@
 use Rattle.std.proofs.Common.{◌≡◌, ◌⊎◌, ℕ, ◌<◌, ◌≤◌, pos, ◌*ℤ◌, slice_index_or}
-use Rattle.form_tables.specs.Tables.{entry}
-use Rattle.form_tables.specs.declared.sizes.TheConstants.{BASELINE_COLUMNS, MOST_COLUMNS}
+use Rattle.quadratic_form.specs.Tables.{entry}
+use Rattle.quadratic_form.specs.declared.sizes.TheConstants.{BASELINE_COLUMNS, MOST_COLUMNS}
 use Rattle.normal_sum.proofs.ColumnLaws.{AddedIn}
 use Rattle.normal_sum.proofs.products.add_product.Given as goal
 

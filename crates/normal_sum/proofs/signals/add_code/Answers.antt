@@ -1,7 +1,7 @@
 use Rattle.std.proofs.Common.{◌≡◌, inl, inr, ⊎_elim, ℕ, ◌<◌, ◌+◌, ◌*◌, ◌^◌, ◌≤◌, unsigned_abs, arith}
 use Rattle.std.proofs.lemmas.Bool.{cases_eq}
-use Rattle.form_tables.specs.declared.sizes.TheConstants.{BASELINE_COLUMNS}
-use Rattle.form_tables.specs.Tables.{entry}
+use Rattle.quadratic_form.specs.declared.sizes.TheConstants.{BASELINE_COLUMNS}
+use Rattle.quadratic_form.specs.Tables.{entry}
 use Rattle.normal_sum.proofs.ObservationLaws.{code_entries}
 use Rattle.obs_rows.specs.declared.limits.TheConstants.{MOST_PAIRS}
 use Rattle.normal_sum.proofs.signals.add_code.Goals as goal

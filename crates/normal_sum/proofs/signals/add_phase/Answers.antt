@@ -6,8 +6,8 @@ use Rattle.quadratic_form.specs.Rows.{SignalRow}
 use Rattle.quadratic_form.specs.MatrixEntries.{coefficient_sum, product_sum}
 use Rattle.quadratic_form.proofs.NormalForm.{share_is}
 use Rattle.obs_rows.specs.declared.rows.Row.{Row}
-use Rattle.form_tables.specs.declared.sizes.TheConstants.{MOST_COLUMNS}
-use Rattle.form_tables.specs.Tables.{entry}
+use Rattle.quadratic_form.specs.declared.sizes.TheConstants.{MOST_COLUMNS}
+use Rattle.quadratic_form.specs.Tables.{entry}
 use Rattle.obs_rows.specs.Signals.{weight}
 use Rattle.obs_rows.specs.SignalGroups.{signal_row, signal_group}
 use Rattle.normal_sum.specs.Places.{ArePlaces}

@@ -1,6 +1,6 @@
 use Rattle.std.proofs.Common.{◌≡◌, ℕ, ◌+◌, ◌<◌, ◌≢◌, ℤ, pos, ◌+ℤ◌, arith, ap, ◌∙◌, slice_index_or, Option, Some, None, IfSome}
 use Rattle.std.proofs.Math.IntN.{+ℤ_idr}
-use Rattle.form_tables.specs.declared.sizes.TheConstants.{BASELINE_COLUMNS}
+use Rattle.quadratic_form.specs.declared.sizes.TheConstants.{BASELINE_COLUMNS}
 use Rattle.normal_sum.proofs.signals.add_row.Goals as goal
 
 -- a column after that of the constant is none of an integer

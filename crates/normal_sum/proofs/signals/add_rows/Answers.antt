@@ -3,9 +3,9 @@ use Rattle.std.proofs.lemmas.List.{drop_more}
 use Rattle.std.proofs.lemmas.Int.{ints}
 use Rattle.quadratic_form.specs.Rows.{SignalRow}
 use Rattle.quadratic_form.specs.MatrixEntries.{coefficient, coefficient_sum, product_sum}
-use Rattle.form_tables.specs.declared.sizes.TheConstants.{MOST_COLUMNS}
-use Rattle.form_tables.specs.Tables.{entry}
-use Rattle.form_tables.proofs.TableLaws.{zero_item}
+use Rattle.quadratic_form.specs.declared.sizes.TheConstants.{MOST_COLUMNS}
+use Rattle.quadratic_form.specs.Tables.{entry}
+use Rattle.quadratic_form.proofs.TableLaws.{zero_item}
 use Rattle.obs_rows.specs.declared.rows.Row.{Row}
 use Rattle.obs_rows.specs.Signals.{weight}
 use Rattle.obs_rows.specs.Integers.{integer_place}

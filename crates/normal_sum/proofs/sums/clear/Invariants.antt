@@ -1,5 +1,5 @@
 use Rattle.std.proofs.Common.{◌≡◌, ◌⊎◌, ℕ, ◌<◌, ◌≤◌, pos}
-use Rattle.form_tables.specs.Tables.{entry}
+use Rattle.quadratic_form.specs.Tables.{entry}
 use Rattle.normal_sum.proofs.sums.clear.Given as goal
 
 abbrev pub invariant-loop-row : goal.invariant-loop-row

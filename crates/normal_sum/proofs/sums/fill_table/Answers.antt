@@ -11,8 +11,8 @@ use Rattle.obs_rows.specs.declared.units.TheConstants.{MOST_FREE_ARCS}
 use Rattle.obs_rows.specs.Arcs.{free_count}
 use Rattle.obs_rows.specs.CountedSignals.{AreCounted}
 use Rattle.obs_rows.specs.Pairs.{HasItsArcs}
-use Rattle.form_tables.specs.declared.sizes.TheConstants.{MOST_COLUMNS}
-use Rattle.form_tables.specs.Tables.{entry, HasShape}
+use Rattle.quadratic_form.specs.declared.sizes.TheConstants.{MOST_COLUMNS}
+use Rattle.quadratic_form.specs.Tables.{entry, HasShape}
 use Rattle.obs_rows.specs.Integers.{integer_count}
 use Rattle.obs_rows.specs.SignalGroups.{signal_groups}
 use Rattle.obs_rows.proofs.GroupShapes.{groups_of}

@@ -1,8 +1,8 @@
 use Rattle.std.proofs.Common.{◌≡◌, ℕ, ◌+◌, ◌*◌, ◌^◌, ◌<◌, ◌≤◌, drop, pos, ◌+ℤ◌, unsigned_abs}
 use Rattle.quadratic_form.specs.Rows.{add_radii, radii}
 use Rattle.quadratic_form.specs.MatrixEntries.{matrix_entry}
-use Rattle.form_tables.specs.declared.sizes.TheConstants.{BASELINE_COLUMNS, MOST_COLUMNS}
-use Rattle.form_tables.specs.Tables.{entry}
+use Rattle.quadratic_form.specs.declared.sizes.TheConstants.{BASELINE_COLUMNS, MOST_COLUMNS}
+use Rattle.quadratic_form.specs.Tables.{entry}
 use Rattle.obs_rows.specs.SignalGroups.{signal_groups}
 use Rattle.normal_sum.specs.RadiusSums.{radii_of, IsAtMost}
 use Rattle.normal_sum.proofs.sums.fill_table.Given as goal

@@ -1,7 +1,7 @@
 use Rattle.std.proofs.Common.{◌+◌, List, ℤ, ap, ◌∙◌}
-use Rattle.form_tables.specs.declared.sizes.TheConstants.{MOST_COLUMNS}
-use Rattle.form_tables.specs.Tables.{entry}
-use Rattle.form_tables.proofs.TableLaws.{zero_entry}
+use Rattle.quadratic_form.specs.declared.sizes.TheConstants.{MOST_COLUMNS}
+use Rattle.quadratic_form.specs.Tables.{entry}
+use Rattle.quadratic_form.proofs.TableLaws.{zero_entry}
 use Rattle.obs_rows.specs.Integers.{integer_count}
 use Rattle.normal_sum.proofs.NormalInvariants.{Shaped, shaped, columns_of_sum}
 use Rattle.normal_sum.proofs.sums.sum_pairs.Goals as goal

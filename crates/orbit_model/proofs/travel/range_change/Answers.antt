@@ -1,6 +1,6 @@
 use Rattle.std.proofs.Common.{◌*◌, pos, lit≤}
-use Rattle.rational.specs.Rational.{of_whole}
-use Rattle.rational.proofs.Laws.{≤ʳ_trans}
+use Rattle.whole_math.specs.Rational.{of_whole}
+use Rattle.whole_math.proofs.RationalLaws.{≤ʳ_trans}
 use Rattle.orbit_model.specs.SeenPlaces.{square}
 use Rattle.orbit_model.proofs.Apart.{whole_le}
 use Rattle.orbit_model.proofs.Changes.{range_change}

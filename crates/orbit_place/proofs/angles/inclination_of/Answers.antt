@@ -1,5 +1,5 @@
 use Rattle.std.proofs.Common.{lit<}
-use Rattle.rational.specs.Rational.{◌+ʳ◌, ◌*ʳ◌, times, divided}
+use Rattle.whole_math.specs.Rational.{◌+ʳ◌, ◌*ʳ◌, times, divided}
 use Rattle.orbit_model.specs.Solution.{harmonic}
 use Rattle.orbit_place.proofs.Transports.{held_along, inclination_with}
 use Rattle.orbit_place.proofs.angles.inclination_of.Goals as goal

@@ -1,4 +1,4 @@
-use Rattle.rational.specs.Rational.{◌+ʳ◌, ◌*ʳ◌}
+use Rattle.whole_math.specs.Rational.{◌+ʳ◌, ◌*ʳ◌}
 use Rattle.orbit_place.proofs.angles.longitude_of.Goals as goal
 
 pub returns : goal.returns

@@ -1,5 +1,5 @@
 use Rattle.std.proofs.Common.{refl, lit<}
-use Rattle.rational.specs.Rational.{◌+ʳ◌, ◌-ʳ◌, ◌*ʳ◌, times, divided}
+use Rattle.whole_math.specs.Rational.{◌+ʳ◌, ◌-ʳ◌, ◌*ʳ◌, times, divided}
 use Rattle.orbit_model.specs.Elements.{earth_rate}
 use Rattle.orbit_place.proofs.Transports.{held_along, node_with}
 use Rattle.orbit_place.proofs.angles.node_of.Goals as goal

@@ -1,4 +1,4 @@
-use Rattle.rational.specs.Rational.{times}
+use Rattle.whole_math.specs.Rational.{times}
 use Rattle.orbit_model.specs.Elements.{earth_rate}
 use Rattle.orbit_place.proofs.angles.relative_rate.Goals as goal
 

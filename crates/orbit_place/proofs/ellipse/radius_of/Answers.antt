@@ -1,5 +1,5 @@
 use Rattle.std.proofs.Common.{sym, subst}
-use Rattle.rational.specs.Rational.{◌-ʳ◌, ◌*ʳ◌}
+use Rattle.whole_math.specs.Rational.{◌-ʳ◌, ◌*ʳ◌}
 use Rattle.iv_core.specs.declared.Iv.{Iv}
 use Rattle.iv_core.specs.Intervals.{Holds}
 use Rattle.orbit_model.specs.Solution.{one}

@@ -1,4 +1,4 @@
-use Rattle.rational.specs.Rational.{◌*ʳ◌}
+use Rattle.whole_math.specs.Rational.{◌*ʳ◌}
 use Rattle.orbit_model.specs.Solution.{one}
 use Rattle.orbit_place.proofs.Ellipses.{one_held}
 use Rattle.orbit_place.proofs.ellipse.rest_of.Goals as goal

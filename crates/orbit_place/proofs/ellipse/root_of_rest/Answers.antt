@@ -1,7 +1,7 @@
 use Rattle.std.proofs.Common.{pos, neg_ℤ, ◌≤ℤ◌, ◌^◌, ◌*◌, arith, sym, subst}
 use Rattle.std.proofs.lemmas.Int.{ints}
-use Rattle.rational.specs.Rational.{two_to_minus, ◌*ʳ◌, ◌-ʳ◌, AreWithin}
-use Rattle.rational.specs.Boxes.{of_scale}
+use Rattle.whole_math.specs.Rational.{two_to_minus, ◌*ʳ◌, ◌-ʳ◌, AreWithin}
+use Rattle.whole_math.specs.Boxes.{of_scale}
 use Rattle.iv_core.specs.declared.Iv.{Iv}
 use Rattle.iv_core.specs.Intervals.{Holds}
 use Rattle.orbit_model.specs.Solution.{one}

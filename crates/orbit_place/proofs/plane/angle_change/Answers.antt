@@ -1,7 +1,7 @@
 use Rattle.std.proofs.Common.{sym, subst}
 use Rattle.iv_core.specs.declared.Iv.{Iv}
 use Rattle.iv_core.specs.Intervals.{Holds}
-use Rattle.rational.specs.Rational.{◌*ʳ◌}
+use Rattle.whole_math.specs.Rational.{◌*ʳ◌}
 use Rattle.orbit_place.proofs.plane.angle_change.Goals as goal
 
 pub returns : goal.returns

@@ -1,4 +1,4 @@
-use Rattle.rational.specs.Rational.{◌+ʳ◌, ◌-ʳ◌, ◌*ʳ◌}
+use Rattle.whole_math.specs.Rational.{◌+ʳ◌, ◌-ʳ◌, ◌*ʳ◌}
 use Rattle.trig_box.specs.AnglePairs.{double}
 use Rattle.orbit_model.specs.Solution.{one, harmonic, turned}
 use Rattle.orbit_place.specs.Rotations.{HoldsBoth}

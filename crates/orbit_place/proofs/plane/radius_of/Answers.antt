@@ -1,4 +1,4 @@
-use Rattle.rational.specs.Rational.{◌*ʳ◌}
+use Rattle.whole_math.specs.Rational.{◌*ʳ◌}
 use Rattle.orbit_place.proofs.Radii.{radius_least}
 use Rattle.orbit_place.proofs.plane.radius_of.Goals as goal
 

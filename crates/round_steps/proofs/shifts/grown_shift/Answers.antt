@@ -1,5 +1,5 @@
 use Rattle.std.proofs.Common.{◌≡◌, ℕ, ◌+◌, ◌^◌, ◌<◌, List, ℤ, pos, ◌+ℤ◌, length, drop, take, get_or, unsigned_abs, arith, ap, ◌∙◌, sym, subst, rules}
-use Rattle.form_tables.specs.declared.sizes.TheConstants.{BASELINE_COLUMNS, MOST_FACTORS, MOST_INTEGERS}
+use Rattle.quadratic_form.specs.declared.sizes.TheConstants.{BASELINE_COLUMNS, MOST_FACTORS, MOST_INTEGERS}
 use Rattle.obs_rows.specs.Arcs.{free_count}
 use Rattle.obs_rows.specs.Signals.{phases, band}
 use Rattle.obs_rows.specs.Ranges.{IsBelow}

@@ -2,8 +2,8 @@ use Rattle.std.proofs.Common.{◌≡◌, ◌+◌, ◌^◌, ◌-ℤ◌, ◌+ℤ�
 use Rattle.std.proofs.lemmas.Int.{ints, to_z-of_z}
 use Rattle.std.specs.Int.{w64}
 use Rattle.whole_math.specs.Rounding.{IsNearest, floor_div, ceil_div}
-use Rattle.rational.specs.Rational.{of_whole, ◌-ʳ◌, InBox}
-use Rattle.rational.proofs.Boxes.{InBox-along, Near-along}
+use Rattle.whole_math.specs.Rational.{of_whole, ◌-ʳ◌, InBox}
+use Rattle.whole_math.proofs.Boxes.{InBox-along, Near-along}
 use Rattle.orbit_model.specs.SeenPlaces.{range_of}
 use Rattle.obs_rows.specs.Signals.{wavelength}
 use Rattle.row_boxes.specs.Terms.{prefit_width, pseudorange, iota_exponent}

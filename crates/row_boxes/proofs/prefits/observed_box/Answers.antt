@@ -2,7 +2,7 @@ use Rattle.std.proofs.Common.{◌≡◌, ℕ, zero, suc, Bool, true, false, IsTr
 use Rattle.std.proofs.lemmas.Int.{ints}
 use Rattle.std.proofs.lemmas.Bool.{false≢true}
 use Rattle.whole_math.specs.Rounding.{IsFloor, IsCeil}
-use Rattle.rational.specs.Rational.{InBox}
+use Rattle.whole_math.specs.Rational.{InBox}
 use Rattle.obs_rows.specs.Signals.{wavelength, is_phase}
 use Rattle.row_boxes.specs.declared.pseudoranges.TheConstants.{HALF_LIGHT_SPEED}
 use Rattle.row_boxes.specs.declared.prefits.TheConstants.{MILLIMETRE_UNITS}

@@ -1,7 +1,7 @@
 use Rattle.std.proofs.Common.{◌≡◌, ◌*◌, ◌^◌, ◌<◌, ◌-ℤ◌, ℤ, arith, lit≤, unsigned_abs, to_z, of_z, sym, subst}
 use Rattle.std.proofs.lemmas.Int.{to_z-of_z}
 use Rattle.std.specs.Int.{w64, w128}
-use Rattle.rational.specs.Rational.{◌-ʳ◌, InBox}
+use Rattle.whole_math.specs.Rational.{◌-ʳ◌, InBox}
 use Rattle.obs_rows.specs.Signals.{wavelength}
 use Rattle.row_boxes.specs.Terms.{iota_exponent}
 use Rattle.row_boxes.specs.Sightings.{observed}

@@ -3,7 +3,7 @@ use Rattle.std.specs.Int.{w64, w128}
 use Rattle.std.proofs.lemmas.Int.{ints, to_z-of_z}
 use Rattle.whole_math.specs.Rounding.{IsFloor, IsCeil}
 use Rattle.whole_math.proofs.Inequalities.{le_trans_ℤ}
-use Rattle.rational.specs.Rational.{InBox}
+use Rattle.whole_math.specs.Rational.{InBox}
 use Rattle.obs_rows.specs.declared.units.TheConstants.{LIGHT_SPEED}
 use Rattle.iv_core.proofs.Sizes.{end_cast}
 use Rattle.row_boxes.specs.declared.pseudoranges.TheConstants.{METRE_UNITS, HALF_LIGHT_SPEED}

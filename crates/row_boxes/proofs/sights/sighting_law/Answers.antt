@@ -1,6 +1,6 @@
 use Rattle.std.proofs.Common.{◌≡◌, List, [], ◌∷◌, ℤ, length, get_or, pos, arith, sym, subst}
 use Rattle.whole_math.proofs.Lists.{three_items}
-use Rattle.rational.specs.Boxes.{of_scale}
+use Rattle.whole_math.specs.Boxes.{of_scale}
 use Rattle.iv_core.specs.declared.Iv.{Iv}
 use Rattle.iv_core.specs.Intervals.{Holds}
 use Rattle.iv_core.proofs.BoxLaws.{low_held}

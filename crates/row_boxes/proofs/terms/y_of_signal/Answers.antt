@@ -1,8 +1,8 @@
 use Rattle.std.proofs.Common.{◌≡◌, ◌<◌, ◌+ℤ◌, ◌*ℤ◌, ℕ, ℤ, pos, length, arith, to_z, of_z, subst, ap, ◌∙◌}
 use Rattle.std.proofs.lemmas.Int.{to_z-of_z}
 use Rattle.std.specs.Int.{w64}
-use Rattle.rational.specs.Rational.{of_whole, ◌-ʳ◌, InBox}
-use Rattle.rational.proofs.Boxes.{Near-along}
+use Rattle.whole_math.specs.Rational.{of_whole, ◌-ʳ◌, InBox}
+use Rattle.whole_math.proofs.Boxes.{Near-along}
 use Rattle.orbit_model.specs.SeenPlaces.{range_of}
 use Rattle.obs_rows.specs.Signals.{wavelength, band}
 use Rattle.obs_rows.specs.Data.{number_at}

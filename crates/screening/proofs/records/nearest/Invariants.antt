@@ -2,7 +2,7 @@
 use Rattle.std.proofs.Common.{◌≡◌, take, IfSome}
 use Rattle.std.specs.Option.{option_map}
 use Rattle.eph_store.proofs.ChosenLaws.{BestSoFar}
-use Rattle.orbit_clock.specs.declared.world.World.{World}
+use Rattle.sv_orbit.specs.declared.world.World.{World}
 use Rattle.screening.specs.Tables.{ephs_of, AreIn}
 use Rattle.screening.proofs.TableLaws.{eph_in}
 use Rattle.screening.proofs.records.nearest.Given as goal

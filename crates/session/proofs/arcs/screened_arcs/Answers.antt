@@ -5,7 +5,7 @@ use Rattle.obs_rows.specs.BandSets.{bands_of}
 use Rattle.slip_arcs.specs.Runs.{AreKept}
 use Rattle.slip_arcs.specs.Linked.{IsCutOf}
 use Rattle.orbit_model.specs.Elements.{Constants}
-use Rattle.orbit_clock.specs.Records.{constants_of}
+use Rattle.sv_orbit.specs.Records.{constants_of}
 use Rattle.screening.specs.Sightings.{Setting}
 use Rattle.screening.specs.Screening.{setting_of, AreUsedPairs, IsSvPair}
 use Rattle.session.proofs.arcs.screened_arcs.Goals as goal

@@ -1,6 +1,6 @@
 use Rattle.std.proofs.Common.{◌≡◌, ◌^◌, ◌*◌, ℤ, pos, ◌+ℤ◌, ◌-ℤ◌, ◌≤ℤ◌, neg_ℤ, arith}
 use Rattle.std.proofs.lemmas.Int.{ints}
-use Rattle.rational.specs.Rational.{of_whole, ◌+ʳ◌, ◌-ʳ◌, ◌*ʳ◌}
+use Rattle.whole_math.specs.Rational.{of_whole, ◌+ʳ◌, ◌-ʳ◌, ◌*ʳ◌}
 use Rattle.signal_travel.proofs.directions.coordinate_spread.Goals as goal
 
 least : (l z : ℤ) → pos (10000000 * 2 ^ 36) ≤ℤ l → z ≡ l -ℤ pos (33 * 2 ^ 34) → pos (9999991 * 2 ^ 36) ≤ℤ z

@@ -1,7 +1,7 @@
 use Rattle.std.proofs.Common.{◌≡◌, ℤ, pos, ◌+ℤ◌, ◌-ℤ◌, ◌≤ℤ◌, arith, to_z, of_z}
 use Rattle.std.proofs.lemmas.Int.{ints, to_z-of_z}
 use Rattle.std.specs.Int.{w64}
-use Rattle.rational.specs.Rational.{Rational}
+use Rattle.whole_math.specs.Rational.{Rational}
 use Rattle.iv_core.specs.Intervals.{Holds}
 use Rattle.orbit_model.specs.SeenPlaces.{Place, point_of, IsSeenPlace}
 use Rattle.signal_travel.specs.VectorBoxes.{HoldsVector}

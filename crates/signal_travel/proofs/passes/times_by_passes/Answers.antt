@@ -1,6 +1,6 @@
 use Rattle.std.proofs.Common.{◌≡◌, ◌*◌, ℤ, pos, ◌+ℤ◌, ◌-ℤ◌, ◌*ℤ◌, ◌≤ℤ◌, arith}
 use Rattle.std.proofs.lemmas.Int.{ints}
-use Rattle.rational.specs.Rational.{Rational, ◌≤ʳ◌, of_whole, ◌*ʳ◌, InBox}
+use Rattle.whole_math.specs.Rational.{Rational, ◌≤ʳ◌, of_whole, ◌*ʳ◌, InBox}
 use Rattle.orbit_model.specs.SeenPlaces.{Place, point_of}
 use Rattle.orbit_model.proofs.Seen.{travel_nn, travel_most}
 use Rattle.signal_travel.proofs.Sights.{point_place}

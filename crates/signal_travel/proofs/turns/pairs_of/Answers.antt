@@ -2,8 +2,8 @@ use Rattle.std.proofs.Common.{◌≡◌, ℤ, pos, ◌+ℤ◌, ◌-ℤ◌, ◌*�
 use Rattle.std.proofs.lemmas.Int.{ints, to_z-of_z}
 use Rattle.std.specs.Int.{w64}
 use Rattle.std.proofs.Math.IntN.{+ℤ_idr}
-use Rattle.rational.specs.Boxes.{of_scale}
-use Rattle.rational.proofs.Boxes.{point_in}
+use Rattle.whole_math.specs.Boxes.{of_scale}
+use Rattle.whole_math.proofs.Boxes.{point_in}
 use Rattle.signal_travel.proofs.EarthTurn.{ArePairs, cos_ends, sin_ends}
 use Rattle.signal_travel.proofs.turns.pairs_of.Goals as goal
 

@@ -1,8 +1,8 @@
 use Rattle.std.proofs.Common.{◌≡◌, ◌+◌, ◌^◌, ℤ, pos, ◌+ℤ◌, ◌-ℤ◌, ◌*ℤ◌, ◌≤ℤ◌, arith, lit≤, ap, sym, subst, ◌∙◌, to_z, of_z}
 use Rattle.std.proofs.lemmas.Int.{ints, to_z-of_z}
 use Rattle.std.specs.Int.{w64}
-use Rattle.rational.specs.Rational.{Rational}
-use Rattle.rational.specs.Boxes.{of_scale}
+use Rattle.whole_math.specs.Rational.{Rational}
+use Rattle.whole_math.specs.Boxes.{of_scale}
 use Rattle.trig_box.specs.AnglePairs.{IsAnglePair}
 use Rattle.whole_math.proofs.Order.{le_pos}
 use Rattle.whole_math.specs.Rounding.{floor_div}

@@ -1,6 +1,6 @@
 use Rattle.std.proofs.Common.{◌≡◌, ◌*◌, ◌^◌, ℤ, pos, ◌+ℤ◌, ◌-ℤ◌, ◌*ℤ◌, ◌≤ℤ◌, neg_ℤ, arith, lit≤}
 use Rattle.std.proofs.lemmas.Int.{ints}
-use Rattle.rational.specs.Rational.{◌*ʳ◌}
+use Rattle.whole_math.specs.Rational.{◌*ʳ◌}
 use Rattle.iv_core.specs.declared.Iv.{Iv}
 use Rattle.sized_box.proofs.Bounds.{reached}
 use Rattle.signal_travel.proofs.turns.turned_box.Goals as goal

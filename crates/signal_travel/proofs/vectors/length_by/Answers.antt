@@ -1,6 +1,6 @@
 use Rattle.std.proofs.Common.{◌≡◌, ◌*◌, ◌^◌, ℤ, pos, ◌+ℤ◌, ◌-ℤ◌, ◌*ℤ◌, ◌≤ℤ◌, arith, sym, subst, subst₂}
 use Rattle.std.proofs.lemmas.Int.{ints}
-use Rattle.rational.specs.Rational.{InBox}
+use Rattle.whole_math.specs.Rational.{InBox}
 use Rattle.orbit_model.specs.SeenPlaces.{square}
 use Rattle.signal_travel.specs.VectorBoxes.{AreEndsWithin}
 use Rattle.signal_travel.proofs.Lengths.{AreRoots, box_most, box_least, root_least, root_most, length_width, length_reach, in_quarters}

@@ -1,6 +1,6 @@
 use Rattle.std.proofs.Common.{◌^◌, ◌≡◌, ℤ, pos, ◌+ℤ◌, ◌-ℤ◌, ◌*ℤ◌, ◌≤ℤ◌, ◌<ℤ◌, arith, lit<}
 use Rattle.std.proofs.lemmas.Int.{ints}
-use Rattle.rational.specs.Rational.{◌+ʳ◌, ◌*ʳ◌}
+use Rattle.whole_math.specs.Rational.{◌+ʳ◌, ◌*ʳ◌}
 use Rattle.whole_math.specs.Rounding.{floor_div, ceil_div}
 use Rattle.whole_math.proofs.Rounding.{lt_floor, ceil_lt}
 use Rattle.iv_core.specs.Boxes.{near_end, far_end}

@@ -1,5 +1,5 @@
 use Rattle.std.proofs.Common.{◌*◌, List, ◌++◌, length, ap, ◌∙◌, arith}
-use Rattle.orbit_clock.specs.Records.{constants_of}
+use Rattle.sv_orbit.specs.Records.{constants_of}
 use Rattle.sim_session.specs.declared.signals.Signals.{Signals}
 use Rattle.sim_session.specs.ObservationText.{epoch_text}
 use Rattle.sim_session.proofs.Progress.{one_epoch}

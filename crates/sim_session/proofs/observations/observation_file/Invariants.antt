@@ -1,5 +1,5 @@
 use Rattle.std.proofs.Common.{◌+◌, ◌*◌, ◌≤◌, length}
-use Rattle.orbit_clock.specs.Records.{constants_of}
+use Rattle.sv_orbit.specs.Records.{constants_of}
 use Rattle.sim_session.proofs.Progress.{IsBegun}
 use Rattle.sim_session.proofs.observations.observation_file.Given as goal
 

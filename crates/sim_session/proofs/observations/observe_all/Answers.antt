@@ -2,7 +2,7 @@ use Rattle.std.proofs.Common.{ℕ, ◌+◌, ◌<◌, List, [], length, get_or, �
 use Rattle.std.proofs.lemmas.List.{length_push, get_or_default}
 use Rattle.std.proofs.lemmas.List.Elements.{All-nil, All-push}
 use Rattle.eph_store.specs.declared.ephemeris.Eph.{Eph}
-use Rattle.orbit_clock.specs.Records.{constants_of}
+use Rattle.sv_orbit.specs.Records.{constants_of}
 use Rattle.sim_session.specs.declared.signals.Signals.{Signals}
 use Rattle.sim_session.specs.ObservationText.{AreInColumns}
 use Rattle.sim_session.specs.Observed.{IsObserved}

@@ -1,6 +1,6 @@
 use Rattle.std.proofs.Common.{w64, to_z, of_z}
 use Rattle.std.proofs.lemmas.Int.{to_z-of_z}
-use Rattle.orbit_clock.specs.Records.{constants_of}
+use Rattle.sv_orbit.specs.Records.{constants_of}
 use Rattle.sim_session.proofs.Smalls.{clock_cast}
 use Rattle.sim_session.proofs.Solutions.{code_is}
 use Rattle.sim_session.proofs.passes.code_after.Goals as goal

@@ -1,5 +1,5 @@
 use Rattle.std.proofs.Common.{◌≡◌, ◌≤◌, ◌+◌, ◌^◌, ℕ, ℤ, pos, ◌≤ℤ◌, w64, to_z, sym, subst, add-one, arith}
-use Rattle.orbit_clock.specs.Records.{constants_of}
+use Rattle.sv_orbit.specs.Records.{constants_of}
 use Rattle.sim_session.specs.Observed.{IsReachedIn}
 use Rattle.sim_session.proofs.Solutions.{code_cast}
 use Rattle.sim_session.proofs.passes.code_at.Goals as goal

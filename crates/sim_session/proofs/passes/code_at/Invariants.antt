@@ -1,5 +1,5 @@
 use Rattle.std.proofs.Common.{◌^◌, pos, ◌≤ℤ◌}
-use Rattle.orbit_clock.specs.Records.{constants_of}
+use Rattle.sv_orbit.specs.Records.{constants_of}
 use Rattle.sim_session.specs.Observed.{IsReachedIn}
 use Rattle.sim_session.proofs.passes.code_at.Given as goal
 

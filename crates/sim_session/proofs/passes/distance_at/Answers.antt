@@ -2,9 +2,9 @@ use Rattle.std.proofs.Common.{◌≡◌, List, [], ◌∷◌, ℤ, pos, length, 
 use Rattle.whole_math.proofs.Lists.{three_items}
 use Rattle.orbit_model.specs.Elements.{sent_at, elements_of}
 use Rattle.orbit_model.specs.Solution.{Quantities, IsNearSolution}
-use Rattle.orbit_clock.specs.Records.{constants_of}
+use Rattle.sv_orbit.specs.Records.{constants_of}
 use Rattle.orbit_model.specs.SeenPlaces.{range_of, sent_place}
-use Rattle.orbit_exists.proofs.Ranges.{near}
+use Rattle.sv_orbit.proofs.Ranges.{near}
 use Rattle.sim_session.specs.Observed.{distance}
 use Rattle.sim_session.proofs.Solutions.{code_cast}
 use Rattle.sim_session.proofs.passes.distance_at.Goals as goal

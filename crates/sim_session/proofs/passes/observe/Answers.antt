@@ -1,6 +1,6 @@
 use Rattle.std.proofs.Common.{ℤ, pos, get_or, w64, to_z, of_z, refl, sym, subst}
 use Rattle.std.proofs.lemmas.Int.{to_z-of_z}
-use Rattle.orbit_clock.specs.Records.{constants_of}
+use Rattle.sv_orbit.specs.Records.{constants_of}
 use Rattle.sim_session.specs.Observed.{carrier, IsReachedIn}
 use Rattle.sim_session.proofs.SignalSmalls.{small_at, cycles_cast, still_small}
 use Rattle.sim_session.proofs.Smalls.{clock_cast}

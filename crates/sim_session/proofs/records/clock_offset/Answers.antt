@@ -1,6 +1,6 @@
 use Rattle.std.proofs.Common.{◌≤◌, ℤ, pos, neg_ℤ, unsigned_abs, w64, arith, subst, ◌∙◌}
 use Rattle.std.proofs.lemmas.Int.{ints, to_z-of_z}
-use Rattle.rational.specs.Rational.{◌≈◌, ◌≤ʳ◌}
+use Rattle.whole_math.specs.Rational.{◌≈◌, ◌≤ʳ◌}
 use Rattle.eph_store.specs.Decimals.{decimal, value_of}
 use Rattle.sim_session.proofs.Normals.{from_to}
 use Rattle.sim_session.proofs.records.clock_offset.Goals as goal

@@ -3,7 +3,7 @@ use Rattle.std.proofs.Common.{sym, subst, arith}
 use Rattle.std.proofs.lemmas.Int.{ints}
 use Rattle.iv_core.specs.declared.Iv.{Iv}
 use Rattle.iv_core.specs.Intervals.{Holds}
-use Rattle.orbit_clock.specs.Terms.{part}
+use Rattle.sv_orbit.specs.ClockTerms.{part}
 use Rattle.eph_store.specs.Decimals.{value_of}
 use Rattle.sv_orbit.proofs.record.orbit_of.Goals as goal
 

@@ -1,5 +1,5 @@
 use Rattle.eph_store.specs.Decimals.{value_of}
-use Rattle.orbit_clock.proofs.Values.{holds_own}
+use Rattle.sv_orbit.proofs.Values.{holds_own}
 use Rattle.sv_orbit.proofs.record.perigee.Goals as goal
 
 pub returns : goal.returns

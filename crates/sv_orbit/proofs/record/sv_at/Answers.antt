@@ -2,11 +2,11 @@
 use Rattle.std.proofs.Common.{◌≡◌, ℤ, ap₂, sym, subst}
 use Rattle.std.proofs.lemmas.Int.{to_z-of_z}
 use Rattle.std.specs.Int.{w64}
-use Rattle.rational.specs.Rational.{of_whole}
+use Rattle.whole_math.specs.Rational.{of_whole}
 use Rattle.eph_store.specs.Decimals.{decimal}
 use Rattle.orbit_model.specs.Elements.{Elements, Constants, sent_at, elements_of, gps}
 use Rattle.orbit_model.specs.Solution.{IsNearSolution}
-use Rattle.orbit_clock.specs.Records.{constants_of}
+use Rattle.sv_orbit.specs.Records.{constants_of}
 use Rattle.sv_orbit.proofs.record.sv_at.Goals as goal
 
 pub returns : goal.returns

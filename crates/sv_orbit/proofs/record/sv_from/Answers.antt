@@ -2,10 +2,10 @@
 use Rattle.std.proofs.Common.{ℤ, sym, subst}
 use Rattle.std.proofs.lemmas.Int.{to_z-of_z}
 use Rattle.std.specs.Int.{w64}
-use Rattle.rational.specs.Rational.{Rational}
+use Rattle.whole_math.specs.Rational.{Rational}
 use Rattle.orbit_model.specs.Elements.{Elements, Constants, sent_at, elements_of}
 use Rattle.orbit_model.specs.Solution.{IsNearSolution, with_share}
-use Rattle.orbit_clock.specs.Records.{constants_of}
+use Rattle.sv_orbit.specs.Records.{constants_of}
 use Rattle.sv_orbit.proofs.record.sv_from.Goals as goal
 
 pub returns : goal.returns

@@ -5,8 +5,8 @@ use Rattle.std.specs.Int.{w64}
 use Rattle.eph_store.specs.declared.ephemeris.Eph.{Eph}
 use Rattle.orbit_model.specs.Elements.{sent_at, elements_of}
 use Rattle.orbit_model.specs.Solution.{IsNearSolution}
-use Rattle.orbit_clock.specs.declared.world.World.{World}
-use Rattle.orbit_clock.specs.Records.{constants_of}
+use Rattle.sv_orbit.specs.declared.world.World.{World}
+use Rattle.sv_orbit.specs.Records.{constants_of}
 use Rattle.sv_orbit.proofs.record.sv_with.Goals as goal
 
 pub returns : goal.returns

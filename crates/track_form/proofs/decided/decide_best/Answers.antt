@@ -6,8 +6,8 @@ use Rattle.integer_form.specs.declared.faults.Place.TheVariants.{Float}
 use Rattle.integer_form.specs.FloatPoint.{HasWide}
 use Rattle.fix_decide.specs.Decisions.{first_of}
 use Rattle.fix_decide.proofs.SessionForms.{first_length, first_small}
-use Rattle.track_sum.specs.Factors.{move_by}
-use Rattle.track_sum.proofs.KeptFactors.{columns_of_factors, moves_are, wide_front}
+use Rattle.track_form.specs.Factors.{move_by}
+use Rattle.track_form.proofs.KeptFactors.{columns_of_factors, moves_are, wide_front}
 use Rattle.track_form.proofs.Ranges.{integers_are}
 use Rattle.track_form.proofs.Found.{wide_told}
 use Rattle.track_form.proofs.decided.decide_best.Goals as goal

@@ -5,12 +5,12 @@ use Rattle.obs_rows.specs.Signals.{fine_signals}
 use Rattle.integer_form.specs.declared.front_form.FrontForm.{FrontForm}
 use Rattle.track_data.specs.TrackTails.{IsTrackTailOf}
 use Rattle.track_data.specs.declared.tails.TrackTail.{TrackTail}
-use Rattle.track_sum.specs.declared.factors.PairFactors.{PairFactors}
-use Rattle.track_sum.specs.Factors.{AreFactors}
+use Rattle.track_form.specs.declared.factors.PairFactors.{PairFactors}
+use Rattle.track_form.specs.Factors.{AreFactors}
 use Rattle.int_search.specs.ReducedCounts.{IsSearchEnd}
 use Rattle.int_search.specs.declared.answer.SearchFault.{SearchFault}
 use Rattle.integer_form.specs.declared.faults.Place.TheVariants as Place
-use Rattle.track_sum.specs.Decided.{IsTrackForm, IsSearchedIn}
+use Rattle.track_form.specs.SumDecided.{IsTrackForm, IsSearchedIn}
 use Rattle.track_form.specs.Decided.{IsFormRefused, IsTrackDecision, IsTrackBestWhereFixed, IsSameTail}
 use Rattle.track_form.proofs.Found.{of_slices, over_track, refused_told}
 use Rattle.track_form.proofs.WeakLaws.{refused_fits}

@@ -11,7 +11,7 @@ use Rattle.fix_decide.specs.Widths.{IsWide}
 use Rattle.fix_decide.proofs.GapSums.{next, Step, step}
 use Rattle.fix_decide.proofs.Wide.{on_err}
 use Rattle.fix_decide.proofs.UpperLaws.{few_pairs}
-use Rattle.track_sum.specs.Decided.{pair_uppers}
+use Rattle.track_form.specs.SumDecided.{pair_uppers}
 use Rattle.track_form.proofs.Lists.{all_zip_from}
 use Rattle.track_form.proofs.uppers.sum_of_uppers.Goals as goal
 

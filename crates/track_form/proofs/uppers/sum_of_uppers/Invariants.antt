@@ -3,7 +3,7 @@ use Rattle.whole_math.specs.Vectors.{sum}
 use Rattle.obs_rows.specs.declared.pair_rows.PairRows.{PairRows}
 use Rattle.obs_rows.specs.Signals.{fine_signals}
 use Rattle.fix_decide.specs.Widths.{IsWide}
-use Rattle.track_sum.specs.Decided.{pair_uppers}
+use Rattle.track_form.specs.SumDecided.{pair_uppers}
 use Rattle.track_form.proofs.uppers.sum_of_uppers.Given as goal
 
 abbrev pub invariant-loop-k : goal.invariant-loop-k

@@ -6,7 +6,7 @@ use Rattle.round_steps.specs.Shifts.{AreSameArcs}
 use Rattle.row_build.specs.PairRows.{ArePairRows}
 use Rattle.row_build.specs.Far.{HasFarRow}
 use Rattle.row_build.proofs.SessionLaws.{has_arcs}
-use Rattle.track_sum.specs.PairFronts.{IsRefusedPair}
+use Rattle.track_form.specs.PairFronts.{IsRefusedPair}
 use Rattle.track_rows.specs.PairRules.{TrackSetting, rows_setting, setting_of}
 use Rattle.track_rows.specs.Trials.{IsTried, flagged}
 use Rattle.track_rows.proofs.KeptArcs.{has_kept}

@@ -1,6 +1,6 @@
 use Rattle.std.proofs.Common.{◌∷◌}
 use Rattle.std.proofs.lemmas.Result.{err_from_is_err_and}
-use Rattle.grammar_lines.proofs.LineLaws.{line_goes, line_stops, line_wants}
+use Rattle.cert_text.proofs.GrammarLaws.{line_goes, line_stops, line_wants}
 use Rattle.track_text.specs.TailForms.{move_in}
 use Rattle.track_text.specs.Rules.{track_rules, before_moves}
 use Rattle.track_text.proofs.LineLaws.{move_taken}

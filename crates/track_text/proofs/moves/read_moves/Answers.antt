@@ -5,7 +5,7 @@ use Rattle.std.proofs.lemmas.List.Elements.{All-push}
 use Rattle.obs_rows.specs.declared.pair_rows.PairRows.{PairRows}
 use Rattle.rinex_head.specs.LineRules.{rest_gives}
 use Rattle.cert_data.specs.Tails.{IsMove}
-use Rattle.track_spelling.specs.Spelling.{move_lines}
+use Rattle.track_text.specs.Spelling.{move_lines}
 use Rattle.track_text.specs.Rules.{track_rules, numbers_of, before_moves}
 use Rattle.track_text.proofs.MoveLaws.{none_took, moves_took}
 use Rattle.track_text.proofs.PairSteps.{all_none}

@@ -1,8 +1,8 @@
 use Rattle.std.proofs.Common.{◌≡◌, ◌≤◌, ◌++◌, length, drop, All}
 use Rattle.rinex_head.specs.LineRules.{rest_gives}
 use Rattle.cert_data.specs.Tails.{IsMove}
-use Rattle.track_spelling.specs.Lengths.{AreTriples}
-use Rattle.track_spelling.specs.Spelling.{move_lines}
+use Rattle.track_text.specs.Lengths.{AreTriples}
+use Rattle.track_text.specs.Spelling.{move_lines}
 use Rattle.track_text.specs.Rules.{track_rules, numbers_of, before_moves}
 use Rattle.track_text.proofs.moves.read_moves.Given as goal
 

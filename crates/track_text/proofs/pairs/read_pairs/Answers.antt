@@ -12,8 +12,8 @@ use Rattle.rinex_head.specs.LineRules.{rest_gives}
 use Rattle.rinex_head.proofs.LineRuleLaws.{handed_on}
 use Rattle.cert_lines.specs.Lengths.{IsWholePair}
 use Rattle.cert_lines.specs.Lines.{count_line}
-use Rattle.grammar_lines.proofs.RowSteps.{pairs_below}
-use Rattle.track_spelling.specs.Spelling.{all_placed_pairs}
+use Rattle.cert_text.proofs.RowSteps.{pairs_below}
+use Rattle.track_text.specs.Spelling.{all_placed_pairs}
 use Rattle.track_text.specs.Rules.{track_rules, frame, numbers_of, PairCount, Tail, before_pairs}
 use Rattle.track_text.proofs.LineLaws.{pair_count_taken}
 use Rattle.track_text.proofs.PairSteps.{placed_took, number_after, all_none, all_pairs_none}

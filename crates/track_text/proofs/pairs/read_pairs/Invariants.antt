@@ -7,8 +7,8 @@ use Rattle.obs_rows.specs.declared.limits.TheConstants.{MOST_PAIRS}
 use Rattle.rinex_head.specs.LineRules.{rest_gives}
 use Rattle.cert_lines.specs.Lengths.{IsWholePair}
 use Rattle.cert_lines.specs.Lines.{count_line}
-use Rattle.track_spelling.specs.Lengths.{AreTriples}
-use Rattle.track_spelling.specs.Spelling.{all_placed_pairs}
+use Rattle.track_text.specs.Lengths.{AreTriples}
+use Rattle.track_text.specs.Spelling.{all_placed_pairs}
 use Rattle.track_text.specs.Rules.{track_rules, frame, numbers_of, before_pairs, PairCount}
 use Rattle.track_text.proofs.pairs.read_pairs.Given as goal
 

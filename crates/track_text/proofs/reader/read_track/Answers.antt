@@ -7,8 +7,8 @@ use Rattle.cert_words.specs.Spelling.{text_of_lines}
 use Rattle.line_source.specs.EndedLines.{ended_lines}
 use Rattle.cert_words.proofs.TextLaws.{AreLines, text_of_ended}
 use Rattle.track_data.specs.declared.certs.TrackCert.{TrackCert}
-use Rattle.track_spelling.specs.Spelling.{lines_of_track, track_spelling}
-use Rattle.track_spelling.specs.Lengths.{IsWholeTrackCert}
+use Rattle.track_text.specs.Spelling.{lines_of_track, track_spelling}
+use Rattle.track_text.specs.Lengths.{IsWholeTrackCert}
 use Rattle.track_text.specs.Rules.{track_rules, Form}
 use Rattle.track_text.proofs.Feeds.{track_feed}
 use Rattle.track_text.proofs.Accepted.{refused_text, stuck_text}

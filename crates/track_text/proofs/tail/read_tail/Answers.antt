@@ -4,7 +4,7 @@ use Rattle.rinex_head.specs.declared.place.What.TheVariants.{BadLine}
 use Rattle.rinex_head.proofs.LineRuleLaws.{has_none, goes_on, stops}
 use Rattle.cert_lines.specs.Forms.{vector_in}
 use Rattle.cert_lines.specs.declared.ranges.TheConstants.{ENTRIES}
-use Rattle.grammar_lines.proofs.LineLaws.{line_read_by, reads_behind}
+use Rattle.cert_text.proofs.GrammarLaws.{line_read_by, reads_behind}
 use Rattle.track_text.specs.Rules.{track_rules, frame, numbers_of, Tail, Second, End}
 use Rattle.track_text.specs.TailForms.{declined_in}
 use Rattle.track_text.proofs.LineLaws.{admits_vectors, admits_declined}

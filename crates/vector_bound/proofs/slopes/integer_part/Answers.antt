@@ -7,7 +7,7 @@ use Rattle.whole_math.proofs.Words.{as_w64}
 use Rattle.whole_math.proofs.Ring.{◌⊕◌}
 use Rattle.whole_math.proofs.Inequalities.{same_by}
 use Rattle.quadratic_form.specs.Places.{list_from}
-use Rattle.form_tables.specs.Tables.{entry}
+use Rattle.quadratic_form.specs.Tables.{entry}
 use Rattle.vector_bound.proofs.Words.{word, word_of, sum_size, nothing_lost}
 use Rattle.vector_bound.proofs.slopes.integer_part.Goals as goal
 

@@ -5,7 +5,7 @@ use Rattle.whole_math.proofs.Inequalities.{same_by, nat}
 use Rattle.whole_math.proofs.Order.{abs_mul_le}
 use Rattle.std.specs.Int.{w128}
 use Rattle.std.proofs.lemmas.Int.{to_z-of_z}
-use Rattle.form_tables.specs.Tables.{entry}
+use Rattle.quadratic_form.specs.Tables.{entry}
 use Rattle.vector_bound.proofs.Words.{word, sum_size}
 use Rattle.vector_bound.proofs.slopes.later_part.Goals as goal
 

@@ -3,7 +3,7 @@ use Rattle.std.proofs.lemmas.Option.{IfSome_then}
 use Rattle.std.specs.Int.{w64, w128}
 use Rattle.std.proofs.lemmas.Int.{to_z-of_z}
 use Rattle.whole_math.proofs.Words.{as_w64}
-use Rattle.form_tables.specs.Tables.{entry}
+use Rattle.quadratic_form.specs.Tables.{entry}
 use Rattle.obs_rows.specs.Data.{number_at}
 use Rattle.vector_bound.proofs.Words.{word, sum_size}
 use Rattle.vector_bound.proofs.SlopeParts.{slope_is}

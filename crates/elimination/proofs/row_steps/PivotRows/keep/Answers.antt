@@ -1,5 +1,5 @@
 use Rattle.std.proofs.Common.{◌≡◌, ◌^◌, ℤ, pos, int_lt, false, slice_index_or, refl, subst}
-use Rattle.form_tables.specs.Tables.{item}
+use Rattle.quadratic_form.specs.Tables.{item}
 use Rattle.elimination.proofs.RowWords.{word, read}
 use Rattle.elimination.proofs.row_steps.PivotRows.keep.Goals as goal
 

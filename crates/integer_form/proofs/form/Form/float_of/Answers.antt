@@ -3,11 +3,11 @@ use Rattle.std.specs.Result.{is_err}
 use Rattle.std.proofs.lemmas.Result.{err_from_is_err_and}
 use Rattle.std.proofs.lemmas.Bool.{cases_lt}
 use Rattle.quadratic_form.specs.Places.{list_from}
-use Rattle.form_tables.specs.declared.sizes.TheConstants.{MOST_FACTORS}
-use Rattle.form_tables.proofs.TableLaws.{zero_item}
+use Rattle.quadratic_form.specs.declared.sizes.TheConstants.{MOST_FACTORS}
+use Rattle.quadratic_form.proofs.TableLaws.{zero_item}
 use Rattle.integer_form.specs.declared.form.Form.{Form}
 use Rattle.integer_form.specs.Factors.{stored}
-use Rattle.form_tables.specs.Tables.{item}
+use Rattle.quadratic_form.specs.Tables.{item}
 use Rattle.integer_form.specs.FloatPoint.{solved, float_point, HasWide, HasWideBefore}
 use Rattle.integer_form.proofs.FloatLaws.{float_item, not_wide}
 use Rattle.integer_form.proofs.form.Form.float_of.Goals as goal

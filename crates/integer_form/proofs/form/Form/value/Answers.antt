@@ -6,8 +6,8 @@ use Rattle.std.proofs.Math.IntN.{+ℤ_comm}
 use Rattle.whole_math.specs.Vectors.{dot}
 use Rattle.quadratic_form.specs.Forms.{quad}
 use Rattle.quadratic_form.specs.Places.{list_from, form_from}
-use Rattle.form_tables.specs.declared.sizes.TheConstants.{MOST_FORM_COLUMNS, MOST_COLUMNS}
-use Rattle.form_tables.specs.Tables.{entry, item}
+use Rattle.quadratic_form.specs.declared.sizes.TheConstants.{MOST_FORM_COLUMNS, MOST_COLUMNS}
+use Rattle.quadratic_form.specs.Tables.{entry, item}
 use Rattle.integer_form.specs.declared.form.Form.{Form}
 use Rattle.whole_math.proofs.Words.{as_w64, as_w128, size_add}
 use Rattle.integer_form.proofs.form.Form.value.Goals as goal

@@ -1,7 +1,7 @@
 use Rattle.std.proofs.Common.{◌≡◌, ◌*◌, ◌-◌, ◌^◌, ◌≤◌, unsigned_abs}
 use Rattle.quadratic_form.specs.Forms.{quad}
 use Rattle.quadratic_form.specs.Places.{list_from, form_from}
-use Rattle.form_tables.specs.Tables.{entry, item}
+use Rattle.quadratic_form.specs.Tables.{entry, item}
 use Rattle.integer_form.proofs.form.Form.value.Given as goal
 
 abbrev pub invariant-loop-k : goal.invariant-loop-k

@@ -1,7 +1,7 @@
 use Rattle.std.proofs.Common.{◌^◌, ◌<◌, List, ℤ, unsigned_abs, sym, ap, ◌∙◌, subst}
-use Rattle.form_tables.specs.declared.sizes.TheConstants.{BASELINE_COLUMNS, MOST_COLUMNS}
-use Rattle.form_tables.specs.Tables.{entry}
-use Rattle.form_tables.proofs.TableLaws.{zero_entry, zero_small}
+use Rattle.quadratic_form.specs.declared.sizes.TheConstants.{BASELINE_COLUMNS, MOST_COLUMNS}
+use Rattle.quadratic_form.specs.Tables.{entry}
+use Rattle.quadratic_form.proofs.TableLaws.{zero_entry, zero_small}
 use Rattle.integer_form.proofs.front_form.FrontForm.of.Goals as goal
 
 pub invariant_of-result-clause-factors_in : goal.invariant_of-result-clause-factors_in

@@ -1,7 +1,7 @@
 use Rattle.std.proofs.Common.{List, ℤ, ap, ◌∙◌}
-use Rattle.form_tables.specs.declared.sizes.TheConstants.{MOST_COLUMNS, MOST_FACTORS}
-use Rattle.form_tables.specs.Tables.{entry}
-use Rattle.form_tables.proofs.TableLaws.{zero_entry}
+use Rattle.quadratic_form.specs.declared.sizes.TheConstants.{MOST_COLUMNS, MOST_FACTORS}
+use Rattle.quadratic_form.specs.Tables.{entry}
+use Rattle.quadratic_form.proofs.TableLaws.{zero_entry}
 use Rattle.lower_form.proofs.fronts.FrontRoom.empty.Goals as goal
 
 pub returns : goal.returns

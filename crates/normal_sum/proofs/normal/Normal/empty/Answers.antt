@@ -1,8 +1,8 @@
 use Rattle.std.proofs.Common.{◌≡◌, ℕ, zero, suc, ◌^◌, ◌<◌, ◌≤◌, [], ◌∷◌, List, ℤ, pos, unsigned_abs, slice_index_or, arith, sym, ap, ◌∙◌, subst}
 use Rattle.std.proofs.lemmas.Int.{ints}
-use Rattle.form_tables.specs.declared.sizes.TheConstants.{MOST_COLUMNS}
-use Rattle.form_tables.specs.Tables.{entry, zero_rows}
-use Rattle.form_tables.proofs.TableLaws.{zero_entry}
+use Rattle.quadratic_form.specs.declared.sizes.TheConstants.{MOST_COLUMNS}
+use Rattle.quadratic_form.specs.Tables.{entry, zero_rows}
+use Rattle.quadratic_form.proofs.TableLaws.{zero_entry}
 use Rattle.normal_sum.specs.Matrices.{IsRadiusSum}
 use Rattle.normal_sum.proofs.normal.Normal.empty.Goals as goal
 

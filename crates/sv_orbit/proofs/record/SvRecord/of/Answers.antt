@@ -6,10 +6,10 @@ use Rattle.trig_box.specs.AnglePairs.{Pair}
 use Rattle.orbit_model.specs.Elements.{earth_rate}
 use Rattle.orbit_model.specs.Solution.{IsPairOf5}
 use Rattle.orbit_place.specs.Rotations.{HoldsBoth}
-use Rattle.rational.specs.Rational.{Rational, ◌≈◌, of_whole, ◌-ʳ◌, ◌*ʳ◌, times}
+use Rattle.whole_math.specs.Rational.{Rational, ◌≈◌, of_whole, ◌-ʳ◌, ◌*ʳ◌, times}
 use Rattle.eph_store.specs.declared.ephemeris.Eph.{Eph}
 use Rattle.eph_store.specs.Decimals.{value_of}
-use Rattle.orbit_clock.proofs.Values.{holds_own}
+use Rattle.sv_orbit.proofs.Values.{holds_own}
 use Rattle.sv_orbit.proofs.record.SvRecord.of.Goals as goal
 
 pub invariant_of-result : goal.invariant_of-result

@@ -1,2 +1,0 @@
-pub mod CertJobs
-pub mod Migrations

@@ -1,6 +1,0 @@
-use Rattle.std.proofs.Common.{◌≡◌, map, take}
-use Rattle.cert_report.specs.Residuals.{residual}
-use Rattle.cert_report.proofs.residuals.residuals_of.Given as goal
-
-abbrev pub invariant-loop-signal : goal.invariant-loop-signal
-invariant-loop-signal l = l.all.items ≡ map (residual l.arcs l.fn.signals l.z l.moved l.rows l.row) (take l.signal-index l.signals)

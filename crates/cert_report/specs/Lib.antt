@@ -1,2 +1,0 @@
-pub mod VerdictText
-pub mod Residuals

@@ -1,4 +1,0 @@
-pub mod Beginnings
-pub mod LineParts
-pub mod Parts
-pub mod TailParts

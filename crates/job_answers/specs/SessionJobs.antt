@@ -1,0 +1,53 @@
+-- A job on the three files of a session: what it ends with by them.
+use Rattle.std.specs.Prelude.{◌≡◌, ◌⊎◌, ℕ, List, Result, Err}
+use Rattle.std.specs.declared.option.Option.{Option}
+use Rattle.std.specs.Io.KnownBytes.{Appends}
+use Rattle.obs_store.specs.declared.file.ObsFile.{ObsFile}
+use Rattle.eph_store.specs.File.{Records}
+use Rattle.rinex_head.specs.Systems.{system_of}
+use Rattle.obs_rows.specs.declared.options.Options.{Options}
+use Rattle.epoch_pair.specs.declared.faults.PairWhat.{PairWhat}
+use Rattle.epoch_pair.specs.declared.faults.SessionFault.{SessionFault}
+use Rattle.epoch_pair.specs.declared.faults.SessionFault.TheVariants.{Refused}
+use Rattle.job_answers.specs.declared.status.Status.{Status}
+use Rattle.job_answers.specs.Statuses.{IsVerdictStatus}
+use Rattle.job_answers.specs.Endings.{Ending}
+use Rattle.job_answers.specs.Delivered.{SinkChange}
+use Rattle.job_answers.specs.SessionFiles.{AreFilesOf, EndsBySession}
+use Rattle.job_answers.specs.Refusals.{pair_line, IsPairRefused}
+
+-- what a command answers of a session's files, with these options
+abbrev pub SessionAnswers : Type 1
+SessionAnswers = Options → ObsFile → ObsFile → Records → Ending → Type 0
+
+-- the files have this answer, which is a verdict
+pub record AreAnswered (answers : SessionAnswers) (o : Options) (b r : ObsFile) (n : Records) (end : Ending) : Type 0 where
+  pub verdict : IsVerdictStatus end.status
+  pub answer : answers o b r n end
+
+abbrev pub EndsOnFiles : SessionAnswers → Options → ObsFile → ObsFile → Records → Ending → Type 0
+EndsOnFiles answers o b r n end = AreAnswered answers o b r n end ⊎ IsPairRefused b r o end
+
+-- what it ends with, by what is reported of its files
+abbrev pub SessionEnds : SessionAnswers → (List ℕ → Option (List ℕ)) → List ℕ → List ℕ → List ℕ → Options → Ending → Type 0
+SessionEnds answers text_of base rover nav o end = EndsBySession (system_of o.system) text_of base rover nav (EndsOnFiles answers o) end
+
+-- a line about the two observation files together
+abbrev pub IsPairLine : List ℕ → Type 0
+IsPairLine line = (what : PairWhat) × (line ≡ pair_line what)
+
+-- what holds of the cause where the two are refused
+abbrev pub IfPairRefused : {X : Type 0} → Result X SessionFault → (PairWhat → Type 0) → Type 0
+IfPairRefused (Err (Refused what)) P = P what
+IfPairRefused _ P = Unit {0}
+
+-- what a run of it with status 0 or 1 says: out has gained its answer on the files
+pub record SaysOfSession (answers : SessionAnswers) (text_of : List ℕ → Option (List ℕ)) (base rover nav : List ℕ) (o : Options) (status : Status) (out : SinkChange) : Type 0 where
+  pub base_file : ObsFile
+  pub rover_file : ObsFile
+  pub records : Records
+  pub are_files : AreFilesOf (system_of o.system) text_of base rover nav base_file rover_file records
+  pub end : Ending
+  pub answer : answers o base_file rover_file records end
+  pub status_is : end.status ≡ status
+  pub printed : Appends out.old out.new end.out

@@ -1,5 +1,0 @@
-use Rattle.orbit_clock.specs.Terms.{part}
-use Rattle.orbit_clock.proofs.timing.time_at.Goals as goal
-
-pub returns : goal.returns
-returns g c = λ s x hs hx. c.sub.ensures.holds s (part x) hs (c.share_of-share.ensures x hx)

@@ -1,4 +1,0 @@
-pub mod Worlds
-pub mod Records
-pub mod Terms
-pub mod Timings

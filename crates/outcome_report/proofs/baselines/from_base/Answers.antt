@@ -1,7 +1,0 @@
-use Rattle.outcome_report.proofs.Texts.{from_base_in_words}
-use Rattle.outcome_report.proofs.baselines.from_base.Goals as goal
-
-pub returns : goal.returns
-returns c =
-    from_base_in_words c.args.point c.args.base c.args.number c.apart.result c.in_tenths.result c.requires.point c.requires.base c.requires.number c.apart.ensures.value c.in_tenths.ensures.value
-    c.apart.ensures.size c.in_tenths.ensures.size

@@ -1,6 +1,0 @@
-use Rattle.std.proofs.Common.{◌≡◌, ◌++◌, drop}
-use Rattle.outcome_report.specs.Baselines.{metres_behind_blanks}
-use Rattle.outcome_report.proofs.baselines.push_metres.Given as goal
-
-abbrev pub invariant-loop-length : goal.invariant-loop-length
-invariant-loop-length l = l.text.items ++ metres_behind_blanks (drop l.length-index l.lengths) ≡ l.fn.text.items ++ metres_behind_blanks l.lengths

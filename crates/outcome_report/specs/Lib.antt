@@ -1,2 +1,0 @@
-pub mod Baselines
-pub mod OutcomeText

@@ -1,5 +1,0 @@
-pub mod FaultLaws
-pub mod FileLaws
-pub mod RefusalLaws
-pub mod SessionLaws
-pub mod ReadingLaws

@@ -1,4 +1,0 @@
-pub mod SessionFiles
-pub mod Refusals
-pub mod Admitted
-pub mod SessionJobs

@@ -1,5 +1,0 @@
-use Rattle.track_sum.proofs.Bounds.{bound_of_track}
-use Rattle.track_sum.proofs.laws.track_bound_law.Goals as goal
-
-pub returns : goal.returns
-returns c = bound_of_track

@@ -1,5 +1,0 @@
-use Rattle.track_sum.proofs.RatioLaws.{ratio_is_strict}
-use Rattle.track_sum.proofs.laws.track_ratio_law.Goals as goal
-
-pub returns : goal.returns
-returns c = ratio_is_strict

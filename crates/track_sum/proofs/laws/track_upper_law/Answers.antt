@@ -1,5 +1,0 @@
-use Rattle.track_sum.proofs.Bounds.{top_at_most}
-use Rattle.track_sum.proofs.laws.track_upper_law.Goals as goal
-
-pub returns : goal.returns
-returns c = top_at_most

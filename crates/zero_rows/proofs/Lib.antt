@@ -1,6 +1,0 @@
-pub mod RowsSteps
-pub mod RowsLaws
-pub mod Sizes
-pub mod Bounds
-pub mod Sums
-pub mod Parts

@@ -1,5 +1,0 @@
-use Rattle.zero_rows.proofs.Bounds.{small_diffs}
-use Rattle.zero_rows.proofs.best.decide.Goals as goal
-
-pub verdict_on-requires-clause-diffs : goal.verdict_on-requires-clause-diffs
-verdict_on-requires-clause-diffs c = small_diffs c.diffs.result.now c.diffs.ensures.in_range

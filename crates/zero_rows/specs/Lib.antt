@@ -1,4 +1,0 @@
-pub mod Rows
-pub mod RowsRules
-pub mod Sums
-pub mod Verdicts
