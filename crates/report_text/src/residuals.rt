@@ -19,7 +19,7 @@ use obs_rows::{
     Arc, LIGHT_SPEED, PairRows, ROW_EXPONENT, Row, SIGNALS, Session, UNIT_FREQUENCY, fine_signals,
 };
 use std::alloc::{AllocError, Global};
-use whole_math::nearest;
+use whole_math::{nearest, product};
 
 /// This number of micrometres ..
 const MICROMETRES: i128 = (10 * LIGHT_SPEED) as i128;
@@ -54,7 +54,7 @@ fn apart(count: usize, own: i64, all: i128) -> i128
     ensures value { result ≡ (pos count *ℤ own) -ℤ all }
     ensures size { unsigned_abs result ≤ 2 ^ 62 }
 {
-    count as i128 * own as i128 - all
+    product::<4, 57>(count as i64, own) - all
 }
 
 // The sum over the rows of a pair, as a signal sees them.
