@@ -7,7 +7,7 @@ use Rattle.whole_math.specs.Rational.{Rational, Near}
 use Rattle.orbit_model.specs.Solution.{Quantities}
 use Rattle.sv_orbit.specs.declared.place.SvBox.{SvBox}
 use Rattle.sv_orbit.specs.Solutions.{HoldsSolution}
-use Rattle.orbit_model.specs.SeenPlaces.{Place, sent_place}
+use Rattle.orbit_model.specs.SeenPlaces.{Position, sent_place}
 use Rattle.orbit_model.specs.Places.{HoldsPlace}
 use Rattle.eph_store.specs.declared.ephemeris.Eph.{Eph}
 use Rattle.obs_store.specs.declared.series.Epoch.{Epoch}
@@ -43,7 +43,7 @@ solved : (t : Setting) (eph : Eph) (tag : ℕ) (code : ℤ) (point : List ℤ) (
 solved t eph tag code point b s holds h =
     let holds_solution : HoldsSolution b h.solution = holds h.solution h.sent in
     record {
-      sent_in = subst (λ (p : Place). HoldsPlace b.place p) (sym h.place) holds_solution.place;
+      sent_in = subst (λ (p : Position). HoldsPlace b.place p) (sym h.place) holds_solution.place;
       clock_in = subst (λ (c : Rational). Holds b.clock c) (sym h.clock) holds_solution.clock;
       seen_is = h.seen;
     }

@@ -1,6 +1,6 @@
 -- What the rover sees of an entry's satellite, and what both receivers do.
 use Rattle.std.specs.Prelude.{◌≡◌, ℕ, Some, List, [], ◌∷◌, slice_get, ℤ}
-use Rattle.orbit_model.specs.SeenPlaces.{Place, IsDisplacement, IsMeanDirection, place_at}
+use Rattle.orbit_model.specs.SeenPlaces.{Position, IsDisplacement, IsMeanDirection, place_at}
 use Rattle.signal_travel.specs.declared.spread.Spread.{Spread}
 use Rattle.signal_travel.specs.Directions.{IsInSpread}
 use Rattle.screening.specs.declared.sv_pair.SvPair.{SvPair}
@@ -12,13 +12,13 @@ use Rattle.row_build.specs.Halves.{IsBaseHalf}
 use Rattle.row_build.specs.declared.entries.Entry.{Entry}
 
 -- each coordinate of the direction is in its spread of the three
-abbrev pub IsInSpreads : List Spread → Place → Type 0
+abbrev pub IsInSpreads : List Spread → Position → Type 0
 IsInSpreads spreads direction = (a b c : Spread) → spreads ≡ a ∷ b ∷ c ∷ [] → IsInSpread a direction.x × IsInSpread b direction.y × IsInSpread c direction.z
 
 -- the pseudorange and each mean direction of every way in which the rover at the point may have seen the entry's satellite
 pub record IsRoverSight (v : SvPair) (point : List ℤ) (sight : Sight) : Type 0 where
   pub pseudorange : HoldsPseudoranges v.rover point sight.pseudorange
-  pub direction : (s : Sighting) (move direction : Place) → IsSighting v.rover point s → IsDisplacement move → IsMeanDirection s.seen (place_at point) move direction →
+  pub direction : (s : Sighting) (move direction : Position) → IsSighting v.rover point s → IsDisplacement move → IsMeanDirection s.seen (place_at point) move direction →
       IsInSpreads sight.direction direction
 
 -- each is that of the entry in its place; there may be fewer than entries

@@ -2,7 +2,7 @@
 use Rattle.std.specs.Prelude.{◌≡◌, ℕ, Some, List, length, map, All, slice_get, ℤ, pos, ◌≤ℤ◌}
 use Rattle.whole_math.specs.Rational.{Near}
 use Rattle.orbit_model.specs.Solution.{Quantities}
-use Rattle.orbit_model.specs.SeenPlaces.{Place, IsSeenPlace, IsDisplacement, IsMeanDirection, sent_place, place_at}
+use Rattle.orbit_model.specs.SeenPlaces.{Position, IsSeenPlace, IsDisplacement, IsMeanDirection, sent_place, place_at}
 use Rattle.eph_store.specs.declared.ephemeris.Eph.{Eph}
 use Rattle.obs_store.specs.declared.series.Epoch.{Epoch}
 use Rattle.epoch_pair.specs.declared.pairs.PairOf.{PairOf}
@@ -73,7 +73,7 @@ pub record StandsForRow (from : Origin) (round : Round) (epochs : PairEpochs) (g
       All (λ s. Near (number_at r.y s) r.ry
       (y_in_rows round.scale s (number_at (differences observed.base observed.rover) s) group (number_at arc.shift (band s)) b q))
       (counted from.signals round.scale)
-  pub u : (q : Sighting) (move direction : Place) →
+  pub u : (q : Sighting) (move direction : Position) →
       IsSolved from.setting observed.eph epochs.rover.tag.0 (code_of observed.rover) round.point q → IsDisplacement move →
       IsMeanDirection q.seen (place_at round.point) move direction →
       IsInU 0 r.u r.ru direction.x × IsInU 1 r.u r.ru direction.y × IsInU 2 r.u r.ru direction.z

@@ -4,7 +4,7 @@ ghost use Rattle.obs_rows.specs.declared.units.TheConstants.{SIGNALS};
 ghost use Rattle.obs_rows.specs.Ranges.{IsScale, IsBelow};
 ghost use Rattle.obs_rows.specs.Unused.{IsZeroOff};
 ghost use Rattle.row_boxes.specs.YBoxes.{HoldsYs, HasFarSignal, most_radius};
-ghost use Rattle.orbit_model.specs.SeenPlaces.{Place};
+ghost use Rattle.orbit_model.specs.SeenPlaces.{Position};
 ghost use Rattle.row_build.specs.Sights.{IsInSpreads, IsSeen};
 ghost use Rattle.row_build.specs.Rows.{HoldsU, IsInU, seen_by};
 
@@ -18,7 +18,7 @@ fn row_over(arc: u16, held: &Observations, direction: &[Spread; 3]) -> Row
     ensures arc { result.arc ≡ arc }
     ensures y { result.y ≡ held.now.y }
     ensures ry { result.ry ≡ held.now.ry }
-    ensures u { (place : Place) → IsInSpreads direction.now place →
+    ensures u { (place : Position) → IsInSpreads direction.now place →
         IsInU 0 result.u result.ru place.x × IsInU 1 result.u result.ru place.y
         × IsInU 2 result.u result.ru place.z }
     ensures narrow { All (λ n. n ≤ℤ pos 32) result.ru }

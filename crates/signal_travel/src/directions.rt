@@ -3,7 +3,7 @@ ghost use Rattle.std.specs.Prelude.{◌≡◌, ◌+◌, ◌*◌, ◌^◌, ◌≤
 ghost use Rattle.whole_math.specs.Rational.{Rational, ◌≈◌, ◌≤ʳ◌, of_whole, ◌+ʳ◌, ◌-ʳ◌, ◌*ʳ◌, IsAtMostInSize};
 ghost use Rattle.iv_core.specs.Intervals.{Holds, width_of, IsWithin};
 ghost use Rattle.orbit_model.specs.Places.{IsBetweenDistances};
-ghost use Rattle.orbit_model.specs.SeenPlaces.{Place, difference, point_of, IsDisplacement, IsMeanDirection};
+ghost use Rattle.orbit_model.specs.SeenPlaces.{Position, difference, point_of, IsDisplacement, IsMeanDirection};
 ghost use Rattle.obs_rows.specs.declared.units.TheConstants.{DIRECTION_EXPONENT};
 ghost use Rattle.signal_travel.specs.VectorBoxes.{HoldsVector, IsVectorAtMostWide};
 ghost use Rattle.signal_travel.specs.Directions.{IsInSpread};
@@ -129,7 +129,7 @@ pub struct Direction {
 
 /// The mean directions from the point to the places of the box.
 pub fn direction_to(seen: &SeenPlace, point: &Point) -> Direction
-    ensures { (place move direction : Place) → HoldsVector seen.now.place place →
+    ensures { (place move direction : Position) → HoldsVector seen.now.place place →
         IsDisplacement move →
         IsMeanDirection place (point_of point.now.x point.now.y point.now.z) move direction →
         IsInSpread result.x direction.x × IsInSpread result.y direction.y
@@ -147,14 +147,14 @@ pub fn direction_to(seen: &SeenPlace, point: &Point) -> Direction
 
 /// The mean directions from the point of a sight to its places, by the vector and the range that it has.
 pub fn direction_of(sight: &Sight, point: &Point) -> Direction
-    requires vector { (p : Place) → HoldsVector sight.now.place p →
+    requires vector { (p : Position) → HoldsVector sight.now.place p →
         HoldsVector sight.now.vector (difference p (point_of point.now.x point.now.y point.now.z)) }
     requires narrow { IsVectorAtMostWide (pos (2 ^ 19)) sight.now.place }
     requires range_narrow { width_of sight.now.range ≤ℤ pos (2 ^ 19) }
     requires far { pos (10000000 * 2 ^ 36) ≤ℤ sight.now.range.lo }
     requires away { IsBetweenDistances 18900000 38100000 sight.now.place.x sight.now.place.y
         sight.now.place.z }
-    ensures { (place move direction : Place) → HoldsVector sight.now.place place →
+    ensures { (place move direction : Position) → HoldsVector sight.now.place place →
         IsDisplacement move →
         IsMeanDirection place (point_of point.now.x point.now.y point.now.z) move direction →
         IsInSpread result.x direction.x × IsInSpread result.y direction.y

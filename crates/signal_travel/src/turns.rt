@@ -7,7 +7,7 @@ ghost use Rattle.iv_core.specs.Intervals.{Holds, width_of, IsWithin};
 ghost use Rattle.trig_box.specs.AnglePairs.{Pair, IsAnglePair};
 ghost use Rattle.trig_box.specs.PairBoxes.{HoldsPair, AreAtMostWide};
 ghost use Rattle.orbit_model.specs.Elements.{earth_rate};
-ghost use Rattle.orbit_model.specs.SeenPlaces.{Place, turned_back};
+ghost use Rattle.orbit_model.specs.SeenPlaces.{Position, turned_back};
 ghost use Rattle.orbit_model.specs.declared.rotation.TheConstants.{EARTH_ROTATION};
 ghost use Rattle.signal_travel.specs.VectorBoxes.{HoldsVector, IsVectorWithin, IsVectorAtMostWide, IsTravel};
 ghost use Rattle.signal_travel.specs.declared.passes.TheConstants.{LATEST};
@@ -147,7 +147,7 @@ fn sin_part(sin: &Iv<60>, x: &Iv<36>) -> Iv<36>
 pub fn turned_box(turn: &PairBox, sent: &SentBox) -> VectorBox
     requires cos_size { IsWithin (2 ^ 60 + 2 ^ 46) turn.now.cos }
     requires sin_size { IsWithin (2 ^ 46) turn.now.sin }
-    ensures holds { (p : Place) (pair : Pair) → HoldsVector sent.now.place p →
+    ensures holds { (p : Position) (pair : Pair) → HoldsVector sent.now.place p →
         HoldsPair turn.now pair.cos pair.sin → HoldsVector result (turned_back pair p) }
     ensures size { IsVectorWithin (38100000 * 2 ^ 36) result }
     ensures width { (w v : ℤ) → AreAtMostWide w turn.now →

@@ -1,7 +1,7 @@
 use Rattle.std.proofs.Common.{◌≡◌, List, [], ◌∷◌, ℤ, pos, length, get_or, arith, refl, sym, ◌∙◌}
 use Rattle.whole_math.proofs.Lists.{three_items}
 use Rattle.iv_core.specs.declared.Iv.{Iv}
-use Rattle.orbit_model.specs.SeenPlaces.{Place, point_of, IsAboveMask, IsBelowMask, place_at}
+use Rattle.orbit_model.specs.SeenPlaces.{Position, point_of, IsAboveMask, IsBelowMask, place_at}
 use Rattle.orbit_model.specs.Places.{HasSeenPlace, HoldsPlace}
 use Rattle.screening.specs.Sightings.{Setting, Sighting, IsSighting, WasSent, setting_with, code_of}
 use Rattle.screening.proofs.ChosenOnce.{none_chosen}
@@ -9,8 +9,8 @@ use Rattle.screening.proofs.SightLaws.{match_none, match_some, if_some, code_ran
 use Rattle.screening.proofs.sights.entry_of.Goals as goal
 
 -- each place of a box is seen, as it is from the three coordinates of the point
-seen_there : (boxes : List (Iv 36)) (p : List ℤ) → length p ≡ 3 → ((a b c : ℤ) (sent : Place) → p ≡ a ∷ b ∷ c ∷ [] → HoldsPlace boxes sent → HasSeenPlace sent (point_of a b c)) →
-    (sent : Place) → HoldsPlace boxes sent → HasSeenPlace sent (place_at p)
+seen_there : (boxes : List (Iv 36)) (p : List ℤ) → length p ≡ 3 → ((a b c : ℤ) (sent : Position) → p ≡ a ∷ b ∷ c ∷ [] → HoldsPlace boxes sent → HasSeenPlace sent (point_of a b c)) →
+    (sent : Position) → HoldsPlace boxes sent → HasSeenPlace sent (place_at p)
 seen_there boxes p l all sent h = all (get_or p 0 (pos 0)) (get_or p 1 (pos 0)) (get_or p 2 (pos 0)) sent (three_items p (pos 0) (pos 0) (pos 0) l) h
 
 pub returns-in_err-record : goal.returns-in_err-record
