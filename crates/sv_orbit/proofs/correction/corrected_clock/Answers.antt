@@ -2,17 +2,17 @@
 use Rattle.std.proofs.Common.{◌^◌}
 use Rattle.whole_math.specs.Rational.{Rational, ◌+ʳ◌, ◌-ʳ◌, ◌*ʳ◌, times}
 use Rattle.whole_math.proofs.Boxes.{InBox-along}
-use Rattle.sv_orbit.specs.ClockTerms.{part, correction}
+use Rattle.sv_orbit.specs.ClockTerms.{per_ten_thousand, correction}
 use Rattle.sv_orbit.proofs.Values.{correction_is, stepped}
-use Rattle.sv_orbit.proofs.correction.pass.Goals as goal
+use Rattle.sv_orbit.proofs.correction.corrected_clock.Goals as goal
 
 pub returns : goal.returns
 returns g c = λ eph sent x y t hx hy.
     let drift : Rational = times (10 ^ 4) eph.af1 in
     let aging : Rational = times (10 ^ 8) eph.af2 in
-    let offset : Rational = part (sent -ʳ eph.toc) in
-    let time : Rational = offset -ʳ part x in
-    let in_time = c.sub-time.ensures.holds offset (part x) t.offset (c.share_of-share.ensures x hx) in
+    let offset : Rational = per_ten_thousand (sent -ʳ eph.toc) in
+    let time : Rational = offset -ʳ per_ten_thousand x in
+    let in_time = c.sub-time.ensures.holds offset (per_ten_thousand x) t.offset (c.per_ten_thousand-scaled.ensures x hx) in
     let in_aged = c.mul-aged.ensures.holds aging time t.aging in_time in
     let in_slope = c.add-slope.ensures.holds drift (aging *ʳ time) t.drift in_aged in
     let in_turn = c.mul-turn.ensures.holds time (drift +ʳ aging *ʳ time) in_time in_slope in
