@@ -71,7 +71,7 @@ fn range_guess(travel: &Iv<60>) -> u64
 
 /// Where a receiver sees what was sent from a place, after which time, and the vector from the receiver to it.
 #[derive(Clone, Copy)]
-pub struct Sight {
+pub struct SightBoxes {
     pub place: VectorBox,
     pub vector: VectorBox,
     pub range: Iv<36>,
@@ -87,7 +87,7 @@ pub struct Sight {
 }
 
 /// The sights at the point after the travel times of the box.
-pub fn sight_after(sent: &SentBox, point: &Point, travel: &Iv<60>) -> Sight
+pub fn sight_after(sent: &SentBox, point: &Point, travel: &Iv<60>) -> SightBoxes
     requires { IsTravel travel.now }
     ensures place { (p seen : Position) (t : Rational) → HoldsVector sent.now.place p →
         Holds travel.now t → IsSeenPlace p (point_of point.now.x point.now.y point.now.z) t seen →
@@ -122,7 +122,7 @@ pub fn sight_after(sent: &SentBox, point: &Point, travel: &Iv<60>) -> Sight
     let vector = vector_from(point, &place);
     let range = length_by(&vector, range_guess(travel));
     let travel = time_over(&range);
-    Sight {
+    SightBoxes {
         place,
         vector,
         range,
@@ -187,7 +187,7 @@ fn is_settled(travel: &Iv<60>, time: i64) -> bool
 }
 
 /// The sights at the point, by one pass from the guess, or by four where the guess is poor.
-pub fn sight_of(sent: &SentBox, point: &Point, guess: i64) -> Sight
+pub fn sight_of(sent: &SentBox, point: &Point, guess: i64) -> SightBoxes
     ensures place { (p seen : Position) (t : Rational) → HoldsVector sent.now.place p →
         IsSeenPlace p (point_of point.now.x point.now.y point.now.z) t seen →
         HoldsVector result.place seen }

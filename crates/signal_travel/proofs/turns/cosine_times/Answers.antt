@@ -2,7 +2,7 @@ use Rattle.std.proofs.Common.{◌*◌, ◌^◌, ℤ, pos, ◌+ℤ◌, ◌-ℤ◌
 use Rattle.std.proofs.lemmas.Int.{ints}
 use Rattle.iv_core.specs.Intervals.{low_product, high_product}
 use Rattle.sized_box.proofs.Bounds.{reached, same_within, product_within}
-use Rattle.signal_travel.proofs.turns.cos_part.Goals as goal
+use Rattle.signal_travel.proofs.turns.cosine_times.Goals as goal
 
 within : (c : goal.Start) → (neg_ℤ (pos 2611505042712166400) ≤ℤ low_product 36 c.args.cos.now c.args.x.now) × (high_product 36 c.args.cos.now c.args.x.now ≤ℤ pos 2611505042712166400)
 within c =

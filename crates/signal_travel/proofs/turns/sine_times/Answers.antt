@@ -2,7 +2,7 @@ use Rattle.std.proofs.Common.{◌*◌, ◌^◌, ℤ, pos, ◌+ℤ◌, ◌-ℤ◌
 use Rattle.std.proofs.lemmas.Int.{ints}
 use Rattle.iv_core.specs.Intervals.{low_product, high_product}
 use Rattle.sized_box.proofs.Bounds.{reached, same_within, product_within}
-use Rattle.signal_travel.proofs.turns.sin_part.Goals as goal
+use Rattle.signal_travel.proofs.turns.sine_times.Goals as goal
 
 within : (c : goal.Start) → (neg_ℤ (pos 164926744166400) ≤ℤ low_product 36 c.args.sin.now c.args.x.now) × (high_product 36 c.args.sin.now c.args.x.now ≤ℤ pos 164926744166400)
 within c =
