@@ -44,7 +44,7 @@ const CODE_OFFSET: i64 = (HALF_LIGHT_SPEED as i64) << 21;
 
 // A box of one number, in 2^-15 ι.
 #[derive(Clone, Copy)]
-struct Observed {
+struct ObservedBox {
     lo: i128,
     hi: i128,
     ghost ordered: { lo ≤ℤ hi },
@@ -52,23 +52,23 @@ struct Observed {
 }
 
 // A box of a whole number
-fn whole_box(whole: i128) -> Observed
+fn whole_box(whole: i128) -> ObservedBox
     ensures low { result.lo ≡ whole }
     ensures high { result.hi ≡ whole }
 {
-    Observed {
+    ObservedBox {
         lo: whole,
         hi: whole,
     }
 }
 
 // A box from a whole number to the next
-fn step_box(low: i128) -> Observed
+fn step_box(low: i128) -> ObservedBox
     requires { unsigned_abs low ≤ 2 ^ 67 }
     ensures low { result.lo ≡ low }
     ensures high { result.hi ≡ low +ℤ pos 1 }
 {
-    Observed {
+    ObservedBox {
         lo: low,
         hi: low + 1,
     }
@@ -86,7 +86,7 @@ fn l1_below(amount: i64) -> i128
 }
 
 // amount · L1_CYCLE / 1000
-fn l1_box(amount: i64) -> Observed
+fn l1_box(amount: i64) -> ObservedBox
     requires { unsigned_abs amount < 2 ^ 48 }
     ensures low { IsFloor (amount *ℤ L1_CYCLE) 1000 result.lo }
     ensures high { IsCeil (amount *ℤ L1_CYCLE) 1000 result.hi }
@@ -110,7 +110,7 @@ fn l2_below(amount: i64) -> i128
 }
 
 // amount · L2_CYCLE / 1000
-fn l2_box(amount: i64) -> Observed
+fn l2_box(amount: i64) -> ObservedBox
     requires { unsigned_abs amount < 2 ^ 48 }
     ensures low { IsFloor (amount *ℤ L2_CYCLE) 1000 result.lo }
     ensures high { IsCeil (amount *ℤ L2_CYCLE) 1000 result.hi }
@@ -134,7 +134,7 @@ fn l5_below(amount: i64) -> i128
 }
 
 // amount · L5_CYCLE / 1000
-fn l5_box(amount: i64) -> Observed
+fn l5_box(amount: i64) -> ObservedBox
     requires { unsigned_abs amount < 2 ^ 48 }
     ensures low { IsFloor (amount *ℤ L5_CYCLE) 1000 result.lo }
     ensures high { IsCeil (amount *ℤ L5_CYCLE) 1000 result.hi }
@@ -160,7 +160,7 @@ fn code_below(amount: i64) -> i128
 }
 
 // amount · MILLIMETRE_UNITS / HALF_LIGHT_SPEED
-fn code_box(amount: i64) -> Observed
+fn code_box(amount: i64) -> ObservedBox
     requires { unsigned_abs amount < 2 ^ 48 }
     ensures low { IsFloor (amount *ℤ MILLIMETRE_UNITS) HALF_LIGHT_SPEED result.lo }
     ensures high { IsCeil (amount *ℤ MILLIMETRE_UNITS) HALF_LIGHT_SPEED result.hi }
@@ -174,7 +174,7 @@ fn code_box(amount: i64) -> Observed
 }
 
 // In thousandths of a cycle, or in mm.
-fn observed_box(signal: usize, amount: i64) -> Observed
+fn observed_box(signal: usize, amount: i64) -> ObservedBox
     requires signal { signal < SIGNALS }
     requires size { unsigned_abs amount < 2 ^ 48 }
     ensures holds { InBox iota_exponent result.lo result.hi (observed signal amount) }
@@ -194,7 +194,7 @@ fn observed_box(signal: usize, amount: i64) -> Observed
 }
 
 // observed - (rover - base)
-fn less(observed: i128, rover: i64, base: i64) -> i128
+fn less_computed(observed: i128, rover: i64, base: i64) -> i128
     requires observed { unsigned_abs observed ≤ 2 ^ 67 }
     requires rover { unsigned_abs rover ≤ 2 ^ 55 }
     requires base { unsigned_abs base ≤ 2 ^ 55 }
@@ -217,7 +217,7 @@ pub fn prefit_of(signal: usize, amount: i64, base: &Pseudorange, rover: &Pseudor
 {
     let held = observed_box(signal, amount);
     Prefit {
-        lo: less(held.lo, rover.hi, base.lo),
-        hi: less(held.hi, rover.lo, base.hi),
+        lo: less_computed(held.lo, rover.hi, base.lo),
+        hi: less_computed(held.hi, rover.lo, base.hi),
     }
 }

@@ -20,7 +20,7 @@ use Rattle.slip_arcs.specs.Runs.{AreKept}
 use Rattle.slip_arcs.specs.Linked.{HaveDatums}
 use Rattle.screening.specs.Amounts.{differences}
 use Rattle.screening.specs.Sightings.{Setting, Sent, code_of}
-use Rattle.screening.specs.Sightings.{Sighting as Observed, IsSighting as AreObserved}
+use Rattle.screening.specs.Sightings.{ObservedSat, IsObservedSat}
 use Rattle.screening.specs.Screening.{AreEpochsOf, AreUsedPairs}
 use Rattle.row_boxes.specs.Sightings.{Sighting, y_in_rows}
 use Rattle.row_boxes.specs.YBoxes.{most_radius, MeetsOne}
@@ -64,8 +64,8 @@ pub record HasSolved (setting : Setting) (eph : Eph) (tag : ℕ) (code : ℤ) (p
 -- observed - computed - group - λ shift for every solution of either receiver, and each u box the mean direction for every one of the
 -- rover and every displacement.
 pub record StandsForRow (from : Origin) (round : Round) (epochs : PairEpochs) (group : ℤ) (arc : Arc) (r : Row) : Type 0 where
-  pub observed : Observed
-  pub are : AreObserved from.setting epochs.base epochs.rover arc.sat observed
+  pub observed : ObservedSat
+  pub are : IsObservedSat from.setting epochs.base epochs.rover arc.sat observed
   pub base_sees : HasSolved from.setting observed.eph epochs.base.tag.0 (code_of observed.base) from.position
   pub rover_sees : HasSolved from.setting observed.eph epochs.rover.tag.0 (code_of observed.rover) round.point
   pub y : (b q : Sighting) → IsSolved from.setting observed.eph epochs.base.tag.0 (code_of observed.base) from.position b →

@@ -13,7 +13,7 @@ use crate::amounts::SignalTypes;
 use crate::marks::{lost_in, may_lose, power_failed};
 use crate::records::RecordTable;
 use crate::rules::Rules;
-use crate::sights::entry_of;
+use crate::sights::sv_pair_of;
 use crate::{SvPair, SvPairList, UsedPair, UsedSat};
 use obs_rows::MOST_SATELLITES;
 use obs_store::Epoch;
@@ -83,7 +83,7 @@ fn add_sat(
     if sats.len() >= MOST_SATELLITES {
         return Ok(());
     }
-    let Some(entry) = entry_of(rules, table, at.base, at.rover, at.number, number) else {
+    let Some(entry) = sv_pair_of(rules, table, at.base, at.rover, at.number, number) else {
         return Ok(());
     };
     let lost = lost_up_to(may, &rules.types, number, at);

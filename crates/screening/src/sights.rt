@@ -44,7 +44,7 @@ fn differences(base: &[i64; SIGNALS], rover: &[i64; SIGNALS]) -> [i64; SIGNALS]
 }
 
 /// What a pair of epochs says of a satellite that it may use. The boxes of a receiver are made once.
-pub fn entry_of(
+pub fn sv_pair_of(
     rules: &Rules,
     table: &RecordTable<'_>,
     base: &Epoch,

@@ -3,10 +3,10 @@ use Rattle.whole_math.proofs.Lists.{three_items}
 use Rattle.iv_core.specs.declared.Iv.{Iv}
 use Rattle.orbit_model.specs.SeenPlaces.{Position, point_of, IsAboveMask, IsBelowMask, place_at}
 use Rattle.orbit_model.specs.Places.{HasSeenPlace, HoldsPlace}
-use Rattle.screening.specs.Sightings.{Setting, Sighting, IsSighting, WasSent, setting_with, code_of}
+use Rattle.screening.specs.Sightings.{Setting, ObservedSat, IsObservedSat, WasSent, setting_with, code_of}
 use Rattle.screening.proofs.ChosenOnce.{none_chosen}
 use Rattle.screening.proofs.SightLaws.{match_none, match_some, if_some, code_range, from_record, sees_sent, was_sent, base_near, rover_near, left_out_as, sees_near}
-use Rattle.screening.proofs.sights.entry_of.Goals as goal
+use Rattle.screening.proofs.sights.sv_pair_of.Goals as goal
 
 -- each place of a box is seen, as it is from the three coordinates of the point
 seen_there : (boxes : List (Iv 36)) (p : List ℤ) → length p ≡ 3 → ((a b c : ℤ) (sent : Position) → p ≡ a ∷ b ∷ c ∷ [] → HoldsPlace boxes sent → HasSeenPlace sent (point_of a b c)) →
@@ -22,8 +22,8 @@ pub returns-then-not-above : goal.returns-then-not-above
 returns-then-not-above c =
     let three_coordinates : length c.args.rules.now.point ≡ 3 = omega arith in
     let setting : Setting = setting_with c.args.rules.now c.args.table.now in
-    let sighted : Sighting = record { base = c.in_ok-at_base.at_base; rover = c.in_ok-at_rover.at_rover; eph = c.in_ok-record.record.now.clock.eph } in
-    let seen : IsSighting setting c.args.base.now c.args.rover.now c.args.number sighted = record {
+    let sighted : ObservedSat = record { base = c.in_ok-at_base.at_base; rover = c.in_ok-at_rover.at_rover; eph = c.in_ok-record.record.now.clock.eph } in
+    let seen : IsObservedSat setting c.args.base.now c.args.rover.now c.args.number sighted = record {
       number = c.requires.number;
       at_base = sym c.amounts_at.ensures.value ∙ c.in_ok-at_base.was;
       at_rover = sym c.amounts_at-2.ensures.value ∙ c.in_ok-at_rover.was;
@@ -42,8 +42,8 @@ pub returns : goal.returns
 returns c =
     let three_coordinates : length c.args.rules.now.point ≡ 3 = omega arith in
     let setting : Setting = setting_with c.args.rules.now c.args.table.now in
-    let sighted : Sighting = record { base = c.in_ok-at_base.at_base; rover = c.in_ok-at_rover.at_rover; eph = c.in_ok-record.record.now.clock.eph } in
-    let seen : IsSighting setting c.args.base.now c.args.rover.now c.args.number sighted = record {
+    let sighted : ObservedSat = record { base = c.in_ok-at_base.at_base; rover = c.in_ok-at_rover.at_rover; eph = c.in_ok-record.record.now.clock.eph } in
+    let seen : IsObservedSat setting c.args.base.now c.args.rover.now c.args.number sighted = record {
       number = c.requires.number;
       at_base = sym c.amounts_at.ensures.value ∙ c.in_ok-at_base.was;
       at_rover = sym c.amounts_at-2.ensures.value ∙ c.in_ok-at_rover.was;
