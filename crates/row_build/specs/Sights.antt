@@ -8,8 +8,8 @@ use Rattle.row_boxes.specs.declared.sights.Sight.{Sight}
 use Rattle.row_boxes.specs.Sightings.{Sighting}
 use Rattle.row_boxes.specs.BoxSightings.{IsSighting, HasSighting}
 use Rattle.row_boxes.specs.YBoxes.{HoldsPseudoranges}
-use Rattle.row_build.specs.Halves.{IsBaseHalf}
-use Rattle.row_build.specs.declared.entries.Entry.{Entry}
+use Rattle.row_build.specs.BasePseudoranges.{IsBasePseudorange}
+use Rattle.row_build.specs.declared.entries.SeenSat.{SeenSat}
 
 -- each coordinate of the direction is in its spread of the three
 abbrev pub IsInSpreads : List Spread → Position → Type 0
@@ -26,7 +26,7 @@ abbrev pub AreRoverSights : List SvPair → List ℤ → List Sight → Type 0
 AreRoverSights boxes point sights = (place : ℕ) (v : SvPair) (sight : Sight) → slice_get boxes place ≡ Some v → slice_get sights place ≡ Some sight → IsRoverSight v point sight
 
 -- what the base sees there, and the rover at the point, from which there is something to see
-pub record IsSeen (e : Entry) (base point : List ℤ) : Type 0 where
-  pub half : IsBaseHalf e.sv.now base e.half
+pub record IsSeen (e : SeenSat) (base point : List ℤ) : Type 0 where
+  pub base_pseudorange : IsBasePseudorange e.sv.now base e.base_pseudorange
   pub rover : IsRoverSight e.sv.now point e.rover
   pub exists : HasSighting e.sv.now.rover point

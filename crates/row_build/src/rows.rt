@@ -8,7 +8,7 @@ ghost use Rattle.orbit_model.specs.SeenPlaces.{Position};
 ghost use Rattle.row_build.specs.Sights.{IsInSpreads, IsSeen};
 ghost use Rattle.row_build.specs.Rows.{HoldsU, IsInU, seen_by};
 
-use crate::entries::Entry;
+use crate::entries::SeenSat;
 use obs_rows::{PHASES, Row};
 use row_boxes::{Observations, observations_of};
 use signal_travel::Spread;
@@ -38,7 +38,7 @@ pub fn row_of(
     ss: &[usize],
     arc: u16,
     shift: &[i64; PHASES],
-    entry: &Entry<'_>,
+    entry: &SeenSat<'_>,
     group: i64,
     scale: u32,
 ) -> Option<Row>
@@ -67,7 +67,7 @@ pub fn row_of(
         &sv.observed,
         group,
         shift,
-        &entry.half,
+        &entry.base_pseudorange,
         &entry.rover.pseudorange,
         scale,
     )?;

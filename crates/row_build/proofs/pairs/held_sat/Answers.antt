@@ -5,15 +5,15 @@ use Rattle.obs_rows.specs.declared.arcs.Arc.{Arc}
 use Rattle.slip_arcs.specs.Used.{is_used}
 use Rattle.row_build.specs.Entries.{IsEntry}
 use Rattle.row_build.proofs.ArcLaws.{cut_sat, held_read}
-use Rattle.row_build.proofs.pairs.held_entry.Goals as goal
+use Rattle.row_build.proofs.pairs.held_sat.Goals as goal
 
 pub bounds-from-number : goal.bounds-from-number
 bounds-from-number c =
     let is_held = held_read c.args.from.now.arcs.now c.args.pair c.args.place c.args.held.now c.requires.held c.requires.inside in
     slice_get_within c.args.from.now.arcs.now (get_or c.args.held.now c.args.place 0) is_held.arc is_held.is
 
-pub entry_of-requires : goal.entry_of-requires
-entry_of-requires c =
+pub seen_sat_of-requires : goal.seen_sat_of-requires
+seen_sat_of-requires c =
     let arc_number : ℕ = get_or c.args.held.now c.args.place 0 in
     let is_held = held_read c.args.from.now.arcs.now c.args.pair c.args.place c.args.held.now c.requires.held c.requires.inside in
     record {
@@ -33,5 +33,5 @@ pub returns-clause-entry : goal.returns-clause-entry
 returns-clause-entry c = λ n a at is.
     let arc_number : ℕ = get_or c.args.held.now c.args.place 0 in
     let same : n ≡ arc_number = same_Some n arc_number (sym at ∙ slice_get-get_or c.args.held.now c.args.place 0 c.requires.inside) in
-    subst (λ (b : Arc). IsEntry c.args.from.now.screened.now.boxes c.args.pair b.sat c.entry_of.result.sv.now)
-    (get_or_from_slice_get c.args.from.now.arcs.now arc_number a _ (subst (λ (k : ℕ). slice_get c.args.from.now.arcs.now k ≡ Some a) same is)) c.entry_of.ensures.entry
+    subst (λ (b : Arc). IsEntry c.args.from.now.screened.now.boxes c.args.pair b.sat c.seen_sat_of.result.sv.now)
+    (get_or_from_slice_get c.args.from.now.arcs.now arc_number a _ (subst (λ (k : ℕ). slice_get c.args.from.now.arcs.now k ≡ Some a) same is)) c.seen_sat_of.ensures.entry

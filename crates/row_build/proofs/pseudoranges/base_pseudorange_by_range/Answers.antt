@@ -1,5 +1,5 @@
 use Rattle.orbit_model.specs.SeenPlaces.{range_of}
-use Rattle.row_build.proofs.halves.half_by_range.Goals as goal
+use Rattle.row_build.proofs.pseudoranges.base_pseudorange_by_range.Goals as goal
 
 pub returns : goal.returns
 returns c = record {
