@@ -4,7 +4,7 @@ ghost use Rattle.std.specs.Prelude.{◌≡◌, ℕ, Bool, IfOk, IfErr};
 ghost use Rattle.normal_sum.specs.Normals.{IsNormalOf};
 ghost use Rattle.obs_rows.specs.Signals.{counted};
 ghost use Rattle.integer_form.specs.FloatPoint.{item};
-ghost use Rattle.lower_form.specs.Rooms.{IsClean};
+ghost use Rattle.lower_form.specs.CleanSteps.{IsClean};
 ghost use Rattle.round_steps.specs.Steps.{IsFloatOf, IsCoarseStep, IsRoundDeclined};
 
 use crate::limits::first_over;
@@ -12,7 +12,7 @@ use crate::points::moved_point;
 use cert_check::tail_of;
 use cert_data::Tail;
 use integer_form::Place;
-use lower_form::{FrontForm, FrontRoom, lower, refill_front};
+use lower_form::{FrontForm, BaselineSteps, lower, refill_front};
 use normal_sum::{Normal, refill_sum};
 use obs_rows::{Session, is_receiver_point};
 use quadratic_form::{BASELINE_COLUMNS, FormTable, MOST_FACTORS};
@@ -21,7 +21,7 @@ use quadratic_form::{BASELINE_COLUMNS, FormTable, MOST_FACTORS};
 #[derive(Clone, Copy, Debug)]
 pub(crate) struct CoarseTables {
     normal: Normal,
-    steps: FrontRoom,
+    steps: BaselineSteps,
     front: FrontForm,
     pub ghost clean: { IsClean 4 steps },
     pub ghost columns: { front.columns ≡ 4 },
@@ -30,7 +30,7 @@ pub(crate) struct CoarseTables {
 impl CoarseTables {
     /// Tables that no round has used.
     pub(crate) fn empty() -> CoarseTables {
-        let steps = FrontRoom::empty();
+        let steps = BaselineSteps::empty();
         let front = FrontForm::of(BASELINE_COLUMNS + 1, 0, &FormTable::zeros());
         CoarseTables {
             normal: Normal::empty(),

@@ -1,7 +1,7 @@
 use Rattle.std.proofs.Common.{◌≡◌, length}
 use Rattle.elimination.specs.RowSteps.{ArePivotRows}
 use Rattle.lower_form.specs.FirstRounding.{first_entry}
-use Rattle.lower_form.proofs.row_fronts.pivot_rows.Given as goal
+use Rattle.lower_form.proofs.baseline_rows.pivot_rows.Given as goal
 
 abbrev pub invariant-loop-j : goal.invariant-loop-j
 invariant-loop-j l = record {

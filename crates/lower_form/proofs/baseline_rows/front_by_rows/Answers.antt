@@ -5,7 +5,7 @@ use Rattle.lower_form.specs.Fronts.{front_of}
 use Rattle.lower_form.specs.FirstRounding.{first_entry}
 use Rattle.elimination.proofs.RowStepLaws.{pivot_sizes, pivots_positive}
 use Rattle.lower_form.proofs.RowFrontLaws.{front_taken}
-use Rattle.lower_form.proofs.row_fronts.front_by_rows.Goals as goal
+use Rattle.lower_form.proofs.baseline_rows.front_by_rows.Goals as goal
 
 pub form_rows-requires-clause-positive : goal.form_rows-requires-clause-positive
 form_rows-requires-clause-positive c = pivots_positive (first_entry c.args.normal.now c.args.h) c.pivot_rows.new.pivots.rows c.args.normal.now.columns c.pivot_rows.new.front.d c.pivot_rows.new.front.l 3

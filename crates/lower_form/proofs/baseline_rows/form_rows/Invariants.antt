@@ -3,7 +3,7 @@ use Rattle.quadratic_form.specs.Tables.{entry}
 use Rattle.elimination.specs.StepEntries.{is_small}
 use Rattle.elimination.specs.RowSteps.{row_entry, HasFactors}
 use Rattle.lower_form.specs.FirstRounding.{first_entry}
-use Rattle.lower_form.proofs.row_fronts.form_rows.Given as goal
+use Rattle.lower_form.proofs.baseline_rows.form_rows.Given as goal
 
 abbrev pub invariant-loop-r : goal.invariant-loop-r
 invariant-loop-r l = record {

@@ -7,7 +7,7 @@ use Rattle.quadratic_form.specs.Tables.{entry}
 use Rattle.lower_form.specs.FirstRounding.{first_form}
 use Rattle.integer_form.specs.Factors.{stored}
 use Rattle.lower_form.proofs.FrontLaws.{bounds_all}
-use Rattle.lower_form.proofs.fronts.take_front.Goals as goal
+use Rattle.lower_form.proofs.baseline_steps.take_front.Goals as goal
 
 pub returns-clause-bound : goal.returns-clause-bound
 returns-clause-bound c =

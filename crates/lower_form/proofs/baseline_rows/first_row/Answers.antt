@@ -8,7 +8,7 @@ use Rattle.elimination.specs.StepEntries.{is_small}
 use Rattle.elimination.proofs.SmallEntries.{small_size}
 use Rattle.elimination.proofs.Words.{wide_w128}
 use Rattle.lower_form.specs.FirstRounding.{first_entry}
-use Rattle.lower_form.proofs.row_fronts.first_row.Goals as goal
+use Rattle.lower_form.proofs.baseline_rows.first_row.Goals as goal
 
 pub returns-clause-value : goal.returns-clause-value
 returns-clause-value c =

@@ -3,7 +3,7 @@ use Rattle.normal_sum.specs.Values.{form_of}
 use Rattle.elimination.specs.Stops.{refusal_of}
 use Rattle.lower_form.specs.Fronts.{front_of}
 use Rattle.lower_form.proofs.Exponents.{exponent_unique}
-use Rattle.lower_form.proofs.fronts.lower_front.Goals as goal
+use Rattle.lower_form.proofs.baseline_steps.lower_front.Goals as goal
 
 pub returns-in-Err-clause-refused : goal.returns-in-Err-clause-refused
 returns-in-Err-clause-refused c = λ h k. (

@@ -9,7 +9,7 @@ use Rattle.elimination.specs.StepEntries.{is_small}
 use Rattle.elimination.proofs.NewEntries.{apart}
 use Rattle.elimination.proofs.SmallEntries.{small_size}
 use Rattle.lower_form.specs.FirstRounding.{own_bound, first_entry, IsRounded}
-use Rattle.lower_form.proofs.row_fronts.first_others.Goals as goal
+use Rattle.lower_form.proofs.baseline_rows.first_others.Goals as goal
 
 -- an entry after the diagonal
 off_diagonal : (n : Normal) (h r c : ℕ) → r < c → first_entry n h r c ≡ nearest_div (pos 63 *ℤ entry n.c r c) (2 ^ h)

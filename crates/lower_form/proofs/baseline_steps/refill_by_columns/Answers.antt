@@ -5,7 +5,7 @@ use Rattle.normal_sum.specs.declared.normal.Normal.{Normal}
 use Rattle.integer_form.specs.declared.front_form.FrontForm.{FrontForm}
 use Rattle.integer_form.specs.Factors.{stored}
 use Rattle.lower_form.proofs.FrontKept.{front_range, fronted, Fronted}
-use Rattle.lower_form.proofs.fronts.refill_by_columns.Goals as goal
+use Rattle.lower_form.proofs.baseline_steps.refill_by_columns.Goals as goal
 
 pub fill_form_table-requires-clause-small : goal.fill_form_table-requires-clause-small
 fill_form_table-requires-clause-small c =

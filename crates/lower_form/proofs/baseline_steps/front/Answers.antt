@@ -6,7 +6,7 @@ use Rattle.quadratic_form.proofs.TableLaws.{zero_entry}
 use Rattle.normal_sum.specs.declared.normal.Normal.{Normal}
 use Rattle.integer_form.specs.Factors.{stored}
 use Rattle.lower_form.proofs.FrontKept.{front_range, fronted, Fronted}
-use Rattle.lower_form.proofs.fronts.front.Goals as goal
+use Rattle.lower_form.proofs.baseline_steps.front.Goals as goal
 
 pub form_table-p-requires-clause-small : goal.form_table-p-requires-clause-small
 form_table-p-requires-clause-small c =

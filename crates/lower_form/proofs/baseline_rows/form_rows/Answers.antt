@@ -6,7 +6,7 @@ use Rattle.elimination.specs.StepEntries.{is_small}
 use Rattle.elimination.specs.RowSteps.{row_entry, HasFactors}
 use Rattle.elimination.proofs.RowStepLaws.{has_same}
 use Rattle.lower_form.specs.FirstRounding.{first_entry}
-use Rattle.lower_form.proofs.row_fronts.form_rows.Goals as goal
+use Rattle.lower_form.proofs.baseline_rows.form_rows.Goals as goal
 
 below : (x : ℤ) → is_small x ≡ true → unsigned_abs x < 2 ^ 52
 below x e = omega (arith, ltb-true)

@@ -5,7 +5,7 @@ use Rattle.elimination.specs.RowSteps.{left_after, row_entry}
 use Rattle.elimination.proofs.SmallEntries.{small_entry}
 use Rattle.elimination.proofs.RowStepLaws.{left_none}
 use Rattle.lower_form.specs.FirstRounding.{first_entry}
-use Rattle.lower_form.proofs.row_fronts.stepped_row.Goals as goal
+use Rattle.lower_form.proofs.baseline_rows.stepped_row.Goals as goal
 
 -- a column of the form is one of the normal matrix
 inside : (n m k : ℕ) → n ≡ m → k < n → k < m

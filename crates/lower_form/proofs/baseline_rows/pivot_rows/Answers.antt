@@ -8,7 +8,7 @@ use Rattle.elimination.specs.StepEntries.{is_small}
 use Rattle.elimination.proofs.SmallEntries.{small_entry}
 use Rattle.elimination.proofs.RowStepLaws.{no_rows, more_rows, pivot_sizes, pivots_positive}
 use Rattle.lower_form.specs.FirstRounding.{first_entry}
-use Rattle.lower_form.proofs.row_fronts.pivot_rows.Goals as goal
+use Rattle.lower_form.proofs.baseline_rows.pivot_rows.Goals as goal
 
 pub loop-j-init : goal.loop-j-init
 loop-j-init c = record {

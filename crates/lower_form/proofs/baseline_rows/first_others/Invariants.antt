@@ -3,7 +3,7 @@ use Rattle.quadratic_form.specs.declared.sizes.TheConstants.{MOST_COLUMNS}
 use Rattle.quadratic_form.specs.Tables.{item}
 use Rattle.elimination.specs.StepEntries.{is_small}
 use Rattle.lower_form.specs.FirstRounding.{first_entry, IsRounded}
-use Rattle.lower_form.proofs.row_fronts.first_others.Given as goal
+use Rattle.lower_form.proofs.baseline_rows.first_others.Given as goal
 
 abbrev pub invariant-loop-c : goal.invariant-loop-c
 invariant-loop-c l = record {

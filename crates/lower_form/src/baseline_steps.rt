@@ -1,4 +1,5 @@
-//! The front of the elimination: the first rounding of a normal matrix and the steps of the baseline's columns.
+//! The front of the elimination, the form without the baseline: the first rounding of a normal matrix and the steps of the baseline's
+//! columns.
 ghost use Rattle.std.specs.Prelude.{◌≡◌, ◌⊎◌, ℕ, ◌-◌, ◌^◌, ◌<◌, ◌≤◌, List, unsigned_abs, OnOk, IfOk, IfErr, Ok, Err};
 ghost use Rattle.quadratic_form.specs.Places.{form_from};
 ghost use Rattle.quadratic_form.specs.Lowering.{IsExponent};
@@ -13,10 +14,10 @@ ghost use Rattle.integer_form.specs.ReportedRefusals.{IsReportedAs};
 ghost use Rattle.integer_form.specs.Kept.{form_of_table};
 ghost use Rattle.lower_form.specs.Fronts.{front_of, BoundsAllData};
 ghost use Rattle.lower_form.specs.Forms.{IsFrontOf};
-ghost use Rattle.lower_form.specs.Rooms.{IsClean};
+ghost use Rattle.lower_form.specs.CleanSteps.{IsClean};
 
 use crate::rounding::{exponent, round};
-use crate::row_fronts::front_by_rows;
+use crate::baseline_rows::front_by_rows;
 use elimination::{
     StepFault, Stopped, fill_form_table, first_kept, form_table, front_factors, take_steps,
 };
@@ -118,20 +119,20 @@ pub fn front(normal: &Normal) -> Result<FrontForm, LowerFault>
     })
 }
 
-/// The tables of the steps, kept from one front to the next: to make them anew for each would cost as much as the steps.
+/// The tables of the baseline's steps, kept from one front to the next: to make them anew for each would cost as much as the steps.
 #[derive(Clone, Copy, Debug)]
-pub struct FrontRoom {
+pub struct BaselineSteps {
     table: NormalTable,
     factors: FactorTable,
     kept: [i64; MOST_FACTORS],
 }
 
-impl FrontRoom {
-    /// Room in which no front was made.
-    pub fn empty() -> FrontRoom
+impl BaselineSteps {
+    /// Tables in which no front was made.
+    pub fn empty() -> BaselineSteps
         ensures { (columns : ℕ) → IsClean columns result }
     {
-        FrontRoom {
+        BaselineSteps {
             table: NormalTable::zeros(),
             factors: FactorTable::zeros(),
             kept: [0; MOST_FACTORS],
@@ -139,45 +140,45 @@ impl FrontRoom {
     }
 }
 
-/// Writes the front of a normal matrix over another of as many columns, by the steps column by column in this room.
+/// Writes the front of a normal matrix over another of as many columns, by the steps column by column in these tables.
 fn refill_by_columns(
     normal: &Normal,
-    room: &mut FrontRoom,
+    steps: &mut BaselineSteps,
     front: &mut FrontForm,
 ) -> Result<(), LowerFault>
-    requires clean { IsClean normal.now.columns room.old }
+    requires clean { IsClean normal.now.columns steps.old }
     requires columns { front.old.columns ≡ normal.now.columns }
     ensures front { OnOk result (IsFrontOf normal.now front.new) }
     ensures few { OnOk result (front.new.h ≤ 77) }
     ensures refused { IfErr result (λ e. (h : ℕ) → IsExponent h (form_of normal.now) →
         IsReportedAs e (front_of h normal.now)) }
-    ensures clean { IsClean normal.now.columns room.new }
+    ensures clean { IsClean normal.now.columns steps.new }
     ensures columns { front.new.columns ≡ normal.now.columns }
 {
-    let h = lower_front(normal, &mut room.table, &mut room.factors, &mut room.kept)?;
-    let d = first_kept(&room.kept);
-    let l = front_factors(&room.factors);
-    fill_form_table(&room.table, &mut front.p, normal.columns - BASELINE_COLUMNS);
+    let h = lower_front(normal, &mut steps.table, &mut steps.factors, &mut steps.kept)?;
+    let d = first_kept(&steps.kept);
+    let l = front_factors(&steps.factors);
+    fill_form_table(&steps.table, &mut front.p, normal.columns - BASELINE_COLUMNS);
     front.h = h;
     front.d = d;
     front.l = l;
     Ok(())
 }
 
-/// Writes the front of a normal matrix over another of as many columns, with the steps in this room. It is that of `front`,
+/// Writes the front of a normal matrix over another of as many columns, with the steps in these tables. It is that of `front`,
 /// and is refused as that is.
 pub fn refill_front(
     normal: &Normal,
-    room: &mut FrontRoom,
+    steps: &mut BaselineSteps,
     front: &mut FrontForm,
 ) -> Result<(), LowerFault>
-    requires clean { IsClean normal.now.columns room.old }
+    requires clean { IsClean normal.now.columns steps.old }
     requires columns { front.old.columns ≡ normal.now.columns }
     ensures front { OnOk result (IsFrontOf normal.now front.new) }
     ensures few { OnOk result (front.new.h ≤ 77) }
     ensures refused { IfErr result (λ e. (h : ℕ) → IsExponent h (form_of normal.now) →
         IsReportedAs e (front_of h normal.now)) }
-    ensures clean { IsClean normal.now.columns room.new }
+    ensures clean { IsClean normal.now.columns steps.new }
     ensures columns { front.new.columns ≡ normal.now.columns }
 {
     let h = exponent(normal);
@@ -185,5 +186,5 @@ pub fn refill_front(
         front.h = h;
         return Ok(());
     }
-    refill_by_columns(normal, room, front)
+    refill_by_columns(normal, steps, front)
 }
