@@ -3,7 +3,7 @@ use Rattle.std.specs.Int.{w128}
 use Rattle.std.proofs.lemmas.Int.{ints, to_z-of_z}
 use Rattle.whole_math.specs.Rounding.{ceil_div}
 use Rattle.int_search.proofs.LevelLaws.{fresh_from}
-use Rattle.int_search.proofs.steps.fresh.Goals as goal
+use Rattle.int_search.proofs.steps.untouched_level.Goals as goal
 
 pub returns : goal.returns
 returns c =
