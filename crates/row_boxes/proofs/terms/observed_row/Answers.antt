@@ -1,4 +1,4 @@
-use Rattle.std.proofs.Common.{rules, ◌≡◌, ◌+◌, ◌^◌, ◌<◌, ◌≤◌, ◌≤ℤ◌, ℕ, ℤ, length, get_or, to_z, of_z, unsigned_abs, arith, sym, subst, lt_of_lt_of_le}
+use Rattle.std.proofs.Common.{rules, ◌≡◌, ◌+◌, ◌^◌, ◌<◌, ◌≤◌, ◌≤ℤ◌, ℕ, ℤ, List, length, get_or, to_z, of_z, unsigned_abs, arith, sym, ap, ◌∙◌, subst, subst₂, lt_of_lt_of_le}
 use Rattle.std.specs.Int.{w64}
 use Rattle.std.proofs.lemmas.Int.{to_z-of_z}
 use Rattle.std.specs.Prelude.{◌==◌}
@@ -14,7 +14,7 @@ use Rattle.obs_rows.specs.Signals.{band}
 use Rattle.obs_rows.specs.Data.{number_at}
 use Rattle.row_boxes.specs.YBoxes.{HoldsY}
 use Rattle.row_boxes.proofs.Ys.{HoldsAt, far_signal, one_more, zero_off}
-use Rattle.row_boxes.proofs.terms.observations_of.Goals as goal
+use Rattle.row_boxes.proofs.terms.observed_row.Goals as goal
 
 pub returns-in_err-centre-clause-far : goal.returns-in_err-centre-clause-far
 returns-in_err-centre-clause-far c = λ e p h t.
@@ -54,14 +54,15 @@ loop-signal-preserved c =
 
 pub returns-clause-holds : goal.returns-clause-holds
 returns-clause-holds c = λ p h k d hk.
-    subst (λ (g : ℤ). HoldsAt p c.args.scale c.args.amounts.now g c.args.shift.now c.loop-signal.y (to_z w64 c.loop-signal.ry-bits) (get_or c.args.ss.now k d))
+    subst₂ (λ (y : List ℤ) (ry : ℤ). HoldsAt p c.args.scale c.args.amounts.now c.args.group c.args.shift.now y ry (get_or c.args.ss.now k d)) (sym c.row_over.ensures.y) (sym c.row_over.ensures.ry)
+    (subst (λ (g : ℤ). HoldsAt p c.args.scale c.args.amounts.now g c.args.shift.now c.loop-signal.y (to_z w64 c.loop-signal.ry-bits) (get_or c.args.ss.now k d))
     (to_z-of_z w64 c.args.group c.ranges.group)
     (subst (λ (s : ℕ). HoldsAt p c.args.scale c.args.amounts.now (to_z w64 (of_z w64 c.args.group)) c.args.shift.now c.loop-signal.y (to_z w64 c.loop-signal.ry-bits) s)
     (sym (get_or_default c.args.ss.now k d 0 hk))
-    (c.loop-signal.invariant.holds k (lt_of_lt_of_le hk c.loop-signal-test.false) p h))
+    (c.loop-signal.invariant.holds k (lt_of_lt_of_le hk c.loop-signal-test.false) p h)))
 
 pub returns-clause-others : goal.returns-clause-others
 returns-clause-others c = λ t none.
     let within : c.loop-signal.signal-index ≤ length c.args.ss.now = search rules in
-    c.loop-signal.invariant.others t (λ k hk e. both_ways (list_any (λ (s : ℕ). s == t) c.args.ss.now) none
+    ap (λ (y : List ℤ). number_at y t) c.row_over.ensures.y ∙ c.loop-signal.invariant.others t (λ k hk e. both_ways (list_any (λ (s : ℕ). s == t) c.args.ss.now) none
     (list_any_at (λ (s : ℕ). s == t) c.args.ss.now k 0 (lt_of_lt_of_le hk within) (eq-eqb (get_or c.args.ss.now k 0) t e)))
