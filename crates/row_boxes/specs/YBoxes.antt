@@ -5,6 +5,7 @@ use Rattle.sv_orbit.specs.declared.place.SvBox.{SvBox}
 use Rattle.orbit_model.specs.SeenPlaces.{range_of}
 use Rattle.obs_rows.specs.declared.units.TheConstants.{ROW_EXPONENT}
 use Rattle.obs_rows.specs.Data.{number_at}
+use Rattle.obs_rows.specs.declared.signal_names.TheConstants.{L1_CODE}
 use Rattle.obs_rows.specs.Signals.{wavelength, band}
 use Rattle.row_boxes.specs.Terms.{prefit_width, pseudorange, iota_exponent}
 use Rattle.row_boxes.specs.Sightings.{Sighting, y_in_rows}
@@ -66,7 +67,7 @@ pub record IsGroupUpTo (most : ℤ) (p : Pairing) (scale : ℕ) (amount group : 
   pub centre : ℤ
   pub radius : ℤ
   pub narrow : radius ≤ℤ most
-  pub holds : HoldsY p scale 2 amount group (pos 0) centre radius
+  pub holds : HoldsY p scale L1_CODE amount group (pos 0) centre radius
   pub meets : MeetsOne scale centre radius
 
 -- such a group by a box that is as narrow as those that are made here

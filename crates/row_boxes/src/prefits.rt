@@ -12,7 +12,7 @@ ghost use Rattle.row_boxes.specs.Sightings.{observed};
 use crate::Pseudorange;
 use crate::pseudoranges::{HALF_LIGHT_SPEED, over_half_light_speed};
 use crate::y_boxes::IOTA_EXPONENT;
-use obs_rows::{UNIT_FREQUENCY, WAVELENGTHS};
+use obs_rows::{L1_PHASE, L2_PHASE, L5_PHASE, UNIT_FREQUENCY, WAVELENGTHS};
 
 /// Observed less computed of one signal, the rover's less the base's, in 2^-15 ι, from `lo` to `hi`.
 #[derive(Clone, Copy, Debug)]
@@ -26,13 +26,13 @@ pub struct Prefit {
 }
 
 /// The wavelength on L1, in 2^-15 ι.
-pub const L1_CYCLE: i128 = (WAVELENGTHS[0] as i128) << IOTA_EXPONENT;
+pub const L1_CYCLE: i128 = (WAVELENGTHS[L1_PHASE] as i128) << IOTA_EXPONENT;
 
-/// That on L2.
-pub const L2_CYCLE: i128 = (WAVELENGTHS[1] as i128) << IOTA_EXPONENT;
+/// The wavelength on L2, in 2^-15 ι.
+pub const L2_CYCLE: i128 = (WAVELENGTHS[L2_PHASE] as i128) << IOTA_EXPONENT;
 
-/// That on L5.
-pub const L5_CYCLE: i128 = (WAVELENGTHS[4] as i128) << IOTA_EXPONENT;
+/// The wavelength on L5, in 2^-15 ι.
+pub const L5_CYCLE: i128 = (WAVELENGTHS[L5_PHASE] as i128) << IOTA_EXPONENT;
 
 /// One millimetre is `MILLIMETRE_UNITS` / `HALF_LIGHT_SPEED` units of 2^-15 ι.
 pub const MILLIMETRE_UNITS: i128 = (UNIT_FREQUENCY as i128 / 2000) << IOTA_EXPONENT;
@@ -186,9 +186,9 @@ fn observed_box(signal: usize, amount: i64) -> ObservedBox
         unsigned_abs result.lo ≤ 2 ^ 56 }
 {
     match signal {
-        0 => l1_box(amount),
-        1 => l2_box(amount),
-        4 => l5_box(amount),
+        L1_PHASE => l1_box(amount),
+        L2_PHASE => l2_box(amount),
+        L5_PHASE => l5_box(amount),
         _ => code_box(amount),
     }
 }

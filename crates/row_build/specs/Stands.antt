@@ -12,6 +12,7 @@ use Rattle.obs_rows.specs.declared.rows.Row.{Row}
 use Rattle.obs_rows.specs.declared.pair_rows.PairRows.{PairRows}
 use Rattle.obs_rows.specs.declared.sessions.Session.{Session}
 use Rattle.obs_rows.specs.Data.{number_at}
+use Rattle.obs_rows.specs.declared.signal_names.TheConstants.{L1_CODE}
 use Rattle.obs_rows.specs.Signals.{counted, band}
 use Rattle.obs_rows.specs.Rounds.{Round, round_of}
 use Rattle.obs_rows.specs.Unused.{IsZeroOff}
@@ -90,7 +91,7 @@ pub record StandsForPair (from : Origin) (round : Round) (p : PairRows) : Type 0
   pub tag : p.tag ≡ epochs.base.tag
   pub held : map (λ r. r.arc) p.rows ≡ arcs_at round.arcs p.number
   pub rows : All (λ r. (a : Arc) → slice_get round.arcs r.arc ≡ Some a → StandsForRow from round epochs p.group a r) p.rows
-  pub group : (r : Row) → slice_get p.rows 0 ≡ Some r → MeetsOne round.scale (number_at r.y 2) r.ry
+  pub group : (r : Row) → slice_get p.rows 0 ≡ Some r → MeetsOne round.scale (number_at r.y L1_CODE) r.ry
 
 -- the session of this origin at this point, with these shifts and at this scale
 pub record StandsForFiles (from : Origin) (point : List ℤ) (shifts : List (List ℤ)) (scale : ℕ) (s : Session) : Type 0 where

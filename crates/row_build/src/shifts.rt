@@ -3,6 +3,7 @@ ghost use Rattle.std.specs.Prelude.{IsTrue, ◌≡◌, ◌≢◌, ◌↔◌, ◌
 ghost use Rattle.obs_rows.specs.ReceiverPoints.{IsReceiverPoint};
 ghost use Rattle.obs_rows.specs.declared.arcs.Arc.{Arc};
 ghost use Rattle.obs_rows.specs.declared.units.TheConstants.{SIGNALS};
+ghost use Rattle.obs_rows.specs.declared.signal_names.TheConstants.{L1_CODE};
 ghost use Rattle.obs_rows.specs.Ranges.{IsScale, IsBelow};
 ghost use Rattle.obs_rows.specs.Data.{number_at};
 ghost use Rattle.obs_rows.specs.Signals.{wavelength, is_phase, band};
@@ -22,7 +23,7 @@ ghost use Rattle.row_build.specs.Shifts.{counts, AreFirstShifts};
 use crate::RowSource;
 use crate::arcs::{first_held, holds};
 use crate::entries::{SeenSat, seen_sat_of};
-use obs_rows::{Arc, PHASES, Signals, fine_signals};
+use obs_rows::{Arc, L1_CODE, L1_PHASE, L2_PHASE, L5_PHASE, PHASES, Signals, fine_signals};
 use row_boxes::{first_group, first_shift};
 use screening::Screened;
 
@@ -41,13 +42,13 @@ pub fn first_seen_sat<'a>(from: &RowSource<'a>, pair: u32, likely: usize) -> See
 pub fn group_of(entry: &SeenSat<'_>) -> i64
     ensures near { (base point : List ℤ) → IsSeen entry.now base point → (b r : Sighting) →
         AreSightings (seen_by entry.now.sv.now base point) b r →
-        IsWithinHalf (pos 1) (y_of 2 (number_at entry.now.sv.now.observed 2) result (pos 0) b r) }
+        IsWithinHalf (pos 1) (y_of L1_CODE (number_at entry.now.sv.now.observed L1_CODE) result (pos 0) b r) }
     ensures allowed { (base point : List ℤ) → IsSeen entry.now base point → (scale : ℕ) →
         IsScale scale → IsAllowedGroup (seen_by entry.now.sv.now base point) scale
-        (number_at entry.now.sv.now.observed 2) result }
+        (number_at entry.now.sv.now.observed L1_CODE) result }
     ensures size { unsigned_abs result ≤ 2 ^ 43 }
 {
-    first_group(entry.sv.observed[2], &entry.base_pseudorange, &entry.rover.pseudorange)
+    first_group(entry.sv.observed[L1_CODE], &entry.base_pseudorange, &entry.rover.pseudorange)
 }
 
 // Whether the signal is one of these
@@ -91,9 +92,9 @@ fn shifts_of(ss: &[usize], entry: &SeenSat<'_>, group: i64) -> [i64; PHASES]
     ensures unused { IsZeroOff (phase_bands ss.now) result }
     ensures size { All (IsBelow (2 ^ 39)) result }
 {
-    let l1 = shift_of(ss, 0, entry, group);
-    let l2 = shift_of(ss, 1, entry, group);
-    let l5 = shift_of(ss, 4, entry, group);
+    let l1 = shift_of(ss, L1_PHASE, entry, group);
+    let l2 = shift_of(ss, L2_PHASE, entry, group);
+    let l5 = shift_of(ss, L5_PHASE, entry, group);
     [l1, l2, l5]
 }
 
