@@ -106,11 +106,9 @@ fn turn_row(l: &mut MapTable, i: usize, j: usize, r: i64, q: i64)
     ensures turned { IsRowTurned r q j (entry l.old i) (entry l.new i) }
     ensures others { (k m : ℕ) → k ≢ i → entry l.new k m ≡ entry l.old k m }
 {
-    // There are such: they are narrow.
-    if let Some((first, second)) = turned_factors(l, i, j, r, q) {
-        l.set(i, j, first);
-        l.set(i, j + 1, second);
-    }
+    let (first, second) = turned_factors(l, i, j, r, q).unwrap();
+    l.set(i, j, first);
+    l.set(i, j + 1, second);
 }
 
 /// The factors of the integers after j + 1 with j and j + 1.
