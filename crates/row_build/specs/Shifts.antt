@@ -16,7 +16,7 @@ use Rattle.row_build.specs.Rows.{RowSetting, pairing_of, counted_in}
 
 -- the signal is one of the list
 abbrev pub counts : List ℕ → ℕ → Bool
-counts ss s = list_any (λ t. t == s) ss
+counts signals s = list_any (λ t. t == s) signals
 
 -- with these shifts of the satellite's arc the observation of each phase that counts in the pair lies from -λ to λ, for every group
 -- that any box that the pair's first row may have in a fine session allows, and for all places and clocks. Both receivers see both
