@@ -11,7 +11,7 @@ use Rattle.obs_rows.specs.declared.limits.TheConstants.{MOST_KEPT_ARCS, MOST_PAI
 use Rattle.cert_data.specs.declared.outcomes.Outcome.{Outcome}
 use Rattle.obs_rows.specs.declared.options.Options.{Options}
 use Rattle.slip_arcs.specs.Linked.{IsCutOf}
-use Rattle.row_build.specs.Halves.{AreBaseHalves}
+use Rattle.row_build.specs.BasePseudoranges.{AreBasePseudoranges}
 use Rattle.session.specs.declared.file_rounds.FileRounds.{FileRounds}
 use Rattle.session.specs.declared.runs.RunStart.{RunStart}
 use Rattle.epoch_pair.specs.Beginnings.{IsPosition, AreSignals, AreSparse, AreTaken, pairs_of}
@@ -43,7 +43,7 @@ pub record IsRunStart (base rover : ObsFile) (nav : Records) (o : Options) (run 
   pub all_is : run.begun.all ≡ length (pairs_of base rover o)
   pub screened : AreScreened base rover nav o run.begun.position run.begun.signals run.begun.taken.items run.rounds
   pub cut : IsCutOf run.rounds.screened.used run.rounds.kept
-  pub halves : AreBaseHalves run.rounds.screened.boxes run.rounds.position run.rounds.halves.items
+  pub base_pseudoranges : AreBasePseudoranges run.rounds.screened.boxes run.rounds.position run.rounds.base_pseudoranges.items
   pub delta_is : IsTrue run.delta ↔ (HasDelta base ⊎ HasDelta rover)
 
 -- it is that of some files

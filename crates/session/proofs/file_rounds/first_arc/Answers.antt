@@ -6,11 +6,11 @@ use Rattle.obs_rows.specs.declared.arcs.Arc.{Arc}
 use Rattle.obs_rows.specs.declared.limits.TheConstants.{MOST_ARCS}
 use Rattle.row_boxes.specs.declared.pseudoranges.Pseudorange.{Pseudorange}
 use Rattle.slip_arcs.specs.Linked.{IsCutOf}
-use Rattle.row_build.specs.Halves.{AreBaseHalves}
+use Rattle.row_build.specs.BasePseudoranges.{AreBasePseudoranges}
 use Rattle.row_build.specs.Rows.{setting}
 use Rattle.row_build.specs.HeldArcs.{holds_pair}
 use Rattle.row_build.specs.Shifts.{AreFirstShifts}
-use Rattle.row_build.proofs.HalfLaws.{no_sights}
+use Rattle.row_build.proofs.BasePseudorangeLaws.{no_sights}
 use Rattle.round_steps.specs.Shifts.{without_shifts}
 use Rattle.round_steps.proofs.ShiftLaws.{three_below}
 use Rattle.session.proofs.RangeLaws.{first_inside, holds_first, zeros_off}
@@ -78,6 +78,6 @@ invariant_of-from c =
       few = subst (λ (arcs : List Arc). length arcs ≤ MOST_ARCS) (sym c.as_slice-kept.ensures) c.requires.arcs.few;
       base_in = c.requires.base;
       point_in = c.requires.point;
-      halves_hold = ∣ subst (λ (halves : List Pseudorange). AreBaseHalves files.screened.boxes files.position halves) (sym c.as_slice.ensures.value) c.requires.halves ∣₁;
+      base_pseudoranges_hold = ∣ subst (λ (base_pseudoranges : List Pseudorange). AreBasePseudoranges files.screened.boxes files.position base_pseudoranges) (sym c.as_slice.ensures.value) c.requires.base_pseudoranges ∣₁;
       sights_hold = no_sights files.screened.boxes c.args.point.now;
     }

@@ -25,7 +25,7 @@ outcome-requires-clause-ready c = λ on.
         able rounds.screened.used rounds.kept (length c.args.run.now.begun.taken.items) is_screened.cut rounds.screened.few rounds.screened.numbered (no_shifts rounds.kept is_screened.screened.arcs_are.shifts) on.not_few on.not_many,
         subst IsReceiverPoint (sym is_screened.screened.position_is) is_screened.position_is.in_reach,
       ),
-      (is_screened.halves, subst IsSystem (sym is_screened.screened.system_is) c.args.options.now.of_system),
+      (is_screened.base_pseudoranges, subst IsSystem (sym is_screened.screened.system_is) c.args.options.now.of_system),
       c.none.ensures rounds.screened.boxes,
     )
 
