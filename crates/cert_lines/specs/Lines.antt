@@ -80,5 +80,5 @@ abbrev pub named_line : List ℕ → List ℕ → List ℕ
 named_line words name = words ++ name
 
 -- the last line after two vectors
-abbrev pub last_line : Bool → List ℕ
-last_line fixed = if fixed then codes "fixed" else codes "declined unseparated"
+abbrev pub decision_line : Bool → List ℕ
+decision_line fixed = if fixed then codes "fixed" else codes "declined unseparated"

@@ -6,7 +6,7 @@ use Rattle.obs_rows.specs.Integers.{integer_count}
 use Rattle.obs_rows.specs.declared.limits.TheConstants.{MOST_PAIRS, MOST_RATIO, MOST_BUDGET}
 use Rattle.rinex_head.specs.Places.{and_then}
 use Rattle.cert_lines.specs.Forms.{count_in, vector_in, Letters as LettersOf, signals_in, signals_of, arc_in, pair_in, row_in}
-use Rattle.cert_lines.specs.TailForms.{begins, values_in, last_in}
+use Rattle.cert_lines.specs.TailForms.{begins, values_in, decision_line_in}
 use Rattle.cert_lines.specs.declared.ranges.TheConstants.{COORDINATES, ENTRIES, MOVES}
 use Rattle.cert_lines.specs.declared.version.Version.{Version}
 use Rattle.cert_lines.specs.Versions.{form_line}
@@ -79,8 +79,8 @@ move_taken = record { admits = λ line. refl; ends = refl }
 pub values_taken : TakesLine cert_rules Values values_in (λ v. Last)
 values_taken = record { admits = λ line. refl; ends = refl }
 
-pub last_taken : TakesLine cert_rules Last last_in (λ f. End)
-last_taken = record { admits = λ line. refl; ends = refl }
+pub decision_taken : TakesLine cert_rules Last decision_line_in (λ f. End)
+decision_taken = record { admits = λ line. refl; ends = refl }
 
 -- ---- the first line of a tail
 

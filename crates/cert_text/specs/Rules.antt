@@ -15,7 +15,7 @@ use Rattle.cert_lines.specs.declared.ranges.TheConstants.{COORDINATES, ENTRIES, 
 use Rattle.cert_lines.specs.declared.version.Version.{Version}
 use Rattle.cert_lines.specs.declared.version.Version.TheVariants.{One, Two}
 use Rattle.cert_lines.specs.Versions.{form_line}
-use Rattle.cert_lines.specs.TailForms.{begins, values_in, last_in}
+use Rattle.cert_lines.specs.TailForms.{begins, values_in, decision_line_in}
 use Rattle.cert_text.specs.LineParts.{word_in}
 use Rattle.cert_text.specs.TailForms.{declined_in}
 
@@ -94,7 +94,7 @@ admit (Tail f arcs) line = admit_tail f (integer_count arcs f.ss) line
 admit (Second integers) line = and_then (vector_in (codes "z2") integers ENTRIES line) (λ z. Ok Move)
 admit Move line = and_then (vector_in (codes "move") 3 MOVES line) (λ m. Ok Values)
 admit Values line = and_then (values_in line) (λ v. Ok Last)
-admit Last line = and_then (last_in line) (λ f. Ok End)
+admit Last line = and_then (decision_line_in line) (λ f. Ok End)
 admit End line = flawed 1 BadLine
 
 -- the text may end after its tail alone

@@ -25,12 +25,12 @@ use Rattle.cert_lines.specs.declared.version.Version.TheVariants.{Two}
 use Rattle.cert_lines.specs.declared.pairs.PairHead.{PairHead}
 use Rattle.cert_lines.specs.declared.tails.FormValues.{FormValues}
 use Rattle.cert_lines.specs.Lengths.{IsWholePair}
-use Rattle.cert_lines.specs.Lines.{count_line, vector_line, system_line, signals_line, counted_arcs, pair_line, row_lines, values_line, weak_line, last_line}
+use Rattle.cert_lines.specs.Lines.{count_line, vector_line, system_line, signals_line, counted_arcs, pair_line, row_lines, values_line, weak_line, decision_line}
 use Rattle.cert_lines.specs.Forms.{count_in, vector_in, system_in, signals_in, pair_head, pair_in}
-use Rattle.cert_lines.specs.TailForms.{begins, form_values, values_in, last_in}
+use Rattle.cert_lines.specs.TailForms.{begins, form_values, values_in, decision_line_in}
 use Rattle.cert_lines.proofs.Sizes.{entries_small, pair_small, values_small, weak_small}
 use Rattle.cert_lines.proofs.LineSpells.{line_length, count_spells, vector_spells, pair_spells, point_spells, point_length, entries_in}
-use Rattle.cert_lines.proofs.TailSpells.{values_spell, last_read, last_length}
+use Rattle.cert_lines.proofs.TailSpells.{values_spell, decision_read, decision_length}
 use Rattle.cert_lines.proofs.LetterLaws.{not_one, letters_of_signals, letters_spell, letters_length, system_spells}
 use Rattle.cert_lines.proofs.Spreading.{signals_good}
 use Rattle.cert_data.specs.Tails.{IsMove}
@@ -49,7 +49,7 @@ use Rattle.track_text.specs.TailForms.{move_in, declined_in}
 use Rattle.track_text.specs.Rules.{Frame, frame, Form, Ratio, Budget, SystemLine, Base, Letters, ArcCount, PairCount, PairPoint, Tail, Second, Values, Last, End}
 use Rattle.track_text.specs.Rules.{numbers_of, track_rules, track_reading, admit, before_arcs, before_pairs, before_rows, before_moves}
 use Rattle.track_text.proofs.LineLaws.{ratio_taken, budget_taken, system_taken, base_taken, behind_letters, letters_taken, arc_count_taken, arcs_taken, pair_count_taken, pair_taken, point_taken, rows_taken}
-use Rattle.track_text.proofs.LineLaws.{second_taken, move_taken, values_taken, last_taken, admits_vectors, admits_declined}
+use Rattle.track_text.proofs.LineLaws.{second_taken, move_taken, values_taken, decision_taken, admits_vectors, admits_declined}
 use Rattle.track_text.proofs.Feeds.{move_small, track_feed}
 use Rattle.track_text.proofs.TailSpells.{move_spells, weak_read, spent_read, place_line, place_read}
 
@@ -109,7 +109,7 @@ moves_accepted (p ∷ pairs) (m ∷ moves) rest each are triples behind =
 -- the lines of a tail with vectors, and the last one
 vectors_accepted : (f : Frame) (arcs : List Arc) (pairs : List PairRows) (h : ℕ) (moves : List (List ℤ)) (best : TwoBest) (top : ℤ) (fixed : Bool)
     → AreTrackVectors f.ss arcs pairs h moves best top → AreWholeTrackVectors moves best
-    → AreAccepted track_rules (Tail f arcs (numbers_of pairs)) (track_vectors_lines pairs h moves best top ++ last_line fixed ∷ [])
+    → AreAccepted track_rules (Tail f arcs (numbers_of pairs)) (track_vectors_lines pairs h moves best top ++ decision_line fixed ∷ [])
 vectors_accepted f arcs pairs h moves best top fixed are whole =
     let n = best.size in
     let values_fit = are.values in
@@ -127,17 +127,17 @@ vectors_accepted f arcs pairs h moves best top fixed are whole =
     admits_vectors f n arcs numbers (vector_line (codes "z1") first) values_fit.size refl ∙ ap (λ (r : Result (List ℤ) Flaw). and_then r (λ z. Ok (Second n numbers))) z1_read in
     let z2_read = vector_spells (codes "z2") n ENTRIES second second_long second_small (entries_in n best.second values_fit.second_in) in
     let values_read = values_spell h best.p1 best.p2 top values_fit.h_to values_fit.p1_in values_fit.p2_in values_fit.top_in in
-    let last_passes = line_accepted track_rules Last last_in (λ (b : Bool). End) fixed (last_line fixed) [] last_taken (last_length fixed) (last_read fixed) (end_accepted track_rules End refl) in
-    let values_pass = line_accepted track_rules Values values_in (λ (x : FormValues). Last) (form_values h best.p1 best.p2 top) line (last_line fixed ∷ []) values_taken
+    let last_passes = line_accepted track_rules Last decision_line_in (λ (b : Bool). End) fixed (decision_line fixed) [] decision_taken (decision_length fixed) (decision_read fixed) (end_accepted track_rules End refl) in
+    let values_pass = line_accepted track_rules Values values_in (λ (x : FormValues). Last) (form_values h best.p1 best.p2 top) line (decision_line fixed ∷ []) values_taken
     (line_length (codes "values") (pos h ∷ best.p1 ∷ best.p2 ∷ top ∷ []) (lit≤ tt) (lit≤ tt) values_are_small) values_read last_passes in
-    let moves_pass = moves_accepted pairs moves (line ∷ last_line fixed ∷ []) are.move_each are.moves_in whole.move_each values_pass in
+    let moves_pass = moves_accepted pairs moves (line ∷ decision_line fixed ∷ []) are.move_each are.moves_in whole.move_each values_pass in
     let second_passes = line_accepted track_rules (Second n numbers) (vector_in (codes "z2") n ENTRIES) (λ (z : List ℤ). before_moves numbers) second (vector_line (codes "z2") second)
-    (move_lines pairs moves ++ (line ∷ last_line fixed ∷ [])) (second_taken n numbers) (line_length (codes "z2") second (lit≤ tt) (omega (arith, second_long, best.size_to)) second_small) z2_read moves_pass in
-    let all = step track_rules (Tail f arcs numbers) (Second n numbers) (vector_line (codes "z1") first) (vector_line (codes "z2") second ∷ (move_lines pairs moves ++ (line ∷ last_line fixed ∷ [])))
+    (move_lines pairs moves ++ (line ∷ decision_line fixed ∷ [])) (second_taken n numbers) (line_length (codes "z2") second (lit≤ tt) (omega (arith, second_long, best.size_to)) second_small) z2_read moves_pass in
+    let all = step track_rules (Tail f arcs numbers) (Second n numbers) (vector_line (codes "z1") first) (vector_line (codes "z2") second ∷ (move_lines pairs moves ++ (line ∷ decision_line fixed ∷ [])))
     (line_length (codes "z1") first (lit≤ tt) (omega (arith, first_long, best.size_to)) first_small) first_admitted second_passes in
-    let split : track_vectors_lines pairs h moves best top ++ last_line fixed ∷ []
-    ≡ vector_line (codes "z1") first ∷ vector_line (codes "z2") second ∷ (move_lines pairs moves ++ (line ∷ last_line fixed ∷ [])) =
-    ap (λ (l : List (List ℕ)). vector_line (codes "z1") first ∷ vector_line (codes "z2") second ∷ l) (append_assoc (move_lines pairs moves) (line ∷ []) (last_line fixed ∷ [])) in
+    let split : track_vectors_lines pairs h moves best top ++ decision_line fixed ∷ []
+    ≡ vector_line (codes "z1") first ∷ vector_line (codes "z2") second ∷ (move_lines pairs moves ++ (line ∷ decision_line fixed ∷ [])) =
+    ap (λ (l : List (List ℕ)). vector_line (codes "z1") first ∷ vector_line (codes "z2") second ∷ l) (append_assoc (move_lines pairs moves) (line ∷ []) (decision_line fixed ∷ [])) in
     subst (AreAccepted track_rules (Tail f arcs numbers)) (sym split) all
 
 -- a line that is no vector, and what it says

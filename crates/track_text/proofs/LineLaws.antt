@@ -6,7 +6,7 @@ use Rattle.obs_rows.specs.Integers.{integer_count}
 use Rattle.obs_rows.specs.declared.limits.TheConstants.{MOST_PAIRS, MOST_RATIO, MOST_BUDGET, MOST_ARCS}
 use Rattle.rinex_head.specs.Places.{and_then}
 use Rattle.cert_lines.specs.Forms.{count_in, vector_in, system_in, Letters as LettersOf, signals_in, signals_of, arc_in, pair_in, row_in}
-use Rattle.cert_lines.specs.TailForms.{begins, values_in, last_in}
+use Rattle.cert_lines.specs.TailForms.{begins, values_in, decision_line_in}
 use Rattle.cert_lines.specs.declared.ranges.TheConstants.{COORDINATES, ENTRIES}
 use Rattle.cert_lines.specs.declared.version.Version.TheVariants.{Two}
 use Rattle.cert_text.specs.LineParts.{word_in, TakesLine, IsEnd}
@@ -85,8 +85,8 @@ move_taken number numbers = record { admits = λ line. refl; ends = refl }
 pub values_taken : TakesLine track_rules Values values_in (λ v. Last)
 values_taken = record { admits = λ line. refl; ends = refl }
 
-pub last_taken : TakesLine track_rules Last last_in (λ f. End)
-last_taken = record { admits = λ line. refl; ends = refl }
+pub decision_taken : TakesLine track_rules Last decision_line_in (λ f. End)
+decision_taken = record { admits = λ line. refl; ends = refl }
 
 pub end_taken : IsEnd track_rules End
 end_taken = record { admits = λ line. refl; ends = refl }

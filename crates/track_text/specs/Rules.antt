@@ -14,7 +14,7 @@ use Rattle.line_source.specs.EndedLines.{ended_lines}
 use Rattle.cert_lines.specs.Forms.{count_in, vector_in, system_in, signals_in, signals_of, arc_in, pair_in, row_in}
 use Rattle.cert_lines.specs.declared.ranges.TheConstants.{COORDINATES, ENTRIES}
 use Rattle.cert_lines.specs.declared.version.Version.TheVariants.{Two}
-use Rattle.cert_lines.specs.TailForms.{begins, values_in, last_in}
+use Rattle.cert_lines.specs.TailForms.{begins, values_in, decision_line_in}
 use Rattle.cert_text.specs.LineParts.{word_in}
 use Rattle.track_text.specs.Spelling.{track_form}
 use Rattle.track_text.specs.TailForms.{move_in, declined_in}
@@ -99,7 +99,7 @@ admit (Tail f arcs numbers) line = admit_tail f (integer_count arcs f.ss) number
 admit (Second integers numbers) line = and_then (vector_in (codes "z2") integers ENTRIES line) (λ z. Ok (before_moves numbers))
 admit (NextMove number numbers) line = and_then (move_in number line) (λ m. Ok (before_moves numbers))
 admit Values line = and_then (values_in line) (λ v. Ok Last)
-admit Last line = and_then (last_in line) (λ f. Ok End)
+admit Last line = and_then (decision_line_in line) (λ f. Ok End)
 admit End line = flawed 1 BadLine
 
 -- the text may end after its tail alone
