@@ -196,7 +196,7 @@ fn fine_rounds<R: Rounds>(
 }
 
 /// The rounds of a run, to its end. One session is made for each, and no other.
-pub fn run<R: Rounds>(
+pub fn run_rounds<R: Rounds>(
     alloc: Global,
     rounds: &mut R,
     arcs: &[Arc],

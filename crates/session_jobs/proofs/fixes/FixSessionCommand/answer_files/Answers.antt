@@ -1,5 +1,5 @@
 use Rattle.session_jobs.proofs.FixSays.{outcome_for}
-use Rattle.session_jobs.proofs.fixes.FixSessionCommand.answer.Goals as goal
+use Rattle.session_jobs.proofs.fixes.FixSessionCommand.answer_files.Goals as goal
 
 pub finish_run-requires : goal.finish_run-requires
 finish_run-requires c = record { base = c.args.files.base; rover = c.args.files.rover; records = c.args.files.nav; is = c.in_ok-started.ensures.start }
