@@ -42,7 +42,7 @@ pub record IsFix (cert : Cert) : Type 0 where
 -- The certificate's session stands for the files: it has exactly one row for each used observation on the bands of the
 -- options, and each box holds all solutions of the user algorithm with the constants of the options' system, seen from the
 -- base's position and from the session's point.
-pub record StandsForIts (b r : ObsFile) (n : Records) (o : Options) (cert : Cert) : Type 0 where
+pub record CertStandsForFiles (b r : ObsFile) (n : Records) (o : Options) (cert : Cert) : Type 0 where
   pub ratio_is : cert.ratio ≡ o.ratio
   pub budget_is : cert.budget ≡ o.budget
   pub position : List ℤ
@@ -63,7 +63,7 @@ pub record IsFixedFor (b r : ObsFile) (n : Records) (o : Options) (answer : Answ
   pub by_ratio : IsBestByRatio cert.ratio cert.session (first_of fix.best) fix.moved
   pub certified : IsVerdictOf cert.session cert.ratio cert.budget cert.tail Certified
   pub only : (v : Verdict) → IsVerdictOf cert.session cert.ratio cert.budget cert.tail v → v ≡ Certified
-  pub stands : StandsForIts b r n o cert
+  pub stands : CertStandsForFiles b r n o cert
 
 -- done for a fix, else declined
 abbrev pub status_of : Answer → Status
@@ -71,15 +71,15 @@ status_of a = verdict_status (is_fixed a)
 
 -- The outcome of the files, whatever is printed of it. A certificate of it stands for the files, whatever it says. The round of its
 -- session ends the run, and in no other way.
-pub record IsOutcomeFor (b r : ObsFile) (n : Records) (o : Options) (outcome : Outcome) : Type 0 where
+pub record IsProvedOutcome (b r : ObsFile) (n : Records) (o : Options) (outcome : Outcome) : Type 0 where
   pub is : IsOutcome b r n o outcome
   pub fixed : is_fixed outcome.answer ≡ true → IsFixedFor b r n o outcome.answer
   pub only : (cert : Cert) → outcome.answer ≡ Full cert → IsOnlyEnd (outcome.rounds.fine == most_rounds 0) cert.session cert.ratio cert.budget cert.tail
-  pub stands : (cert : Cert) → outcome.answer ≡ Full cert → StandsForIts b r n o cert
+  pub stands : (cert : Cert) → outcome.answer ≡ Full cert → CertStandsForFiles b r n o cert
 
 -- That outcome, in its two texts. A certificate that is printed is the only one with its text.
 pub record AnswersFix (o : Options) (b r : ObsFile) (n : Records) (end : Ending) : Type 0 where
   pub outcome : Outcome
-  pub holds : IsOutcomeFor b r n o outcome
+  pub holds : IsProvedOutcome b r n o outcome
   pub whole : IsWholeAnswer outcome.answer
   pub end_is : end ≡ ending (status_of outcome.answer) (answer_text outcome.answer) (outcome_text outcome)

@@ -19,7 +19,7 @@ use Rattle.report_text.specs.OutcomeText.{is_fixed}
 use Rattle.job_answers.specs.Endings.{Ending, ending}
 use Rattle.job_answers.specs.SessionFiles.{AreFilesOf}
 use Rattle.job_answers.specs.Refusals.{IsPairRefused}
-use Rattle.session_jobs.specs.FixJobs.{IsOutcomeFor, status_of}
+use Rattle.session_jobs.specs.FixJobs.{IsProvedOutcome, status_of}
 use Rattle.sim_jobs.specs.Matches.{IsMatched}
 
 -- under these three names the files of a session of the seed stand, with these bands of the system with that letter
@@ -65,7 +65,7 @@ run_text seed epochs sats a matched = made_line seed epochs sats ++ found_lines 
 -- the outcome of the files, with all that `fix` says of one, and whether it is a fix with the integers of the truth
 pub record EndsWithMatch (o : Options) (seed epochs sats bands : ℕ) (b r : ObsFile) (n : Records) (end : Ending) : Type 0 where
   pub outcome : Outcome
-  pub holds : IsOutcomeFor b r n o outcome
+  pub holds : IsProvedOutcome b r n o outcome
   pub matched : Bool
   pub matched_is : IsTrue matched ↔ IsMatched (truth_in seed sats bands) outcome.answer
   pub end_is : end ≡ ending (status_of outcome.answer) (run_text seed epochs sats outcome.answer matched) []

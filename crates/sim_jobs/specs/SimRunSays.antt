@@ -12,7 +12,7 @@ use Rattle.obs_store.specs.declared.file.ObsFile.{ObsFile}
 use Rattle.eph_store.specs.File.{Records}
 use Rattle.rinex_head.specs.Systems.{system_of}
 use Rattle.job_answers.specs.SessionFiles.{AreFilesOf}
-use Rattle.session_jobs.specs.FixJobs.{IsOutcomeFor}
+use Rattle.session_jobs.specs.FixJobs.{IsProvedOutcome}
 use Rattle.sim_jobs.specs.Matches.{IsMatched}
 use Rattle.sim_jobs.specs.SimRunJobs.{AreMadeFiles, AreOptionsOn, truth_in, run_text}
 
@@ -22,7 +22,7 @@ pub record HaveOutcome (text_of : List ℕ → Option (List ℕ)) (base rover na
   pub rover_file : ObsFile
   pub records : Records
   pub are_files : AreFilesOf (system_of o.system) text_of base rover nav base_file rover_file records
-  pub holds : IsOutcomeFor base_file rover_file records o outcome
+  pub holds : IsProvedOutcome base_file rover_file records o outcome
 
 -- the made texts stand for a session, whose outcome is a fix or not; out has gained what it is, and `match yes` exactly where it is
 -- a fix with the integers of the truth
