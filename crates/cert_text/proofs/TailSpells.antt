@@ -36,7 +36,7 @@ use Rattle.cert_text.proofs.PlaceLaws.{place_length}
 -- ---- tails
 
 -- the lines of a tail with vectors, and the last one
-vectors_accepted : (f : Frame) (arcs : List Arc) (h : ℕ) (moved : List ℤ) (best : TwoBest) (top : ℤ) (fixed : Bool) → AreVectors f.ss arcs h moved best top → AreWholeVectors moved best
+vectors_accepted : (f : Frame) (arcs : List Arc) (h : ℕ) (moved : List ℤ) (best : TwoBest) (top : ℤ) (fixed : Bool) → AreVectors f.signals arcs h moved best top → AreWholeVectors moved best
     → AreAccepted cert_rules (Tail f arcs) (vectors_lines h moved best top ++ decision_line fixed ∷ [])
 vectors_accepted f arcs h moved best top fixed are whole =
     let size = best.size in
@@ -105,7 +105,7 @@ place_read version budget Point = refl
 place_read version budget Search = refl
 place_read version budget Sum = refl
 
-pub tail_accepted : (f : Frame) (arcs : List Arc) (t : CertTail) → f.budget ≤ MOST_BUDGET → IsTailOf f.ss arcs f.budget t → IsColumnOf f.version t → IsWholeTail t
+pub tail_accepted : (f : Frame) (arcs : List Arc) (t : CertTail) → f.budget ≤ MOST_BUDGET → IsTailOf f.signals arcs f.budget t → IsColumnOf f.version t → IsWholeTail t
     → AreAccepted cert_rules (Tail f arcs) (tail_lines t)
 tail_accepted f arcs (Fixed h moved best top) few fits column_to whole = vectors_accepted f arcs h moved best top true fits whole
 tail_accepted f arcs (Unseparated h moved best top) few fits column_to whole = vectors_accepted f arcs h moved best top false fits whole

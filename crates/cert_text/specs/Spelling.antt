@@ -28,11 +28,11 @@ head_lines version ratio budget system base point signals =
 
 -- each pair with its rows
 abbrev pub all_pair_lines : List ℕ → List PairRows → List (List ℕ)
-all_pair_lines ss [] = []
-all_pair_lines ss (p ∷ pairs) = pair_lines ss p ++ all_pair_lines ss pairs
+all_pair_lines signals [] = []
+all_pair_lines signals (p ∷ pairs) = pair_lines signals p ++ all_pair_lines signals pairs
 
 abbrev pub counted_pairs : List ℕ → List PairRows → List (List ℕ)
-counted_pairs ss pairs = count_line (codes "pairs") (length pairs) ∷ all_pair_lines ss pairs
+counted_pairs signals pairs = count_line (codes "pairs") (length pairs) ∷ all_pair_lines signals pairs
 
 -- the two integer vectors, the move, and the values
 abbrev pub vectors_lines : ℕ → List ℤ → TwoBest → ℤ → List (List ℕ)

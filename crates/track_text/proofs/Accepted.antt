@@ -55,10 +55,10 @@ use Rattle.track_text.proofs.TailSpells.{move_spells, weak_read, spent_read, pla
 
 -- ---- pairs with their points
 
-pairs_accepted : (f : Frame) (arcs : List Arc) (least : ℕ) (pairs : List PairRows) (points : List (List ℤ)) (numbers : List ℕ) (rest : List (List ℕ)) → length f.ss ≤ SIGNALS → length arcs ≤ MOST_ARCS
+pairs_accepted : (f : Frame) (arcs : List Arc) (least : ℕ) (pairs : List PairRows) (points : List (List ℤ)) (numbers : List ℕ) (rest : List (List ℕ)) → length f.signals ≤ SIGNALS → length arcs ≤ MOST_ARCS
     → length points ≡ length pairs → All (HasItsArcs arcs) pairs → All IsWholePair pairs → All IsPoint points → AreTriples points → RisesFrom (λ (p : PairRows). p.number) least pairs
     → AreAccepted track_rules (Tail f arcs (numbers ++ numbers_of pairs)) rest
-    → AreAccepted track_rules (before_pairs f arcs (length pairs) least numbers) (all_placed_pairs f.ss pairs points ++ rest)
+    → AreAccepted track_rules (before_pairs f arcs (length pairs) least numbers) (all_placed_pairs f.signals pairs points ++ rest)
 pairs_accepted f arcs least [] points numbers rest few_signals few each has whole are triples rising behind =
     subst (λ (ns : List ℕ). AreAccepted track_rules (Tail f arcs ns) rest) (append-nil numbers) behind
 pairs_accepted f arcs least (p ∷ pairs) [] numbers rest few_signals few each has whole are triples rising behind = absurd (omega (arith, each))
@@ -71,14 +71,14 @@ pairs_accepted f arcs least (p ∷ pairs) (x ∷ points) numbers rest few_signal
     let fewer : suc (length pairs) - 1 ≡ length pairs = omega arith in
     let count = length p.rows in
     let now : List ℕ = numbers ++ p.number ∷ [] in
-    let rows = row_lines f.ss p.rows in
-    let others = all_placed_pairs f.ss pairs points ++ rest in
+    let rows = row_lines f.signals p.rows in
+    let others = all_placed_pairs f.signals pairs points ++ rest in
     let head = pair_line p.number p.tag.0 p.group count in
     let at_point = vector_line (codes "at") x in
     let with_this = subst (λ (ns : List ℕ). AreAccepted track_rules (Tail f arcs ns) rest) (sym (append_assoc numbers (p.number ∷ []) (numbers_of pairs))) behind in
     let later = pairs_accepted f arcs (p.number + 1) pairs points now rest few_signals few (omega (arith, each)) (All-tail (HasItsArcs arcs) p pairs has) (All-tail IsWholePair p pairs whole)
     (All-tail IsPoint x points are) (All-tail (λ (m : List ℤ). length m ≡ 3) x points triples) rising.1 with_this in
-    let rows_pass = rows_accepted track_rules f.ss arcs p.number (λ (n k : ℕ). before_rows f arcs (length pairs) p.number n k numbers) (before_pairs f arcs (length pairs) (p.number + 1) now) 0 p.rows others
+    let rows_pass = rows_accepted track_rules f.signals arcs p.number (λ (n k : ℕ). before_rows f arcs (length pairs) p.number n k numbers) (before_pairs f arcs (length pairs) (p.number + 1) now) 0 p.rows others
     (rows_taken f arcs (length pairs) p.number numbers) few_signals few own wide (rises (λ (r : Row). r.arc) 0 p.rows p.arcs_rise (λ d some. omega arith)) later in
     let point_passes = line_accepted track_rules (PairPoint f arcs (length pairs) p.number count numbers) (vector_in (codes "at") 3 COORDINATES)
     (λ (z : List ℤ). before_rows f arcs (length pairs) p.number count 0 numbers) x at_point (rows ++ others)
@@ -88,7 +88,7 @@ pairs_accepted f arcs least (p ∷ pairs) (x ∷ points) numbers rest few_signal
     let short = line_length (codes "pair") (pos p.number ∷ pos p.tag.0 ∷ p.group ∷ pos count ∷ []) (lit≤ tt) (lit≤ tt) (pair_small p) in
     let head_passes = line_accepted track_rules (before_pairs f arcs left least numbers) (pair_in Two least) (λ (h : PairHead). PairPoint f arcs (left - 1) h.number h.count numbers)
     (pair_head p.number p.tag.0 p.group count) head (at_point ∷ (rows ++ others)) (pair_taken f arcs left least numbers (omega arith)) short reads point_still_passes in
-    subst (AreAccepted track_rules (before_pairs f arcs left least numbers)) (sym (append_assoc (placed_pair_lines f.ss p x) (all_placed_pairs f.ss pairs points) rest)) head_passes
+    subst (AreAccepted track_rules (before_pairs f arcs left least numbers)) (sym (append_assoc (placed_pair_lines f.signals p x) (all_placed_pairs f.signals pairs points) rest)) head_passes
 
 -- ---- tails
 
@@ -108,7 +108,7 @@ moves_accepted (p ∷ pairs) (m ∷ moves) rest each are triples behind =
 
 -- the lines of a tail with vectors, and the last one
 vectors_accepted : (f : Frame) (arcs : List Arc) (pairs : List PairRows) (h : ℕ) (moves : List (List ℤ)) (best : TwoBest) (top : ℤ) (fixed : Bool)
-    → AreTrackVectors f.ss arcs pairs h moves best top → AreWholeTrackVectors moves best
+    → AreTrackVectors f.signals arcs pairs h moves best top → AreWholeTrackVectors moves best
     → AreAccepted track_rules (Tail f arcs (numbers_of pairs)) (track_vectors_lines pairs h moves best top ++ decision_line fixed ∷ [])
 vectors_accepted f arcs pairs h moves best top fixed are whole =
     let n = best.size in
@@ -147,7 +147,7 @@ declined_accepted f arcs numbers line t short other read =
     step track_rules (Tail f arcs numbers) End line [] short (admits_declined f arcs numbers line other ∙ ap (λ (r : Result TrackTail Flaw). and_then r (λ t. Ok End)) read)
     (end_accepted track_rules End refl)
 
-tail_accepted : (f : Frame) (arcs : List Arc) (pairs : List PairRows) (t : TrackTail) → f.budget ≤ MOST_BUDGET → IsTrackTailOf f.ss arcs pairs f.budget t → IsWholeTrackTail t
+tail_accepted : (f : Frame) (arcs : List Arc) (pairs : List PairRows) (t : TrackTail) → f.budget ≤ MOST_BUDGET → IsTrackTailOf f.signals arcs pairs f.budget t → IsWholeTrackTail t
     → AreAccepted track_rules (Tail f arcs (numbers_of pairs)) (track_tail_lines pairs t)
 tail_accepted f arcs pairs (Fixed h moves best top) few fits whole = vectors_accepted f arcs pairs h moves best top true fits whole
 tail_accepted f arcs pairs (Unseparated h moves best top) few fits whole = vectors_accepted f arcs pairs h moves best top false fits whole

@@ -27,16 +27,16 @@ track_head_lines ratio budget system base signals =
 
 -- the lines of a pair, of its point and of its rows
 abbrev pub placed_pair_lines : List ℕ → PairRows → List ℤ → List (List ℕ)
-placed_pair_lines ss p point = pair_line p.number p.tag.0 p.group (length p.rows) ∷ vector_line (codes "at") point ∷ row_lines ss p.rows
+placed_pair_lines signals p point = pair_line p.number p.tag.0 p.group (length p.rows) ∷ vector_line (codes "at") point ∷ row_lines signals p.rows
 
 -- each pair with its point and its rows
 abbrev pub all_placed_pairs : List ℕ → List PairRows → List (List ℤ) → List (List ℕ)
-all_placed_pairs ss [] points = []
-all_placed_pairs ss (p ∷ pairs) [] = []
-all_placed_pairs ss (p ∷ pairs) (point ∷ points) = placed_pair_lines ss p point ++ all_placed_pairs ss pairs points
+all_placed_pairs signals [] points = []
+all_placed_pairs signals (p ∷ pairs) [] = []
+all_placed_pairs signals (p ∷ pairs) (point ∷ points) = placed_pair_lines signals p point ++ all_placed_pairs signals pairs points
 
 abbrev pub counted_placed_pairs : List ℕ → List PairRows → List (List ℤ) → List (List ℕ)
-counted_placed_pairs ss pairs points = count_line (codes "pairs") (length pairs) ∷ all_placed_pairs ss pairs points
+counted_placed_pairs signals pairs points = count_line (codes "pairs") (length pairs) ∷ all_placed_pairs signals pairs points
 
 -- what stands before the tail
 abbrev pub track_lines : ℕ → ℕ → Track → List (List ℕ)
