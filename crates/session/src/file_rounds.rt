@@ -13,7 +13,7 @@ ghost use Rattle.row_build.specs.Shifts.{AreFirstShifts};
 ghost use Rattle.round_steps.specs.Shifts.{without_shifts};
 ghost use Rattle.session.specs.FileRules.{rules_of};
 
-use obs_rows::{Arc, ArcList, PHASES, Session, Signals};
+use obs_rows::{Arc, ArcList, Session, Signals};
 use round_steps::Rounds;
 use row_build::{KeptSights, Pseudorange, RowFault, RowSource, Screened, rows_with, shift_with};
 use std::alloc::{AllocError, Global};
@@ -118,10 +118,7 @@ fn first_arc(files: &FileRounds, k: usize, point: &[i64; 3]) -> Arc
         signals: files.signals,
     };
     // The arc holds its first pair.
-    let shift = match shift_with(&from, k as u16, arc.first) {
-        Some(shift) => shift,
-        None => [0; PHASES],
-    };
+    let shift = shift_with(&from, k as u16, arc.first).unwrap();
     Arc {
         sat: arc.sat,
         first: arc.first,

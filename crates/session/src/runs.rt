@@ -11,7 +11,7 @@ ghost use Rattle.session.specs.Answers.{AreAllowed, IsBestAnswer};
 ghost use Rattle.session.specs.Outcomes.{AreScreened, IsRunStart, MayRun, IsOutcome};
 ghost use Rattle.obs_rows.specs.declared.limits.TheConstants.{MOST_PAIRS};
 
-use crate::{FileRounds, FileRun, have_delta, outcome, screened_arcs};
+use crate::{FileRounds, FileRun, have_delta, outcome_of_rounds, screened_arcs};
 use cert_data::Outcome;
 use eph_store::NavFile;
 use epoch_pair::{Options, SessionFault, SessionStart, begin};
@@ -97,7 +97,7 @@ pub fn finish_run(alloc: Global, run: &RunStart, options: &Options) -> Result<Ou
         made: 0,
         kept: KeptSights::none(alloc),
     };
-    let out = outcome(alloc, &mut rounds, &run.begun, kept, run.delta, options)?;
+    let out = outcome_of_rounds(alloc, &mut rounds, &run.begun, kept, run.delta, options)?;
     Ok(out)
 }
 

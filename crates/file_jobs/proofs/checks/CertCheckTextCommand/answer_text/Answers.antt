@@ -1,4 +1,4 @@
-use Rattle.file_jobs.proofs.checks.CertCheckTextCommand.answer.Goals as goal
+use Rattle.file_jobs.proofs.checks.CertCheckTextCommand.answer_text.Goals as goal
 
 pub returns-clause-answered : goal.returns-clause-answered
 returns-clause-answered c =

@@ -1,6 +1,6 @@
 use Rattle.track_job.proofs.StandsLaws.{track_stands_for}
 use Rattle.track_job.proofs.TrackSays.{track_fixed_for}
-use Rattle.track_job.proofs.tracks.MovingRoverSessionCommand.answer.Goals as goal
+use Rattle.track_job.proofs.tracks.MovingRoverSessionCommand.answer_files.Goals as goal
 
 pub returns-clause-answered : goal.returns-clause-answered
 returns-clause-answered c =

@@ -8,7 +8,7 @@ use Rattle.session.proofs.FewArcs.{kept_few}
 use Rattle.track_rows.specs.Tracks.{IsTrackOf}
 use Rattle.track_job.specs.TrackOutcomes.{IsTrackable}
 use Rattle.track_job.proofs.StandsLaws.{trackable_arcs}
-use Rattle.track_job.proofs.outcomes.answer.Goals as goal
+use Rattle.track_job.proofs.outcomes.answer_of_track.Goals as goal
 
 pub free_count-requires : goal.free_count-requires
 free_count-requires c =

@@ -1,5 +1,5 @@
 use Rattle.std.proofs.Common.{Ok, ap}
-use Rattle.track_job.proofs.checks.TrackCheckTextCommand.answer.Goals as goal
+use Rattle.track_job.proofs.checks.TrackCheckTextCommand.answer_text.Goals as goal
 
 pub returns-clause-answered : goal.returns-clause-answered
 returns-clause-answered c =

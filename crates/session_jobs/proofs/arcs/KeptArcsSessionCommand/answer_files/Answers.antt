@@ -2,7 +2,7 @@ use Rattle.std.proofs.Common.{◌≡◌, ℕ, List, ◌++◌, ap, ◌∙◌}
 use Rattle.job_answers.specs.Endings.{ending}
 use Rattle.job_answers.specs.declared.status.Status.TheVariants.{Done}
 use Rattle.report_text.specs.ArcLines.{arcs_text}
-use Rattle.session_jobs.proofs.arcs.KeptArcsSessionCommand.answer.Goals as goal
+use Rattle.session_jobs.proofs.arcs.KeptArcsSessionCommand.answer_files.Goals as goal
 
 pub returns-clause-answered : goal.returns-clause-answered
 returns-clause-answered c =

@@ -2,7 +2,7 @@ use Rattle.std.proofs.Common.{◌≡◌, ℕ, List, ◌++◌, ap, ◌∙◌}
 use Rattle.report_text.specs.Residuals.{residuals_text}
 use Rattle.job_answers.specs.Statuses.{verdict_status}
 use Rattle.job_answers.specs.Endings.{ending}
-use Rattle.file_jobs.proofs.checks.ResidualsTextCommand.answer.Goals as goal
+use Rattle.file_jobs.proofs.checks.ResidualsTextCommand.answer_text.Goals as goal
 
 pub returns-clause-answered : goal.returns-clause-answered
 returns-clause-answered c =

@@ -5,7 +5,7 @@ use Rattle.obs_rows.specs.Arcs.{free_count}
 use Rattle.round_steps.specs.Counts.{AreFew, AreMany}
 use Rattle.round_steps.specs.Runs.{Rules, IsEnd, IsBestEnd, EndsEarly, EndsFull}
 use Rattle.session.specs.Answers.{GoesOn}
-use Rattle.session.proofs.answers.answer.Goals as goal
+use Rattle.session.proofs.answers.answer_of_rounds.Goals as goal
 
 pub returns-then-are_few-clause-answer : goal.returns-then-are_few-clause-answer
 returns-then-are_few-clause-answer g c = (refl, (subst (AreFew c.args.taken) c.requires.begins.arcs_are (c.if-are_few.ensures.0 refl), (refl, refl)))
@@ -41,8 +41,8 @@ returns-in-Full-clause-answer g c =
     subst (IsEnd rules c.args.options.now.ratio c.args.options.now.budget) c.in-Full.is c.in_ok-made.ensures.end in
     (goes_on, record { ratio = refl; budget = refl; ends = ends })
 
-pub run-requires-clause-ready : goal.run-requires-clause-ready
-run-requires-clause-ready g c = c.requires.ready (record {
+pub run_rounds-requires-clause-ready : goal.run_rounds-requires-clause-ready
+run_rounds-requires-clause-ready g c = c.requires.ready (record {
   not_few = λ few. false≢true (c.if-are_few.ensures.1 (subst (AreFew c.args.taken) (sym c.requires.begins.arcs_are) few));
   not_many = λ many. false≢true (c.if-are_many.ensures.1 (subst AreMany (sym c.requires.begins.arcs_are) many));
 })

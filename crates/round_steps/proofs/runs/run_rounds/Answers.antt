@@ -6,7 +6,7 @@ use Rattle.obs_rows.specs.declared.units.TheConstants.{MOST_FREE_ARCS}
 use Rattle.obs_rows.specs.declared.limits.TheConstants.{MOST_ARCS}
 use Rattle.round_steps.specs.Runs.{Rules, SettlesAt, IsCoarseEnd}
 use Rattle.round_steps.proofs.SameRules.{stayed, settles, ends}
-use Rattle.round_steps.proofs.runs.run.Goals as goal
+use Rattle.round_steps.proofs.runs.run_rounds.Goals as goal
 
 pub fine_rounds-requires-clause-first : goal.fine_rounds-requires-clause-first
 fine_rounds-requires-clause-first g c =

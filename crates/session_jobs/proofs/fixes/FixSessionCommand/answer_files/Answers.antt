@@ -1,5 +1,5 @@
-use Rattle.session_jobs.proofs.FixSays.{outcome_for}
-use Rattle.session_jobs.proofs.fixes.FixSessionCommand.answer.Goals as goal
+use Rattle.session_jobs.proofs.FixSays.{proved_outcome}
+use Rattle.session_jobs.proofs.fixes.FixSessionCommand.answer_files.Goals as goal
 
 pub finish_run-requires : goal.finish_run-requires
 finish_run-requires c = record { base = c.args.files.base; rover = c.args.files.rover; records = c.args.files.nav; is = c.in_ok-started.ensures.start }
@@ -14,7 +14,7 @@ returns-clause-answered c =
       verdict = written.verdict;
       answer = record {
         outcome = outcome;
-        holds = outcome_for files.base files.rover files.nav c.args.options.now outcome outcome_holds c.in_ok-outcome.ensures.by_ratio;
+        holds = proved_outcome files.base files.rover files.nav c.args.options.now outcome outcome_holds c.in_ok-outcome.ensures.by_ratio;
         whole = written.whole;
         end_is = written.ended;
       };

@@ -2,7 +2,7 @@ use Rattle.std.proofs.Common.{◌∙◌, ◌++◌, sym, ap}
 use Rattle.std.specs.Str.Lines.{strip_carriage_return}
 use Rattle.job_answers.specs.Formats.{begins_2}
 use Rattle.job_answers.proofs.TakerLaws.{read_2, read_3}
-use Rattle.job_answers.proofs.taker.begin.Goals as goal
+use Rattle.job_answers.proofs.taker.source_of.Goals as goal
 
 pub kept_of-requires-clause-reads : goal.kept_of-requires-clause-reads
 kept_of-requires-clause-reads c =
