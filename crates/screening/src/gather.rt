@@ -64,7 +64,7 @@ fn used_sat(entry: &SvPair, lost: bool) -> UsedSat
     }
 }
 
-// Adds the satellite of that number, where both epochs see it above the mask and there is room.
+// Adds the satellite of that number, where both epochs have it, the base sees it above the mask and there is room.
 fn add_sat(
     rules: &Rules,
     table: &RecordTable<'_>,
