@@ -6,7 +6,7 @@ ghost use Rattle.quadratic_form.specs.Matrices.{EntriesBelow};
 ghost use Rattle.decorrelate.specs.Turning.{AreColumnsSmall, AreNewFactors, AreFactorsSmall, IsRowTurned};
 ghost use Rattle.decorrelate.specs.Permuted.{AreRowsPermuted, ArePermuted};
 
-use crate::numbers::{is_narrow, minus_scaled, plus_scaled, narrow};
+use crate::numbers::{is_narrow, minus_scaled, narrow, plus_scaled};
 use quadratic_form::{MOST_INTEGERS, MapTable};
 
 // Whether what is left of the factors before integer j is narrow.

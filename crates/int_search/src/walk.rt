@@ -160,13 +160,13 @@ impl SearchState {
     {
         let i = self.size - self.stack.len();
         self.visits += 1;
-        self.stack.replace(level_after(&reach.level, reach.choice.is_up));
+        self.stack
+            .replace(level_after(&reach.level, reach.choice.is_up));
         self.z[i] = reach.choice.entry;
         if i == 0 {
             return self.offer(form, map);
         }
-        self.stack
-            .push(untouched_level(later_part(form, i - 1, &self.z), reach.low));
+        self.stack.push(untouched_level(later_part(form, i - 1, &self.z), reach.low));
         true
     }
 

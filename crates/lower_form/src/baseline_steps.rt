@@ -16,8 +16,8 @@ ghost use Rattle.lower_form.specs.Fronts.{front_of, BoundsAllData};
 ghost use Rattle.lower_form.specs.Forms.{IsFrontOf};
 ghost use Rattle.lower_form.specs.CleanSteps.{IsClean};
 
-use crate::rounding::{exponent, round};
 use crate::baseline_rows::front_by_rows;
+use crate::rounding::{exponent, round};
 use elimination::{
     StepFault, Stopped, fill_form_table, first_kept, form_table, front_factors, take_steps,
 };
@@ -155,10 +155,19 @@ fn refill_by_columns(
     ensures clean { IsClean normal.now.columns steps.new }
     ensures columns { front.new.columns ≡ normal.now.columns }
 {
-    let h = lower_front(normal, &mut steps.table, &mut steps.factors, &mut steps.kept)?;
+    let h = lower_front(
+        normal,
+        &mut steps.table,
+        &mut steps.factors,
+        &mut steps.kept,
+    )?;
     let d = first_kept(&steps.kept);
     let l = front_factors(&steps.factors);
-    fill_form_table(&steps.table, &mut front.p, normal.columns - BASELINE_COLUMNS);
+    fill_form_table(
+        &steps.table,
+        &mut front.p,
+        normal.columns - BASELINE_COLUMNS,
+    );
     front.h = h;
     front.d = d;
     front.l = l;

@@ -14,16 +14,16 @@
 //! diagonal. No call of these three crates takes memory.
 #![tactic(auto)]
 
+mod baseline_rows;
+mod baseline_steps;
 mod first_entries;
 mod forms;
-mod baseline_steps;
 mod repeats;
 mod rounding;
-mod baseline_rows;
 
+pub use baseline_steps::{BaselineSteps, front, refill_front};
 pub use elimination::finish;
 pub use first_entries::nearest_shift;
 pub use forms::lower;
-pub use baseline_steps::{BaselineSteps, front, refill_front};
 pub use integer_form::{Form, FrontForm, LowerFault, Overwidth, Place};
 pub use rounding::exponent;

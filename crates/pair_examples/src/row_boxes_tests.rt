@@ -3,9 +3,7 @@ ghost use Rattle.std.specs.Prelude.{◌^◌, ◌≤◌, unsigned_abs};
 
 use iv_core::Iv;
 use obs_rows::Row;
-use row_boxes::{
-    Pseudorange, Sight, first_group, first_shift, observed_row, pseudorange_of,
-};
+use row_boxes::{Pseudorange, Sight, first_group, first_shift, observed_row, pseudorange_of};
 use signal_travel::Spread;
 
 // What the two receivers show of one satellite: thousandths of a cycle, and millimetres.
@@ -88,7 +86,16 @@ fn all_signals(rt: HostRuntime) {
 
 #[test]
 fn without_l2(rt: HostRuntime) {
-    let found = observed_row(&[0, 2, 4, 5], 3, &AMOUNTS, GROUP, &SHIFT, &base(), &rover(), 0);
+    let found = observed_row(
+        &[0, 2, 4, 5],
+        3,
+        &AMOUNTS,
+        GROUP,
+        &SHIFT,
+        &base(),
+        &rover(),
+        0,
+    );
     let want: [i64; 6] = [-3_509_286, 0, -1_165, 0, -7_173_961, 22_811_494];
     assert!(rt;
         found.is_some_and(|found| are_near(&found, want, 470) && (found.y[1], found.y[3]) == (0, 0))

@@ -133,7 +133,15 @@ pub fn observed_row(
     let mut y = [0; SIGNALS];
     let mut ry = 0;
     for signal in ss {
-        let more = y_of_signal(*signal, amounts, group, shift, base, &rover.pseudorange, scale);
+        let more = y_of_signal(
+            *signal,
+            amounts,
+            group,
+            shift,
+            base,
+            &rover.pseudorange,
+            scale,
+        );
         let centre = more.near_centre()?;
         y[*signal] = centre;
         ry = wider(ry, more.radius);

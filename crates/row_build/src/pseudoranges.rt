@@ -43,7 +43,12 @@ fn base_pseudorange_from(entry: &SvPair, ranged: &[i64; 3], base: &[i64; 3]) -> 
 }
 
 /// The base's pseudorange of the entry in this place: the one that is kept, or else one that is made.
-pub fn base_pseudorange_at(base_pseudoranges: &[Pseudorange], place: usize, entry: &SvPair, base: &[i64; 3]) -> Pseudorange
+pub fn base_pseudorange_at(
+    base_pseudoranges: &[Pseudorange],
+    place: usize,
+    entry: &SvPair,
+    base: &[i64; 3],
+) -> Pseudorange
     requires kept { (base_pseudorange : Pseudorange) → slice_get base_pseudoranges.now place ≡ Some base_pseudorange →
         HoldsPseudoranges entry.now.base base.now base_pseudorange }
     requires base { IsReceiverPoint base.now }
@@ -88,6 +93,11 @@ pub fn base_pseudoranges(
         AreBasePseudoranges screened.now.boxes base.now base_pseudoranges.items) }
     ensures each { IfOk result (λ base_pseudoranges. length base_pseudoranges.items ≡ length screened.now.boxes) }
 {
-    let base_pseudoranges = base_pseudoranges_of(alloc, screened.boxes.as_slice(), &screened.base, base)?;
+    let base_pseudoranges = base_pseudoranges_of(
+        alloc,
+        screened.boxes.as_slice(),
+        &screened.base,
+        base,
+    )?;
     Ok(base_pseudoranges)
 }

@@ -48,7 +48,11 @@ pub fn group_of(entry: &SeenSat<'_>) -> i64
         (number_at entry.now.sv.now.observed L1_CODE) result }
     ensures size { unsigned_abs result ≤ 2 ^ 43 }
 {
-    first_group(entry.sv.observed[L1_CODE], &entry.base_pseudorange, &entry.rover.pseudorange)
+    first_group(
+        entry.sv.observed[L1_CODE],
+        &entry.base_pseudorange,
+        &entry.rover.pseudorange,
+    )
 }
 
 // Whether the signal is one of these

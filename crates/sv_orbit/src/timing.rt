@@ -12,7 +12,9 @@ ghost use Rattle.sv_orbit.specs.ClockTerms.{per_ten_thousand};
 ghost use Rattle.sv_orbit.specs.Timings.{HoldsTiming};
 
 use crate::clock_record::ClockRecord;
-use crate::correction::{CLOCK, EFFECT, SENT, SCALED_CLOCK, Terms, corrected_clock, per_ten_thousand, time_since};
+use crate::correction::{
+    CLOCK, EFFECT, SCALED_CLOCK, SENT, Terms, corrected_clock, per_ten_thousand, time_since,
+};
 use crate::shape::ECCENTRICITY;
 use gps_time::Tick;
 use iv_core::{Iv, middle_between};

@@ -13,7 +13,7 @@ ghost use Rattle.lower_form.specs.CleanSteps.{IsClean};
 ghost use Rattle.track_form.specs.PairFronts.{IsFrontOfPair, IsRefusedPair};
 ghost use Rattle.track_form.specs.Sums.{AreAtMost};
 
-use lower_form::{FrontForm, BaselineSteps, LowerFault, exponent, front, refill_front};
+use lower_form::{BaselineSteps, FrontForm, LowerFault, exponent, front, refill_front};
 use normal_sum::{Normal, refill_pair, sum_pair};
 use obs_rows::{Arc, PairRows, Signals, fine_signals, integer_count};
 use quadratic_form::{BASELINE_COLUMNS, FormTable};

@@ -24,9 +24,8 @@ returns-clause-direction c =
     let y : Spread = get_or directions 1 c.index-direction-1.result in
     let z : Spread = get_or directions 2 c.index-direction-2.result in
     let three_spreads : length directions ≡ 3 = omega arith in
-    let items : directions ≡ x ∷ y ∷ z ∷ [] = three_items directions c.index-direction-0.result c.index-direction-1.result c.index-direction-2.result three_spreads in
-    (
+    let items : directions ≡ x ∷ y ∷ z ∷ [] = three_items directions c.index-direction-0.result c.index-direction-1.result c.index-direction-2.result three_spreads in (
       three_same _ _ _ x.centre y.centre z.centre (read_centre x.centre x.centre_in) (read_centre y.centre y.centre_in) (read_centre z.centre z.centre_in) ∙ sym (ap (λ (ds : List Spread). map (λ s. s.centre) ds) items),
       three_same _ _ _ x.radius y.radius z.radius (read_radius x.radius x.radius_least x.radius_most) (read_radius y.radius y.radius_least y.radius_most)
-      (read_radius z.radius z.radius_least z.radius_most) ∙ sym (ap (λ (ds : List Spread). map (λ s. s.radius) ds) items),
+          (read_radius z.radius z.radius_least z.radius_most) ∙ sym (ap (λ (ds : List Spread). map (λ s. s.radius) ds) items),
     )

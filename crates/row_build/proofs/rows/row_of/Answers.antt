@@ -21,7 +21,7 @@ pub returns-clause-u : goal.returns-clause-u
 returns-clause-u c =
     let three_spreads : length c.args.entry.now.rover.direction ≡ 3 = omega arith in
     IfSome_then c.observed_row.result c.observed_row.ensures.direction (λ r are base point known s move direction h d m.
-        in_u c.args.entry.now.rover.direction r.u r.ru direction three_spreads are (known.rover.direction s move direction h d m))
+    in_u c.args.entry.now.rover.direction r.u r.ru direction three_spreads are (known.rover.direction s move direction h d m))
 
 pub returns-clause-far : goal.returns-clause-far
 returns-clause-far c = λ none base point known.
