@@ -17,8 +17,8 @@ some_factors : (o : Option (ℤ × ℤ)) (P : Type 0) (Q : (ℤ × ℤ) → Type
 some_factors None P Q m small = absurd (m small)
 some_factors (Some f) P Q m small = refl
 
-pub unwrap-requires : goal.unwrap-requires
-unwrap-requires c =
+pub unwrap-first-requires : goal.unwrap-first-requires
+unwrap-first-requires c =
     let r_word : to_z w64 (of_z w64 c.args.r) ≡ c.args.r = to_z-of_z w64 c.args.r c.ranges.r in
     let q_word : to_z w64 (of_z w64 c.args.q) ≡ c.args.q = to_z-of_z w64 c.args.q c.ranges.q in
     some_factors c.turned_factors.result (AreColumnsSmall c.args.r c.args.q c.args.j (entry c.args.l.now c.args.i))
@@ -28,11 +28,11 @@ pub returns-clause-turned : goal.returns-clause-turned
 returns-clause-turned c =
     let r_word : to_z w64 (of_z w64 c.args.r) ≡ c.args.r = to_z-of_z w64 c.args.r c.ranges.r in
     let q_word : to_z w64 (of_z w64 c.args.q) ≡ c.args.q = to_z-of_z w64 c.args.q c.ranges.q in
-    let new : AreNewFactors c.args.r c.args.q c.args.j (entry c.args.l.now c.args.i) c.unwrap.result.0 c.unwrap.result.1 =
+    let new : AreNewFactors c.args.r c.args.q c.args.j (entry c.args.l.now c.args.i) c.unwrap-first.result.0 c.unwrap-first.result.1 =
     MatchOption-at_some (AreColumnsSmall c.args.r c.args.q c.args.j (entry c.args.l.now c.args.i) → ⊥)
-    (λ (f : ℤ × ℤ). AreNewFactors c.args.r c.args.q c.args.j (entry c.args.l.now c.args.i) f.0 f.1) c.unwrap.result c.unwrap.ensures (rw (r_word, q_word) at c.turned_factors.ensures) in
+    (λ (f : ℤ × ℤ). AreNewFactors c.args.r c.args.q c.args.j (entry c.args.l.now c.args.i) f.0 f.1) c.unwrap-first.result c.unwrap-first.ensures (rw (r_word, q_word) at c.turned_factors.ensures) in
     record {
-      first = c.set-2.ensures.others c.args.i c.args.j (inr (apart c.args.j)) ∙ c.set.ensures.there ∙ written c.unwrap.result.0 _ new.first_is new.small.first;
-      second = c.set-2.ensures.there ∙ written c.unwrap.result.1 _ new.second_is new.small.second;
+      first = c.set-2.ensures.others c.args.i c.args.j (inr (apart c.args.j)) ∙ c.set.ensures.there ∙ written c.unwrap-first.result.0 _ new.first_is new.small.first;
+      second = c.set-2.ensures.there ∙ written c.unwrap-first.result.1 _ new.second_is new.small.second;
       others = λ m a b. c.set-2.ensures.others c.args.i m (inr b) ∙ c.set.ensures.others c.args.i m (inr a);
     }
