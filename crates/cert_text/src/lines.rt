@@ -16,8 +16,8 @@ ghost use Rattle.cert_text.specs.LineParts.{word_in, TakesLine};
 
 use crate::Grammar;
 use cert_lines::{
-    FormValues, PairHead, Version, count_in, decision_line_in, pair_in, signals_in, system_in, triple_in,
-    values_in,
+    FormValues, PairHead, Version, count_in, decision_line_in, pair_in, signals_in, system_in,
+    triple_in, values_in,
 };
 use cert_words::{BAD_LINE, Range};
 use line_source::Lines;
