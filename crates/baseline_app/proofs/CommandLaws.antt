@@ -67,14 +67,14 @@ sim_lawful part seed epochs sats bands system = record {
 
 -- a line for each command
 pub lawful : (job : Job) → IsLawful (command_of job)
+lawful (job.Fix base rover nav options) = session_lawful AnswersFix base rover nav options
+lawful (job.Track base rover nav options) = session_lawful AnswersTrack base rover nav options
+lawful (job.Arcs base rover nav options) = session_lawful AnswersArcs base rover nav options
+lawful (job.Check cert) = text_lawful check_job cert
+lawful (job.CheckTrack cert) = text_lawful check_track_job cert
+lawful (job.Residuals cert) = text_lawful residuals_job cert
+lawful (job.Migrate cert) = text_lawful migrate_job cert
 lawful (job.Zero rows) = text_lawful zero_job rows
 lawful (job.List obs) = text_lawful list_job obs
 lawful (job.Orbit nav system sat tick) = text_lawful (orbit_job system sat tick.0) nav
-lawful (job.Check cert) = text_lawful check_job cert
-lawful (job.Residuals cert) = text_lawful residuals_job cert
-lawful (job.Migrate cert) = text_lawful migrate_job cert
-lawful (job.Fix base rover nav options) = session_lawful AnswersFix base rover nav options
-lawful (job.Track base rover nav options) = session_lawful AnswersTrack base rover nav options
-lawful (job.CheckTrack cert) = text_lawful check_track_job cert
-lawful (job.Arcs base rover nav options) = session_lawful AnswersArcs base rover nav options
 lawful (job.Sim part seed epochs sats bands system) = sim_lawful part seed epochs sats bands system

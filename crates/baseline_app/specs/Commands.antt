@@ -86,14 +86,14 @@ sim_command part seed epochs sats bands system = record {
 
 -- the command of each job
 abbrev pub command_of : Job → Command
+command_of (job.Fix base rover nav options) = session_command AnswersFix base rover nav options
+command_of (job.Track base rover nav options) = session_command AnswersTrack base rover nav options
+command_of (job.Arcs base rover nav options) = session_command AnswersArcs base rover nav options
+command_of (job.Check cert) = text_command check_job cert
+command_of (job.CheckTrack cert) = text_command check_track_job cert
+command_of (job.Residuals cert) = text_command residuals_job cert
+command_of (job.Migrate cert) = text_command migrate_job cert
 command_of (job.Zero rows) = text_command zero_job rows
 command_of (job.List obs) = text_command list_job obs
 command_of (job.Orbit nav system sat tick) = text_command (orbit_job system sat tick.0) nav
-command_of (job.Check cert) = text_command check_job cert
-command_of (job.Residuals cert) = text_command residuals_job cert
-command_of (job.Migrate cert) = text_command migrate_job cert
-command_of (job.Fix base rover nav options) = session_command AnswersFix base rover nav options
-command_of (job.Track base rover nav options) = session_command AnswersTrack base rover nav options
-command_of (job.CheckTrack cert) = text_command check_track_job cert
-command_of (job.Arcs base rover nav options) = session_command AnswersArcs base rover nav options
 command_of (job.Sim part seed epochs sats bands system) = sim_command part seed epochs sats bands system
