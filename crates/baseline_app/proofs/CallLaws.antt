@@ -27,11 +27,7 @@ ok_weaker (Err e) P Q weaker holds = tt
 pub small_verdict : (status : Status) (number : ℕ) → number ≡ number_of status → number < 2 → IsVerdictStatus status
 small_verdict Done number is small = tt
 small_verdict Declined number is small = tt
-small_verdict Usage number is small = absurd (omega arith)
-small_verdict Refused number is small = absurd (omega arith)
-small_verdict ReadFault number is small = absurd (omega arith)
-small_verdict WriteFault number is small = absurd (omega arith)
-small_verdict NoMemory number is small = absurd (omega arith)
+small_verdict status number is small = absurd (omega arith)
 
 drop_front : (xs ys : List Given) → drop (length xs) (xs ++ ys) ≡ ys
 drop_front [] ys = refl
@@ -71,13 +67,8 @@ answers_by_calls words work job status number out err taken taken_now told told_
 
 -- the number of a refusal
 pub third_refused : (status : Status) (number : ℕ) → number ≡ number_of status → number ≡ 3 → status ≡ Refused
-third_refused Done number is third = absurd (omega arith)
-third_refused Declined number is third = absurd (omega arith)
-third_refused Usage number is third = absurd (omega arith)
 third_refused Refused number is third = refl
-third_refused ReadFault number is third = absurd (omega arith)
-third_refused WriteFault number is third = absurd (omega arith)
-third_refused NoMemory number is third = absurd (omega arith)
+third_refused status number is third = absurd (omega arith)
 
 -- ---- a refusal
 -- what the calls gave and took of an ending with this line
