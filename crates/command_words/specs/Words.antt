@@ -114,20 +114,6 @@ pub record IsJob (words : List (List ℕ)) (job : Job) : Type 0 where
   pub parted : AreParted behind plain given
   pub asked : IsJobOf command plain given job
 
--- the words of a job that stand for files
-abbrev pub file_words : Job → List (List ℕ)
-file_words (job.Zero rows) = rows ∷ []
-file_words (job.List obs) = obs ∷ []
-file_words (job.Orbit nav system sat tick) = nav ∷ []
-file_words (job.Check cert) = cert ∷ []
-file_words (job.Residuals cert) = cert ∷ []
-file_words (job.Migrate cert) = cert ∷ []
-file_words (job.Fix base rover nav options) = base ∷ rover ∷ nav ∷ []
-file_words (job.Track base rover nav options) = base ∷ rover ∷ nav ∷ []
-file_words (job.CheckTrack cert) = cert ∷ []
-file_words (job.Arcs base rover nav options) = base ∷ rover ∷ nav ∷ []
-file_words (job.Sim part seed epochs sats bands system) = []
-
 -- the ranges of a simulated session
 pub record IsSimInRange (epochs sats bands system : ℕ) : Type 0 where
   pub epochs_to : epochs ≤ MOST_PAIRS
