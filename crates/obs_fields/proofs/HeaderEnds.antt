@@ -82,16 +82,18 @@ end_line-says layout system = refl
 
 -- ---- a further line of types: names that aren't listed yet, all with the same first byte
 
--- the rest of the line from the name on that has that second byte, with so many names
-abbrev fields : Layout → ℕ → ℕ → ℕ → List ℕ
-fields Rinex2 c x zero = codes "# / TYPES OF OBSERV"
-fields Rinex2 c x (suc m) = 32 ∷ 32 ∷ 32 ∷ 32 ∷ c ∷ x ∷ fields Rinex2 c (x + 1) m
-fields Rinex3 c x zero = 32 ∷ codes "SYS / # / OBS TYPES"
-fields Rinex3 c x (suc m) = c ∷ x ∷ 32 ∷ 32 ∷ fields Rinex3 c (x + 1) m
+-- names from the one with that second byte on, so many, and the label
+abbrev fields_2 : ℕ → ℕ → ℕ → List ℕ
+fields_2 c x zero = codes "# / TYPES OF OBSERV"
+fields_2 c x (suc m) = 32 ∷ 32 ∷ 32 ∷ 32 ∷ c ∷ x ∷ fields_2 c (x + 1) m
+
+abbrev fields_3 : ℕ → ℕ → ℕ → List ℕ
+fields_3 c x zero = 32 ∷ codes "SYS / # / OBS TYPES"
+fields_3 c x (suc m) = c ∷ x ∷ 32 ∷ 32 ∷ fields_3 c (x + 1) m
 
 abbrev fresh_line : Layout → ℕ → List ℕ
-fresh_line Rinex2 c = codes "      " ++ fields Rinex2 c 48 9
-fresh_line Rinex3 c = codes "       " ++ fields Rinex3 c 48 13
+fresh_line Rinex2 c = codes "      " ++ fields_2 c 48 9
+fresh_line Rinex3 c = codes "       " ++ fields_3 c 48 13
 
 fresh_line-label : (layout : Layout) (c : ℕ) → label_in layout (fresh_line layout c) ≡ label.Types
 unfolding label_in trimmed
@@ -121,7 +123,7 @@ fresh_line-short layout c from below = (bytes layout, short layout)
     short Rinex3 = lit≤ tt
 
 -- the fields from name number j on
-fields_from_2 : (c x j m k : ℕ) → j + suc m ≡ k → drop (4 + 6 * j) (fields Rinex2 c x k) ≡ c ∷ (x + j) ∷ fields Rinex2 c (x + j + 1) m
+fields_from_2 : (c x j m k : ℕ) → j + suc m ≡ k → drop (4 + 6 * j) (fields_2 c x k) ≡ c ∷ (x + j) ∷ fields_2 c (x + j + 1) m
 fields_from_2 c x zero m k is =
     let here : x + 0 ≡ x = add-zero x in
     let same : k ≡ suc m = omega (arith, is) in
@@ -132,7 +134,7 @@ fields_from_2 c x (suc j) m (suc k) is =
     let same : x + suc j ≡ x + 1 + j = omega arith in
     rw (six, same) (fields_from_2 c (x + 1) j m k (omega (arith, is)))
 
-fields_from_3 : (c x j m k : ℕ) → j + m ≡ k → drop (4 * j) (fields Rinex3 c x k) ≡ fields Rinex3 c (x + j) m
+fields_from_3 : (c x j m k : ℕ) → j + m ≡ k → drop (4 * j) (fields_3 c x k) ≡ fields_3 c (x + j) m
 fields_from_3 c x zero m k is = let same : k ≡ m = omega (arith, is) in rw (add-zero, same) refl
 fields_from_3 c x (suc j) m zero is = absurd (omega (arith, is))
 fields_from_3 c x (suc j) m (suc k) is =
