@@ -1,21 +1,18 @@
 -- Lines of a header that are taken are of the form.
-use Rattle.std.proofs.Common.{◌≡◌, ◌≤◌, ◌<◌, ◌+◌, ℕ, ℤ, zero, suc, List, [], ◌∷◌, ◌++◌, length, Result, Ok, Err, Option, Some, None, refl, sym, ap, ◌∙◌, subst, arith}
-use Rattle.rinex_head.specs.declared.place.What.{What}
-use Rattle.rinex_head.specs.declared.place.What.TheVariants.{NoEnd}
+use Rattle.std.proofs.Common.{◌≡◌, ◌≤◌, ◌+◌, ℕ, ℤ, zero, suc, List, [], ◌∷◌, ◌++◌, length, Result, Ok, Option, Some, None, refl, sym, ap, ◌∙◌, subst, arith}
 use Rattle.rinex_head.specs.declared.place.Flaw.{Flaw}
 use Rattle.rinex_head.specs.declared.system.System.{System}
-use Rattle.rinex_head.specs.Systems.{bad_version}
-use Rattle.rinex_head.specs.Places.{and_then, flawed, at_line}
+use Rattle.rinex_head.specs.Places.{flawed, at_line}
 use Rattle.rinex_head.specs.LineRules.{walk}
-use Rattle.rinex_head.proofs.LineRuleLaws.{walk-end, TookLine, walk-took}
+use Rattle.rinex_head.proofs.LineRuleLaws.{walk-end, walk-took}
+use Rattle.rinex_head.proofs.TakenLines.{and_then_took, then_took}
 use Rattle.obs_fields.specs.declared.header.Header.{Header}
 use Rattle.obs_fields.specs.declared.header_lines.HeaderLine.{HeaderLine}
 use Rattle.obs_fields.specs.declared.header_lines.HeaderLine.TheVariants as header
-use Rattle.obs_fields.specs.declared.types.TypeList.{TypeList}
 use Rattle.obs_fields.specs.FirstLine.{first_line_of}
 use Rattle.obs_fields.specs.HeaderLines.{header_line_of}
 use Rattle.obs_fields.specs.Types.{first_types_of, further_types_of}
-use Rattle.obs_fields.specs.HeaderRules.{InHeader, First, AfterLine, Inside, Whole, so_far, bare_header, more_types, whole_header, after_line, missing_line}
+use Rattle.obs_fields.specs.HeaderRules.{InHeader, First, Next, AfterLine, Inside, Whole, so_far, bare_header, more_types, whole_header, begun_list, after_line, admit_header, missing_line}
 use Rattle.obs_fields.specs.HeaderForm.{HeadPart, IsPlain, AreHeadParts, head_lines, position_by, delta_by, last_position, last_delta, AreFurther, IsTypeList, IsHeader}
 use Rattle.obs_fields.proofs.HeaderLaws.{HeaderReader, inside, line_after, types_after, regroup, zero_delta}
 
@@ -25,6 +22,28 @@ no_end {S} {F} r n s whole gives =
     let flaw_is_whole : at_line (n + 1) (flawed {A = F} 1 (missing_line s)) ≡ Ok whole =
     ap (λ (f : Result F Flaw). at_line (n + 1) f) (sym (r.missing s)) ∙ sym (walk-end r.rules (inside r s) n) ∙ gives in
     cc
+
+-- lines that give something begin with one that is admitted
+record TookInside {S F : Type 0} (r : HeaderReader S F) (s : InHeader) (bytes : List ℕ) (lines : List (List ℕ)) (n : ℕ) (whole : F) : Type 0 where
+  next : AfterLine
+  short : length bytes ≤ 4096
+  admits : admit_header r.layout s bytes ≡ Ok next
+  others : walk r.rules lines (n + 1) (r.after next) ≡ Ok whole
+
+took_inside : {S F : Type 0} (r : HeaderReader S F) (s : InHeader) (bytes : List ℕ) (lines : List (List ℕ)) (n : ℕ) (whole : F)
+    → walk r.rules (bytes ∷ lines) n (inside r s) ≡ Ok whole → TookInside r s bytes lines n whole
+took_inside {S} r s bytes lines n whole gives =
+    let first = walk-took r.rules (inside r s) bytes lines n whole gives in
+    let line = then_took (admit_header r.layout s bytes) (λ l. r.after l) first.next (sym (r.admits s bytes) ∙ first.admits) in
+    record { next = line.0; short = first.short; admits = line.1; others = subst (λ (s : S). walk r.rules lines (n + 1) s ≡ Ok whole) (sym line.2) first.others }
+
+abbrev answer : AfterLine → Result AfterLine Flaw
+answer l = Ok l
+
+-- the walk goes on from the same state
+same_walk : {S F : Type 0} (r : HeaderReader S F) (lines : List (List ℕ)) (n : ℕ) (whole : F) (l next : AfterLine)
+    → l ≡ next → walk r.rules lines n (r.after next) ≡ Ok whole → walk r.rules lines n (r.after l) ≡ Ok whole
+same_walk r lines n whole l next same gives = subst (λ (l : AfterLine). walk r.rules lines n (r.after l) ≡ Ok whole) (sym same) gives
 
 -- After the first line of a header, by its system and its version.
 module _ {S F : Type 0} (r : HeaderReader S F) (system : System) (hundredths : ℕ) where
@@ -71,30 +90,61 @@ module _ {S F : Type 0} (r : HeaderReader S F) (system : System) (hundredths : �
         → walk r.rules lines n (inside r (types_now p d names (suc left))) ≡ Ok whole → TookMore lines p d names (suc left) whole
     none : (p : Option (List ℤ)) (d : List ℤ) (n : ℕ) (whole : F) → walk r.rules lines n (inside r (line_now p d None)) ≡ Ok whole → TookList lines p d whole
 
-  abbrev answer : S → Result S Flaw
-  answer s = Ok s
-
-  -- the walk goes on from the same state
-  same_walk : (lines : List (List ℕ)) (n : ℕ) (s t : S) (whole : F) → answer s ≡ answer t → walk r.rules lines n t ≡ Ok whole → walk r.rules lines n s ≡ Ok whole
-  same_walk lines n s t whole is gives = let same : s ≡ t = cc (is) in subst (λ (s : S). walk r.rules lines n s ≡ Ok whole) (sym same) gives
-
   of_due : (lines : List (List ℕ)) → Took lines → (p : Option (List ℤ)) (d : List ℤ) (names : List (List ℕ)) (left n : ℕ) (whole : F)
       → walk r.rules lines n (inside r (types_now p d names left)) ≡ Ok whole → TookMore lines p d names left whole
   of_due lines took p d names zero n whole gives = record { further = []; tail = lines; all = names; lines_are = refl; are = (refl, refl); end = took.some p d names n whole gives }
   of_due lines took p d names (suc left) n whole gives = took.more p d names left n whole gives
+
+  more_line : (bytes : List ℕ) (lines : List (List ℕ)) → Took lines → (p : Option (List ℤ)) (d : List ℤ) (names : List (List ℕ)) (left n : ℕ) (whole : F)
+      → walk r.rules (bytes ∷ lines) n (inside r (types_now p d names (suc left))) ≡ Ok whole → TookMore (bytes ∷ lines) p d names (suc left) whole
+  more_line bytes lines took p d names left n whole gives =
+      let first = took_inside r (types_now p d names (suc left)) bytes lines n whole gives in
+      let line = then_took (further_types_of r.layout bytes names (suc left)) (λ list. Inside (types_now p d list.names list.left)) first.next first.admits in
+      let list = line.0 in
+      let rest = of_due lines took p d list.names list.left (n + 1) whole (same_walk r lines (n + 1) whole (Inside (types_now p d list.names list.left)) first.next line.2 first.others) in
+      record {
+        further = bytes ∷ rest.further;
+        tail = rest.tail;
+        all = rest.all;
+        lines_are = ap (λ (l : List (List ℕ)). bytes ∷ l) rest.lines_are;
+        are = (omega arith, first.short, (list, line.1, rest.are));
+        end = rest.end;
+      }
+
+  -- the line of a list, which has what it says
+  list_line : (bytes : List ℕ) (lines : List (List ℕ)) → Took lines → (p : Option (List ℤ)) (d : List ℤ) (n : ℕ) (whole : F) (next : AfterLine)
+      → length bytes ≤ 4096 → header_line_of r.layout system bytes ≡ Ok header.Types → begun_list r.layout (so_far system hundredths p d None) bytes None ≡ Ok next
+      → walk r.rules lines (n + 1) (r.after next) ≡ Ok whole → TookList (bytes ∷ lines) p d whole
+  list_line bytes lines took p d n whole next short is begins gives =
+      let line = then_took (first_types_of r.layout bytes) (λ list. Inside (types_now p d list.names list.left)) next begins in
+      let list = line.0 in
+      let rest = of_due lines took p d list.names list.left (n + 1) whole (same_walk r lines (n + 1) whole (Inside (types_now p d list.names list.left)) next line.2 gives) in
+      record {
+        before = [];
+        list = bytes;
+        further = rest.further;
+        tail = rest.tail;
+        types = rest.all;
+        lines_are = ap (λ (l : List (List ℕ)). bytes ∷ l) rest.lines_are;
+        are = tt;
+        is_list = record { short = short; begins = is; list = list; first = line.1; others = rest.are };
+        end = rest.end;
+      }
 
   abbrev part_of : List ℕ → HeaderLine → HeadPart
   part_of bytes meaning = record { bytes = bytes; meaning = meaning }
 
   some_line : (bytes : List ℕ) (lines : List (List ℕ)) → Took lines → (p : Option (List ℤ)) (d : List ℤ) (types : List (List ℕ)) (n : ℕ) (whole : F)
       → walk r.rules (bytes ∷ lines) n (inside r (line_now p d (Some types))) ≡ Ok whole → TookEnd (bytes ∷ lines) p d types whole
-  some_line bytes lines took p d types n whole gives = by_part (header_line_of r.layout system bytes) refl (sym (r.admits (line_now p d (Some types)) bytes) ∙ first.admits)
+  some_line bytes lines took p d types n whole gives =
+      let line = and_then_took (header_line_of r.layout system bytes) (λ l. after_line r.layout (so_far system hundredths p d (Some types)) bytes l) first.next first.admits in
+      by_meaning line.0 line.1 line.2
     where
-      first : TookLine r.rules (inside r (line_now p d (Some types))) bytes lines n whole
-      first = walk-took r.rules (inside r (line_now p d (Some types))) bytes lines n whole gives
+      first : TookInside r (line_now p d (Some types)) bytes lines n whole
+      first = took_inside r (line_now p d (Some types)) bytes lines n whole gives
 
-      others : (s : S) → answer s ≡ answer first.next → walk r.rules lines (n + 1) s ≡ Ok whole
-      others s same = same_walk lines (n + 1) s first.next whole same first.others
+      others : (l : AfterLine) → answer l ≡ answer first.next → walk r.rules lines (n + 1) (r.after l) ≡ Ok whole
+      others l is = let same : l ≡ first.next = cc (is) in same_walk r lines (n + 1) whole l first.next same first.others
 
       with_part : (meaning : HeaderLine) → header_line_of r.layout system bytes ≡ Ok meaning → IsPlain meaning → TookEnd lines (position_by p meaning) (delta_by d meaning) types whole → TookEnd (bytes ∷ lines) p d types whole
       with_part meaning is plain rest = record {
@@ -109,64 +159,26 @@ module _ {S F : Type 0} (r : HeaderReader S F) (system : System) (hundredths : �
         gives = rest.gives;
       }
 
-      by_part : (meaning : Result HeaderLine Flaw) → header_line_of r.layout system bytes ≡ meaning
-          → and_then (and_then meaning (λ l. after_line r.layout (so_far system hundredths p d (Some types)) bytes l)) (λ l. answer (r.after l)) ≡ answer first.next → TookEnd (bytes ∷ lines) p d types whole
-      by_part (Ok header.End) is gives =
-          let end = whole_header (so_far system hundredths p d (Some types)) types in
-          record { after = []; last = bytes; rest = lines; lines_are = refl; are = tt; last_short = first.short; ends = is; number = n + 1; gives = others (r.after (Whole end)) gives }
-      by_part (Ok (header.Position q)) is gives = with_part (header.Position q) is tt (took.some q d types (n + 1) whole (others (inside r (line_now q d (Some types))) gives))
-      by_part (Ok (header.Delta e)) is gives = with_part (header.Delta e) is tt (took.some p e types (n + 1) whole (others (inside r (line_now p e (Some types))) gives))
-      by_part (Ok header.Types) is gives = absurd cc
-      by_part (Ok header.Skipped) is gives = with_part header.Skipped is tt (took.some p d types (n + 1) whole (others (inside r (line_now p d (Some types))) gives))
-      by_part (Err flaw) is gives = absurd cc
-
-  more_line : (bytes : List ℕ) (lines : List (List ℕ)) → Took lines → (p : Option (List ℤ)) (d : List ℤ) (names : List (List ℕ)) (left n : ℕ) (whole : F)
-      → walk r.rules (bytes ∷ lines) n (inside r (types_now p d names (suc left))) ≡ Ok whole → TookMore (bytes ∷ lines) p d names (suc left) whole
-  more_line bytes lines took p d names left n whole gives = by_list (further_types_of r.layout bytes names (suc left)) refl (sym (r.admits (types_now p d names (suc left)) bytes) ∙ first.admits)
-    where
-      first : TookLine r.rules (inside r (types_now p d names (suc left))) bytes lines n whole
-      first = walk-took r.rules (inside r (types_now p d names (suc left))) bytes lines n whole gives
-
-      by_list : (types : Result TypeList Flaw) → further_types_of r.layout bytes names (suc left) ≡ types
-          → and_then (and_then types (λ list. Ok (Inside (types_now p d list.names list.left)))) (λ l. answer (r.after l)) ≡ answer first.next → TookMore (bytes ∷ lines) p d names (suc left) whole
-      by_list (Ok list) is gives =
-          let rest = of_due lines took p d list.names list.left (n + 1) whole (same_walk lines (n + 1) (inside r (types_now p d list.names list.left)) first.next whole gives first.others) in
-          record {
-            further = bytes ∷ rest.further;
-            tail = rest.tail;
-            all = rest.all;
-            lines_are = ap (λ (l : List (List ℕ)). bytes ∷ l) rest.lines_are;
-            are = (omega arith, first.short, (list, is, rest.are));
-            end = rest.end;
-          }
-      by_list (Err flaw) is gives = absurd cc
+      by_meaning : (meaning : HeaderLine) → header_line_of r.layout system bytes ≡ Ok meaning → after_line r.layout (so_far system hundredths p d (Some types)) bytes meaning ≡ Ok first.next → TookEnd (bytes ∷ lines) p d types whole
+      by_meaning header.End is gives =
+          let end = Whole (whole_header (so_far system hundredths p d (Some types)) types) in
+          record { after = []; last = bytes; rest = lines; lines_are = refl; are = tt; last_short = first.short; ends = is; number = n + 1; gives = others end gives }
+      by_meaning (header.Position q) is gives = with_part (header.Position q) is tt (took.some q d types (n + 1) whole (others (Inside (line_now q d (Some types))) gives))
+      by_meaning (header.Delta e) is gives = with_part (header.Delta e) is tt (took.some p e types (n + 1) whole (others (Inside (line_now p e (Some types))) gives))
+      by_meaning header.Types is gives = absurd cc
+      by_meaning header.Skipped is gives = with_part header.Skipped is tt (took.some p d types (n + 1) whole (others (Inside (line_now p d (Some types))) gives))
 
   none_line : (bytes : List ℕ) (lines : List (List ℕ)) → Took lines → (p : Option (List ℤ)) (d : List ℤ) (n : ℕ) (whole : F)
       → walk r.rules (bytes ∷ lines) n (inside r (line_now p d None)) ≡ Ok whole → TookList (bytes ∷ lines) p d whole
-  none_line bytes lines took p d n whole gives = by_part (header_line_of r.layout system bytes) refl (sym (r.admits (line_now p d None) bytes) ∙ first.admits)
+  none_line bytes lines took p d n whole gives =
+      let line = and_then_took (header_line_of r.layout system bytes) (λ l. after_line r.layout (so_far system hundredths p d None) bytes l) first.next first.admits in
+      by_meaning line.0 line.1 line.2
     where
-      first : TookLine r.rules (inside r (line_now p d None)) bytes lines n whole
-      first = walk-took r.rules (inside r (line_now p d None)) bytes lines n whole gives
+      first : TookInside r (line_now p d None) bytes lines n whole
+      first = took_inside r (line_now p d None) bytes lines n whole gives
 
-      others : (s : S) → answer s ≡ answer first.next → walk r.rules lines (n + 1) s ≡ Ok whole
-      others s same = same_walk lines (n + 1) s first.next whole same first.others
-
-      by_list : (types : Result TypeList Flaw) → first_types_of r.layout bytes ≡ types → header_line_of r.layout system bytes ≡ Ok header.Types
-          → and_then (and_then types (λ list. Ok (Inside (types_now p d list.names list.left)))) (λ l. answer (r.after l)) ≡ answer first.next → TookList (bytes ∷ lines) p d whole
-      by_list (Ok list) lists is gives =
-          let rest = of_due lines took p d list.names list.left (n + 1) whole (others (inside r (types_now p d list.names list.left)) gives) in
-          record {
-            before = [];
-            list = bytes;
-            further = rest.further;
-            tail = rest.tail;
-            types = rest.all;
-            lines_are = ap (λ (l : List (List ℕ)). bytes ∷ l) rest.lines_are;
-            are = tt;
-            is_list = record { short = first.short; begins = is; list = list; first = lists; others = rest.are };
-            end = rest.end;
-          }
-      by_list (Err flaw) lists is gives = absurd cc
+      others : (l : AfterLine) → answer l ≡ answer first.next → walk r.rules lines (n + 1) (r.after l) ≡ Ok whole
+      others l is = let same : l ≡ first.next = cc (is) in same_walk r lines (n + 1) whole l first.next same first.others
 
       with_part : (meaning : HeaderLine) → header_line_of r.layout system bytes ≡ Ok meaning → IsPlain meaning → TookList lines (position_by p meaning) (delta_by d meaning) whole → TookList (bytes ∷ lines) p d whole
       with_part meaning is plain rest = record {
@@ -181,14 +193,12 @@ module _ {S F : Type 0} (r : HeaderReader S F) (system : System) (hundredths : �
         end = rest.end;
       }
 
-      by_part : (meaning : Result HeaderLine Flaw) → header_line_of r.layout system bytes ≡ meaning
-          → and_then (and_then meaning (λ l. after_line r.layout (so_far system hundredths p d None) bytes l)) (λ l. answer (r.after l)) ≡ answer first.next → TookList (bytes ∷ lines) p d whole
-      by_part (Ok header.End) is gives = absurd cc
-      by_part (Ok (header.Position q)) is gives = with_part (header.Position q) is tt (took.none q d (n + 1) whole (others (inside r (line_now q d None)) gives))
-      by_part (Ok (header.Delta e)) is gives = with_part (header.Delta e) is tt (took.none p e (n + 1) whole (others (inside r (line_now p e None)) gives))
-      by_part (Ok header.Types) is gives = by_list (first_types_of r.layout bytes) refl is gives
-      by_part (Ok header.Skipped) is gives = with_part header.Skipped is tt (took.none p d (n + 1) whole (others (inside r (line_now p d None)) gives))
-      by_part (Err flaw) is gives = absurd cc
+      by_meaning : (meaning : HeaderLine) → header_line_of r.layout system bytes ≡ Ok meaning → after_line r.layout (so_far system hundredths p d None) bytes meaning ≡ Ok first.next → TookList (bytes ∷ lines) p d whole
+      by_meaning header.End is gives = absurd cc
+      by_meaning (header.Position q) is gives = with_part (header.Position q) is tt (took.none q d (n + 1) whole (others (Inside (line_now q d None)) gives))
+      by_meaning (header.Delta e) is gives = with_part (header.Delta e) is tt (took.none p e (n + 1) whole (others (Inside (line_now p e None)) gives))
+      by_meaning header.Types is gives = list_line bytes lines took p d n whole first.next first.short is gives first.others
+      by_meaning header.Skipped is gives = with_part header.Skipped is tt (took.none p d (n + 1) whole (others (Inside (line_now p d None)) gives))
 
   took_lines : (lines : List (List ℕ)) → Took lines
   took_lines [] = record {
@@ -214,43 +224,38 @@ pub record TookHeader {S F : Type 0} (r : HeaderReader S F) (system : System) (l
 
 pub header_took : {S F : Type 0} (r : HeaderReader S F) (system : System) (lines : List (List ℕ)) (whole : F) → walk r.rules lines 0 (inside r (First system)) ≡ Ok whole → TookHeader r system lines whole
 header_took r system [] whole gives = absurd (no_end r 0 (First system) whole gives)
-header_took r system (bytes ∷ lines) whole gives = by_version (first_line_of r.layout system bytes) refl (sym (r.admits (First system) bytes) ∙ first.admits)
-  where
-    first : TookLine r.rules (inside r (First system)) bytes lines 0 whole
-    first = walk-took r.rules (inside r (First system)) bytes lines 0 whole gives
-
-    by_version : (version : Result ℕ Flaw) → first_line_of r.layout system bytes ≡ version
-        → and_then (and_then version (λ hundredths. Ok (Inside (line_after system hundredths None zero_delta None)))) (λ l. Ok (r.after l)) ≡ Ok first.next → TookHeader r system (bytes ∷ lines) whole
-    by_version (Ok hundredths) is gives =
-        let list = list_took r system hundredths lines (0 + 1) whole (same_walk r system hundredths lines (0 + 1) (inside r (line_after system hundredths None zero_delta None)) first.next whole gives first.others) in
-        let end = list.end in
-        let grouped = regroup (head_lines list.before) list.list list.further (head_lines end.after) end.last end.rest in
-        let behind = list.lines_are ∙ ap (λ (l : List (List ℕ)). head_lines list.before ++ (list.list ∷ (list.further ++ l))) end.lines_are ∙ sym grouped in
-        record {
-          header_lines = bytes ∷ (head_lines list.before ++ (list.list ∷ (list.further ++ (head_lines end.after ++ (end.last ∷ [])))));
-          header = whole_header (so_far system hundredths (last_position (last_position None list.before) end.after) (last_delta (last_delta zero_delta list.before) end.after) (Some list.types)) list.types;
-          rest = end.rest;
-          lines_are = ap (λ (l : List (List ℕ)). bytes ∷ l) behind;
-          is_header = record {
-            first = bytes;
-            before = list.before;
-            list = list.list;
-            further = list.further;
-            after = end.after;
-            last = end.last;
-            lines_are = refl;
-            first_short = first.short;
-            version = is;
-            before_are = list.are;
-            types = list.is_list;
-            after_are = end.are;
-            last_short = end.last_short;
-            ends = end.ends;
-            position = refl;
-            delta = refl;
-          };
-          of_system = refl;
-          number = end.number;
-          gives = end.gives;
-        }
-    by_version (Err flaw) is gives = absurd cc
+header_took r system (bytes ∷ lines) whole gives =
+    let first = took_inside r (First system) bytes lines 0 whole gives in
+    let version = then_took (first_line_of r.layout system bytes) (λ hundredths. Inside (Next (bare_header system hundredths))) first.next first.admits in
+    let hundredths = version.0 in
+    let list = list_took r system hundredths lines (0 + 1) whole (same_walk r lines (0 + 1) whole (Inside (Next (bare_header system hundredths))) first.next version.2 first.others) in
+    let end = list.end in
+    let grouped = regroup (head_lines list.before) list.list list.further (head_lines end.after) end.last end.rest in
+    let behind = list.lines_are ∙ ap (λ (l : List (List ℕ)). head_lines list.before ++ (list.list ∷ (list.further ++ l))) end.lines_are ∙ sym grouped in
+    record {
+      header_lines = bytes ∷ (head_lines list.before ++ (list.list ∷ (list.further ++ (head_lines end.after ++ (end.last ∷ [])))));
+      header = whole_header (so_far system hundredths (last_position (last_position None list.before) end.after) (last_delta (last_delta zero_delta list.before) end.after) (Some list.types)) list.types;
+      rest = end.rest;
+      lines_are = ap (λ (l : List (List ℕ)). bytes ∷ l) behind;
+      is_header = record {
+        first = bytes;
+        before = list.before;
+        list = list.list;
+        further = list.further;
+        after = end.after;
+        last = end.last;
+        lines_are = refl;
+        first_short = first.short;
+        version = version.1;
+        before_are = list.are;
+        types = list.is_list;
+        after_are = end.are;
+        last_short = end.last_short;
+        ends = end.ends;
+        position = refl;
+        delta = refl;
+      };
+      of_system = refl;
+      number = end.number;
+      gives = end.gives;
+    }
