@@ -111,8 +111,7 @@ header_given r lines more h is =
     let list_admits : admit_header r.layout before_list is.list ≡ Ok (Inside within_list) =
     admit_line r system version p₂ d₂ None is.list ∙ rw (is.types.begins, is.types.first) refl in
     let last_admits : admit_header r.layout before_end is.last ≡ Ok end = admit_line r system version p₃ d₃ (Some h.types) is.last ∙ rw (is.ends) refl in
-    let whole : whole_header (so_far system version p₃ d₃ (Some h.types)) h.types ≡ h = rw (← is.position, ← is.delta) refl in
-    (
+    let whole : whole_header (so_far system version p₃ d₃ (Some h.types)) h.types ≡ h = rw (← is.position, ← is.delta) refl in (
       n₃ + length is.after + 1,
       ap (λ (l : List (List ℕ)). walk r.rules (l ++ more) 0 (inside r (First system))) is.lines_are
           ∙ ap (λ (l : List (List ℕ)). walk r.rules (is.first ∷ l) 0 (inside r (First system))) (regroup (head_lines is.before) is.list is.further (head_lines is.after) is.last more)

@@ -5,7 +5,7 @@ use Rattle.obs_fields.specs.declared.types.TypeList.{TypeList}
 use Rattle.obs_fields.specs.declared.header.Header.{Header}
 use Rattle.obs_fields.specs.declared.open_header.BegunHeader.{BegunHeader}
 use Rattle.obs_fields.specs.declared.open_header.OpenHeader.{OpenHeader}
-use Rattle.obs_fields.specs.declared.open_header.OpenHeader.TheVariants as open
+use Rattle.obs_fields.specs.declared.open_header.OpenHeader.TheVariants as state
 use Rattle.obs_fields.specs.HeaderRules.{HeaderSoFar, so_far, InHeader, First, Next, More, AfterLine, Inside, Whole}
 
 abbrev pub said_so_far : BegunHeader → HeaderSoFar
@@ -20,8 +20,8 @@ abbrev pub expected_in_begun : BegunHeader → InHeader
 expected_in_begun h = next_in (said_so_far h) h.list
 
 abbrev pub expected_in_header : OpenHeader → InHeader
-expected_in_header (open.First system) = First system
-expected_in_header (open.Begun h) = expected_in_begun h
+expected_in_header (state.First system) = First system
+expected_in_header (state.Begun h) = expected_in_begun h
 
 -- after a line, which may have been the end
 abbrev pub behind_line : InHeader → Option Header → AfterLine
