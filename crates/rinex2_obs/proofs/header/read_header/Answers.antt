@@ -21,7 +21,7 @@ pub header-preserved : goal.header-preserved
 header-preserved c =
     let bytes = c.in_ok-line.line.bytes.now in
     let before = expected_in_header c.header.header in
-    let after = expected_in_header c.take_line.new.header in
+    let after = expected_in_header c.take_line.new.self in
     let taken = rw c.in-Ok-None.field-0-is at c.in-Ok-None.ensures.ok in
     c.header.invariant ∙ goes_on obs2_rules (Head before) (Head after) (admit_header Rinex2 before bytes) (λ l. Ok (after_header l)) (Inside after) _ _ _ bytes c.in_ok-line.ensures refl (sym taken) refl
 
@@ -31,7 +31,7 @@ returns-in-Ok-Some c =
     let before = expected_in_header c.header.header in
     let whole = c.in-Ok-Some.whole in
     let taken = rw c.in-Ok-Some.field-0-is at c.in-Ok-Some.ensures.ok in
-    c.header.invariant ∙ goes_on obs2_rules (Head before) (Body whole []) (admit_header Rinex2 before bytes) (λ l. Ok (after_header l)) (Whole whole) _ _ _ bytes c.in_ok-line.ensures refl (sym taken) refl
+    rw c.in-Ok-Some.field-0-is (c.header.invariant ∙ goes_on obs2_rules (Head before) (Body whole []) (admit_header Rinex2 before bytes) (λ l. Ok (after_header l)) (Whole whole) _ _ _ bytes c.in_ok-line.ensures refl (sym taken) refl)
 
 pub returns-in-Err : goal.returns-in-Err
 returns-in-Err c =
