@@ -1,5 +1,5 @@
 -- Whatever may be expected in a header, lines follow that complete it to a text.
-use Rattle.std.proofs.Common.{◌≡◌, ◌<◌, ◌≤◌, ◌+◌, ◌-◌, ◌*◌, ℕ, zero, suc, nat_lt, Bool, true, false, ◌==◌, min, List, [], ◌∷◌, ◌++◌, length, drop, codes, Ok, Option, Some, None, refl, ap, ◌∙◌, subst, arith, lit≤, add-zero}
+use Rattle.std.proofs.Common.{◌≡◌, ◌<◌, ◌≤◌, ◌+◌, ◌-◌, ◌*◌, ℕ, zero, suc, nat_lt, true, false, ◌==◌, min, List, [], ◌∷◌, ◌++◌, length, drop, codes, Ok, Option, Some, None, refl, subst, arith, lit≤, add-zero}
 use Rattle.std.proofs.lemmas.Bool.Decides.{nat_tests}
 use Rattle.decimal_text.specs.Fixed.{are_blank}
 use Rattle.rinex_head.specs.declared.system.System.{System}

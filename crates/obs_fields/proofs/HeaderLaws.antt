@@ -1,5 +1,5 @@
 -- Rules that read a header. The lines of a header by the form are taken.
-use Rattle.std.proofs.Common.{◌≡◌, ◌≤◌, ◌+◌, ℕ, ℤ, pos, suc, List, [], ◌∷◌, ◌++◌, length, Result, Ok, Err, Option, Some, None, refl, ap, ◌∙◌, arith, append_assoc, add-zero}
+use Rattle.std.proofs.Common.{◌≡◌, ◌+◌, ℕ, ℤ, pos, suc, List, [], ◌∷◌, ◌++◌, length, Result, Ok, Option, Some, None, refl, ap, ◌∙◌, arith, append_assoc, add-zero}
 use Rattle.rinex_head.specs.declared.place.Flaw.{Flaw}
 use Rattle.rinex_head.specs.declared.system.System.{System}
 use Rattle.rinex_head.specs.Places.{and_then, flawed}

@@ -1,5 +1,5 @@
 -- What one line of a header gives in its place.
-use Rattle.std.proofs.Common.{◌≡◌, ◌<◌, ◌≤◌, ◌+◌, ℕ, zero, suc, List, length, Result, Ok, Err, Option, Some, None, refl, arith, subst}
+use Rattle.std.proofs.Common.{◌≡◌, ◌<◌, ◌≤◌, ◌+◌, ℕ, zero, suc, List, length, Ok, Option, Some, None, refl, arith, subst}
 use Rattle.rinex_head.specs.declared.place.What.TheVariants.{NoEnd}
 use Rattle.rinex_head.specs.Places.{and_then}
 use Rattle.rinex_head.proofs.TakenLines.{and_then_took, then_holds}

@@ -12,7 +12,7 @@ use Rattle.obs_fields.specs.declared.header_lines.HeaderLine.TheVariants as head
 use Rattle.obs_fields.specs.FirstLine.{first_line_of}
 use Rattle.obs_fields.specs.HeaderLines.{header_line_of}
 use Rattle.obs_fields.specs.Types.{first_types_of, further_types_of}
-use Rattle.obs_fields.specs.HeaderRules.{InHeader, First, Next, AfterLine, Inside, Whole, so_far, bare_header, more_types, whole_header, begun_list, after_line, admit_header, missing_line}
+use Rattle.obs_fields.specs.HeaderRules.{InHeader, First, Next, AfterLine, Inside, Whole, so_far, bare_header, whole_header, begun_list, after_line, admit_header, missing_line}
 use Rattle.obs_fields.specs.HeaderForm.{HeadPart, IsPlain, AreHeadParts, head_lines, position_by, delta_by, last_position, last_delta, AreFurther, IsTypeList, IsHeader}
 use Rattle.obs_fields.proofs.HeaderLaws.{HeaderReader, inside, line_after, types_after, regroup, zero_delta}
 
