@@ -14,16 +14,17 @@ use Rattle.rinex_head.specs.declared.system.System.{System}
 use Rattle.rinex_head.specs.declared.system.System.TheVariants.{Gps, Galileo}
 use Rattle.rinex_head.specs.Columns.{columns}
 use Rattle.rinex_head.specs.Head.{label_of, version_number, version_in}
-use Rattle.rinex_head.specs.Places.{and_then, flawed}
+use Rattle.rinex_head.specs.Places.{flawed}
 use Rattle.rinex_head.specs.FirstFailing.{IsStuck, IsFirstFailing}
 use Rattle.rinex_head.proofs.Stops
-use Rattle.rinex_obs.specs.FirstLine.{of_version, first_line_of}
+use Rattle.obs_fields.specs.declared.layout.Layout.{Layout}
+use Rattle.obs_fields.specs.declared.layout.Layout.TheVariants.{Rinex2, Rinex3}
+use Rattle.obs_fields.specs.FirstLine.{version_2_number, version_2_in, of_version, first_line_of}
 use Rattle.rinex_obs.specs.ObsForm.{IsObsFile, HasObsFile}
 use Rattle.rinex_obs.specs.ObsRules.{obs_rules, obs_of}
 use Rattle.rinex_obs.proofs.FormLaws as laws3
 use Rattle.rinex_obs.proofs.FormTook as took3
 use Rattle.rinex_obs.proofs.FormPlaces as places3
-use Rattle.rinex2_obs.specs.FirstLine as line2
 use Rattle.rinex2_obs.specs.Obs2Form.{IsObs2File, HasObs2File}
 use Rattle.rinex2_obs.specs.Obs2Rules.{obs2_rules, obs2_of}
 use Rattle.rinex2_obs.proofs.FormLaws as laws2
@@ -37,10 +38,6 @@ test_held : {A E : Type 0} (t : Bool) (x v : A) (e : E) → (if t then Ok x else
 test_held true x v e gives = refl
 test_held false x v e gives = absurd cc
 
-first_held : {A B E : Type 0} (t : Bool) (x : A) (e : E) (f : A → Result B E) (v : B) → and_then (if t then Ok x else Err e) f ≡ Ok v → t ≡ true
-first_held true x e f v gives = refl
-first_held false x e f v gives = absurd cc
-
 above_299 : (n : ℕ) → (nat_le 300 n && nat_le n 305) ≡ true → (nat_le 200 n && nat_le n 299) ≡ false
 above_299 n is = grind (arith, nat_tests)
 
@@ -52,19 +49,19 @@ version_3 line (Ok (pos n)) v gives = above_299 n (test_held (nat_le 300 n && na
 version_3 line (Ok (negsuc n)) v gives = refl
 version_3 line (Err fault) v gives = refl
 
-version_2 : (line : List ℕ) (r : Result ℤ NumberFault) (n : ℕ) → and_then (line2.version_number r) (λ hundredths. line2.of_kind line hundredths) ≡ Ok n → is_version_2 r ≡ true
-version_2 line (Ok (pos k)) n gives = within_2 k (first_held (nat_le 210 k && nat_le k 211) k _ (λ hundredths. line2.of_kind line hundredths) n gives)
-version_2 line (Ok (negsuc k)) n gives = absurd cc
-version_2 line (Err fault) n gives = absurd cc
+version_2 : (line : List ℕ) (r : Result ℤ NumberFault) (v : Version) → version_2_number line r ≡ Ok v → is_version_2 r ≡ true
+version_2 line (Ok (pos n)) v gives = within_2 n (test_held (nat_le 210 n && nat_le n 211) _ v _ gives)
+version_2 line (Ok (negsuc n)) v gives = absurd cc
+version_2 line (Err fault) v gives = absurd cc
 
-has_version : (system : System) (r : Result Version Flaw) (n : ℕ) → of_version system r ≡ Ok n → (v : Version) × (r ≡ Ok v)
-has_version system (Ok v) n gives = (v, refl)
-has_version system (Err flaw) n gives = absurd cc
+has_version : (layout : Layout) (system : System) (r : Result Version Flaw) (n : ℕ) → of_version layout system r ≡ Ok n → (v : Version) × (r ≡ Ok v)
+has_version layout system (Ok v) n gives = (v, refl)
+has_version layout system (Err flaw) n gives = absurd cc
 
 -- the first line of a file of RINEX 3
-first_3 : (system : System) (line : List ℕ) (n : ℕ) → first_line_of system line ≡ Ok n → begins_2 line ≡ false
+first_3 : (system : System) (line : List ℕ) (n : ℕ) → first_line_of Rinex3 system line ≡ Ok n → begins_2 line ≡ false
 unfolding first_line_of begins_2
-first_3 system line n gives = let has = has_version system (version_in line) n gives in by_label (bytes_eq (label_of line) (codes "RINEX VERSION / TYPE")) has.1
+first_3 system line n gives = let has = has_version Rinex3 system (version_in line) n gives in by_label (bytes_eq (label_of line) (codes "RINEX VERSION / TYPE")) has.1
   where
     number : Result ℤ NumberFault
     number = fixed_of (columns line 1 9) 2
@@ -74,22 +71,22 @@ first_3 system line n gives = let has = has_version system (version_in line) n g
     by_label {v} false gives = refl
 
 -- and that of one of RINEX 2
-first_2 : (line : List ℕ) (n : ℕ) → line2.first_line_of line ≡ Ok n → begins_2 line ≡ true
-unfolding line2.first_line_of begins_2
-first_2 line n gives = by_label (bytes_eq (label_of line) (codes "RINEX VERSION / TYPE")) gives
+first_2 : (system : System) (line : List ℕ) (n : ℕ) → first_line_of Rinex2 system line ≡ Ok n → begins_2 line ≡ true
+unfolding first_line_of begins_2
+first_2 system line n gives = let has = has_version Rinex2 system (version_2_in line) n gives in by_label (bytes_eq (label_of line) (codes "RINEX VERSION / TYPE")) has.1
   where
     number : Result ℤ NumberFault
     number = fixed_of (columns line 1 9) 2
 
-    by_label : (t : Bool) → (if t then and_then (line2.version_number number) (λ hundredths. line2.of_kind line hundredths) else flawed 1 what.ObsVersion) ≡ Ok n → (t && is_version_2 number) ≡ true
-    by_label true gives = version_2 line number n gives
-    by_label false gives = absurd cc
+    by_label : {v : Version} (t : Bool) → (if t then version_2_number line number else flawed 1 what.ObsVersion) ≡ Ok v → (t && is_version_2 number) ≡ true
+    by_label {v} true gives = version_2 line number v gives
+    by_label {v} false gives = absurd cc
 
 pub is_3 : (system : System) (lines : List (List ℕ)) (file : ObsFile) → IsObsFile system lines file → is_two lines ≡ false
 is_3 system lines file is = rw (is.lines_are, is.is_header.lines_are) (first_3 is.header.system is.is_header.first is.header.hundredths is.is_header.version)
 
 pub is_2 : (lines : List (List ℕ)) (file : ObsFile) → IsObs2File lines file → is_two lines ≡ true
-is_2 lines file is = rw (is.lines_are, is.is_header.lines_are) (first_2 is.is_header.first is.header.hundredths is.is_header.version)
+is_2 lines file is = rw (is.lines_are, is.is_header.lines_are) (first_2 is.header.system is.is_header.first is.header.hundredths is.is_header.version)
 
 -- ---- files and what their lines give
 

@@ -2,5 +2,8 @@ pub mod TypeLists
 pub mod Moments
 pub mod AmountLaws
 pub mod EightDigits
+pub mod HeaderSteps
 pub mod HeaderLaws
+pub mod HeaderTook
+pub mod HeaderEnds
 pub mod FreshNames

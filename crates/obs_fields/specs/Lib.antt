@@ -2,8 +2,12 @@ pub mod Layouts
 pub mod Labels
 pub mod Offsets
 pub mod Types
+pub mod FirstLine
+pub mod HeaderLines
+pub mod HeaderRules
+pub mod HeaderForm
+pub mod OpenHeaders
 pub mod EpochFields
 pub mod Amounts
 pub mod SatFields
-pub mod HeadParts
 pub mod Events

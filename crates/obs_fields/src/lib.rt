@@ -9,27 +9,29 @@
 //! of `set_values` no clause says which of the values are set. Only `kept_types` and `add_kept` take memory, and
 //! their `Err` means that there was none.
 //!
-//! What the lines of a header give after its first one (`HeaderLine`, specs/HeadParts.antt) is the same in both formats.
-//! proofs/HeaderLaws.antt has its laws, for each reader whose rules are `HeadRules`: lines of the form are taken
-//! (`header_given`), and lines that are taken are of the form (`header_took`).
+//! A header is read by `OpenHeader`, a line at a time: `take_line` answers exactly what `admit_header` of specs/HeaderRules.antt
+//! says, and the whole `Header` where the line is its end; after that, and after an `Err`, no clause says what it holds.
+//! `missing` is the reason where a text ends in it. The same as a grammar over the whole list of lines is `IsHeader` of
+//! specs/HeaderForm.antt. The laws of a header, for each reader whose rules have it (`HeaderReader`), are in proofs/: lines
+//! of the form are taken (`header_given` of HeaderLaws.antt), lines that are taken are of the form (`header_took` of
+//! HeaderTook.antt), and whatever may be expected in a header can be completed to a text (`header_done` of HeaderEnds.antt).
 #![tactic(auto)]
 
 mod amounts;
 mod epoch_fields;
-mod header_line;
+mod header;
+mod header_lines;
 mod labels;
 mod layout;
 mod offsets;
+mod open_header;
 mod sat_fields;
 mod types;
 
 pub use epoch_fields::{comes_later, count, moment};
-pub use header_line::HeaderLine;
-pub use labels::{Label, event_line, label_of_line};
+pub use header::Header;
+pub use labels::event_line;
 pub use layout::Layout;
-pub use offsets::{delta, position};
+pub use open_header::OpenHeader;
 pub use sat_fields::{satellite, set_values};
-pub use types::{
-    KeptType, MOST_TYPES, TypeList, TypeNames, add_kept, first_types, further_types, kept_types,
-    listed_types,
-};
+pub use types::{KeptType, TypeNames, add_kept, kept_types, listed_types};

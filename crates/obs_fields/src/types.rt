@@ -5,7 +5,8 @@ ghost use Rattle.rinex_head.specs.Fields.{whole_of};
 ghost use Rattle.obs_fields.specs.Layouts.{first_name_of, name_in, types_column_of, types_count_in, further_mark_in};
 ghost use Rattle.obs_fields.specs.Types.{is_listed, names_from, with_line, count_from, first_types_of, further_types_of, keeps, kept_type_in, kept_at, kept_from, is_kept_name, listed_of};
 
-use crate::{Label, Layout, label_of_line};
+use crate::Layout;
+use crate::labels::{Label, label_of_line};
 use arrayvec::ArrayVec;
 use decimal_text::all_blank;
 use line_source::Line;

@@ -1,5 +1,5 @@
 -- What the lines give is what the grammar says.
-use Rattle.std.proofs.Common.{◌≡◌, ◌+◌, ◌-◌, ℕ, suc, pos, Bool, false, List, [], ◌∷◌, ◌++◌, length, Ok, Option, Some, None, refl, sym, ap, ◌∙◌, arith, append_assoc, add-zero, length-append}
+use Rattle.std.proofs.Common.{◌≡◌, ◌+◌, ◌-◌, ℕ, suc, Bool, false, List, [], ◌∷◌, ◌++◌, length, Ok, Option, Some, None, refl, sym, ap, ◌∙◌, arith, append_assoc, add-zero, length-append}
 use Rattle.std.proofs.lemmas.List.{append-nil}
 use Rattle.gps_time.specs.declared.Tick.{Tick}
 use Rattle.obs_store.specs.declared.file.ObsFile.{ObsFile}
@@ -8,20 +8,22 @@ use Rattle.obs_store.specs.declared.series.Epoch.{Epoch}
 use Rattle.obs_store.specs.declared.values.Value.{Value}
 use Rattle.obs_store.specs.declared.values.SatObs.{SatObs}
 use Rattle.obs_store.specs.Missing.{missing_values}
+use Rattle.rinex_head.specs.declared.system.System.{System}
+use Rattle.rinex_head.specs.declared.system.System.TheVariants.{Gps}
 use Rattle.rinex_head.specs.LineRules.{walk}
 use Rattle.rinex_head.proofs.LineRuleLaws.{walk-takes, walk-end}
 use Rattle.rinex2_obs.specs.Profile.{kept_of}
 use Rattle.rinex2_obs.specs.Rows.{rows_of}
-use Rattle.rinex2_obs.specs.declared.header.Header.{Header}
-use Rattle.rinex2_obs.specs.Obs2Rules.{First, Head, Body, Skip, so_far, bare_header, whole_header, file_of, more_sats, more_names, more_rows, more_lines, more_slips, with_satellite, admit, obs2_rules}
-use Rattle.obs_fields.specs.HeadParts.{head_lines, last_position, last_delta}
+use Rattle.obs_fields.specs.declared.header.Header.{Header}
+use Rattle.obs_fields.specs.HeaderRules.{First}
+use Rattle.rinex2_obs.specs.Obs2Rules.{Head, Body, Skip, file_of, more_sats, more_names, more_rows, more_lines, more_slips, with_satellite, admit, obs2_rules}
 use Rattle.obs_fields.specs.declared.layout.Layout.TheVariants.{Rinex2}
 use Rattle.obs_fields.specs.Events.{AreEventLines}
 use Rattle.rinex2_obs.specs.EpochLines.{epoch_line_of}
 use Rattle.rinex2_obs.specs.declared.epoch_lines.EpochLine.TheVariants as line
-use Rattle.obs_fields.proofs.HeaderLaws.{regroup, header_given}
-use Rattle.rinex2_obs.specs.Obs2Form.{IsHeader, SatPart, Part, Blank, Event, Slips, Epoch_, AreFurtherNames, AreRows, AreSats, numbers_of, sat_lines, if_of_gps, satellites_of, AreMarked, AreShort, epoch_in_part, AreParts, epochs_of, body_lines, IsObs2File}
-use Rattle.rinex2_obs.proofs.Headers.{head_rules}
+use Rattle.obs_fields.proofs.HeaderLaws.{header_given}
+use Rattle.rinex2_obs.specs.Obs2Form.{SatPart, Part, Blank, Event, Slips, Epoch_, AreFurtherNames, AreRows, AreSats, numbers_of, sat_lines, if_of_gps, satellites_of, AreMarked, AreShort, epoch_in_part, AreParts, epochs_of, body_lines, IsObs2File}
+use Rattle.rinex2_obs.proofs.Headers.{header_reader}
 use Rattle.rinex2_obs.proofs.Steps.{admit_names, rows_begin, rows_all, admit_rows, admit_slips, admit_skipped, one_satellite}
 
 -- the lines of an event are taken
@@ -139,32 +141,10 @@ parts_taken (Epoch_ p ∷ parts) h epochs n are =
     ∙ parts_taken parts h (epochs ++ epoch_in_part p ∷ []) (n + 1 + further_count + length lines) are.1
     ∙ rw (append_assoc epochs (epoch_in_part p ∷ []) (epochs_of parts)) refl
 
--- a header is taken, whatever follows it
-record TookWhole (lines more : List (List ℕ)) (h : Header) : Type 0 where
-  number : ℕ
-  gives : walk obs2_rules (lines ++ more) 0 First ≡ walk obs2_rules more number (Body h [])
-
-header_taken : (lines more : List (List ℕ)) (h : Header) → IsHeader lines h → TookWhole lines more h
-header_taken lines more h is =
-    let version = bare_header h.hundredths in
-    let zero_delta = pos 0 ∷ pos 0 ∷ pos 0 ∷ [] in
-    let behind_first = head_lines is.before ++ (is.list ∷ (is.further ++ (head_lines is.after ++ (is.last ∷ more)))) in
-    let first_admits : admit First is.first ≡ Ok (Head version) = rw (is.version) refl in
-    let all = so_far h.hundredths (last_position (last_position None is.before) is.after) (last_delta (last_delta zero_delta is.before) is.after) (Some h.types) in
-    let whole : whole_header all h.types ≡ h = rw (← is.position, ← is.delta) refl in
-    let number = 0 + 1 + length is.before + 1 + length is.further + length is.after + 1 in
-    record {
-      number = number;
-      gives = ap (λ (l : List (List ℕ)). walk obs2_rules (l ++ more) 0 First) is.lines_are
-          ∙ ap (λ (l : List (List ℕ)). walk obs2_rules (is.first ∷ l) 0 First) (regroup (head_lines is.before) is.list is.further (head_lines is.after) is.last more)
-          ∙ walk-takes obs2_rules First (Head version) is.first behind_first 0 is.first_short first_admits
-          ∙ header_given (head_rules h.hundredths) is.before is.after is.list is.last is.further more h.types None zero_delta (0 + 1) is.before_are is.types is.after_are is.last_short is.ends
-          ∙ ap (λ (w : Header). walk obs2_rules more number (Body w [])) whole;
-    }
-
 -- a file of the grammar is what its lines give
-pub file_given : (lines : List (List ℕ)) (file : ObsFile) → IsObs2File lines file → walk obs2_rules lines 0 First ≡ Ok file
+pub file_given : (lines : List (List ℕ)) (file : ObsFile) → IsObs2File lines file → walk obs2_rules lines 0 (Head (First Gps)) ≡ Ok file
 file_given lines file is =
-    let head = header_taken is.header_lines (body_lines is.parts) is.header is.is_header in
-    ap (λ (l : List (List ℕ)). walk obs2_rules l 0 First) is.lines_are
-    ∙ head.gives ∙ parts_taken is.parts is.header [] head.number is.are_parts ∙ ap (λ (f : ObsFile). Ok f) (sym is.file_is)
+    let head = header_given header_reader is.header_lines (body_lines is.parts) is.header is.is_header in
+    ap (λ (l : List (List ℕ)). walk obs2_rules l 0 (Head (First Gps))) is.lines_are
+    ∙ ap (λ (s : System). walk obs2_rules (is.header_lines ++ body_lines is.parts) 0 (Head (First s))) (sym is.of_gps)
+    ∙ head.1 ∙ parts_taken is.parts is.header [] head.0 is.are_parts ∙ ap (λ (f : ObsFile). Ok f) (sym is.file_is)

@@ -16,26 +16,21 @@ use Rattle.rinex_head.specs.Head.{trimmed}
 use Rattle.rinex_head.specs.LineRules.{text_gives, Gives}
 use Rattle.rinex_head.specs.FirstFailing.{IsFileOf}
 use Rattle.rinex_head.proofs.Stops.{Completes, CanEnd, is_line, with_line, with_end}
-use Rattle.obs_fields.specs.declared.labels.Label.TheVariants as label
 use Rattle.obs_fields.specs.declared.layout.Layout.TheVariants.{Rinex2}
 use Rattle.obs_fields.specs.declared.types.KeptType.{KeptType}
 use Rattle.obs_fields.specs.Labels.{label_in, event_line_of}
-use Rattle.obs_fields.specs.Types.{is_listed, names_from}
 use Rattle.obs_fields.specs.SatFields.{satellite_at, amount_in, value_in, values_in}
-use Rattle.rinex2_obs.specs.FirstLine.{first_line_of}
-use Rattle.rinex2_obs.specs.HeaderLines.{header_line_of}
 use Rattle.rinex2_obs.specs.Profile.{kept_of}
 use Rattle.rinex2_obs.specs.SatNames
 use Rattle.rinex2_obs.specs.SatNames.{further_mark_of}
 use Rattle.rinex2_obs.specs.Rows.{rows_of, row_of}
-use Rattle.rinex2_obs.specs.declared.header.Header.{Header}
-use Rattle.obs_fields.specs.declared.header_line.HeaderLine.TheVariants as header
-use Rattle.rinex2_obs.specs.Obs2Rules.{HeaderSoFar, Expected, First, Head, More, Body, Names, Row, Further, Skip, bare_header, with_types, whole_header, file_of, more_types, more_sats, more_names, more_rows, more_lines, more_slips, with_satellite, admit, obs2_rules}
+use Rattle.obs_fields.specs.declared.header.Header.{Header}
+use Rattle.rinex2_obs.specs.Obs2Rules.{Expected, Head, Body, Names, Row, Further, Skip, file_of, more_sats, more_names, more_rows, more_lines, more_slips, with_satellite, admit, obs2_rules}
 use Rattle.rinex2_obs.specs.Obs2Form.{IsObs2File, HasObs2File}
-use Rattle.obs_fields.proofs.FreshNames.{AreApart, fresh, below_fresh, not_listed, a_first_byte, names_counted}
-use Rattle.obs_fields.specs.declared.types.TheConstants.{MOST_TYPES}
+use Rattle.obs_fields.proofs.HeaderEnds.{header_done}
+use Rattle.rinex2_obs.proofs.Headers.{header_reader}
 use Rattle.rinex2_obs.proofs.ListedTypes.{Holds, kept}
-use Rattle.rinex2_obs.proofs.Steps.{types_there, rows_due, rows_all}
+use Rattle.rinex2_obs.proofs.Steps.{rows_due, rows_all}
 use Rattle.rinex2_obs.proofs.FormLaws.{file_given}
 use Rattle.rinex2_obs.proofs.FormTook.{file_took}
 
@@ -175,140 +170,8 @@ slips_done h epochs (suc k) rows =
     let next : ℕ → Result Expected Flaw = λ j. Ok (more_slips h epochs j rows) in
     with_line obs2_rules (Further h epochs (suc k) rows) (more_slips h epochs k rows) [] refl (lit≤ tt) (empty_mark h epochs (suc k) rows ∙ ap next one_less) (slips_done h epochs k rows)
 
--- ---- the header
-
-abbrev end_line : List ℕ
-end_line = codes "                                                            END OF HEADER"
-
-abbrev types_line : List ℕ
-types_line = codes "     1    C1                                                # / TYPES OF OBSERV"
-
-abbrev version_line : List ℕ
-version_line = codes "     2.11           OBSERVATION DATA    G                   RINEX VERSION / TYPE"
-
-end_line-says : header_line_of end_line ≡ Ok header.End
-unfolding header_line_of label_in trimmed
-end_line-says = refl
-
-types_line-says : header_line_of types_line ≡ Ok header.Types
-unfolding header_line_of label_in trimmed
-types_line-says = refl
-
-version_line-says : first_line_of version_line ≡ Ok 211
-unfolding first_line_of trimmed padded
-version_line-says = refl
-
-listed_done : (h : HeaderSoFar) (types : List (List ℕ)) → h.types ≡ Some types → Completes obs2_rules (Head h)
-listed_done h types e =
-    let admits : admit (Head h) end_line ≡ Ok (Body (whole_header h types) []) = rw end_line-says (types_there h end_line types e) in
-    with_line obs2_rules (Head h) (Body (whole_header h types) []) end_line refl (lit≤ tt) admits (body_done (whole_header h types) [])
-
-abbrev one_name : List (List ℕ)
-one_name = codes "C1 " ∷ []
-
-one_type : (h : HeaderSoFar) → h.types ≡ None → admit (Head h) types_line ≡ Ok (Head (with_types h one_name))
-unfolding names_from is_listed padded
-one_type h e = rw (types_line-says, e) refl
-
-head_done : (h : HeaderSoFar) → Completes obs2_rules (Head h)
-head_done h = by_types h.types refl
-  where
-    by_types : (t : Option (List (List ℕ))) → h.types ≡ t → Completes obs2_rules (Head h)
-    by_types (Some types) e = listed_done h types e
-    by_types None e = with_line obs2_rules (Head h) (Head (with_types h one_name)) types_line refl (lit≤ tt) (one_type h e) (listed_done (with_types h one_name) one_name refl)
-
--- ---- further types: names that aren't listed yet, all with the same first byte
-
--- four blanks and a name of two letters from that second one on, then the label
-abbrev fields : ℕ → ℕ → ℕ → List ℕ
-fields c x zero = codes "# / TYPES OF OBSERV"
-fields c x (suc m) = 32 ∷ 32 ∷ 32 ∷ 32 ∷ c ∷ x ∷ fields c (x + 1) m
-
-abbrev fresh_line : ℕ → List ℕ
-fresh_line c = codes "      " ++ fields c 48 9
-
-fresh_line-label : (c : ℕ) → label_in Rinex2 (fresh_line c) ≡ label.Types
-unfolding label_in trimmed
-fresh_line-label c = refl
-
-fresh_line-bytes : (c : ℕ) → 48 ≤ c → c < 256 → is_line (fresh_line c) ≡ true
-fresh_line-bytes c from below =
-    let byte : nat_lt c 256 ≡ true = grind (arith, nat_tests) in
-    let other : (c == 10) ≡ false = grind (arith, nat_tests) in
-    rw (byte, other) refl
-
--- the fields from name number j on
-fields_from : (c x j m k : ℕ) → j + suc m ≡ k → drop (4 + 6 * j) (fields c x k) ≡ c ∷ (x + j) ∷ fields c (x + j + 1) m
-fields_from c x zero m k is =
-    let here : x + 0 ≡ x = add-zero x in
-    let same : k ≡ suc m = omega (arith, is) in
-    rw (here, same) refl
-fields_from c x (suc j) m zero is = absurd (omega (arith, is))
-fields_from c x (suc j) m (suc k) is =
-    let six : 4 + 6 * suc j ≡ suc (suc (suc (suc (suc (suc (4 + 6 * j)))))) = omega arith in
-    let same : x + suc j ≡ x + 1 + j = omega arith in
-    rw (six, same) (fields_from c (x + 1) j m k (omega (arith, is)))
-
-fresh_name : (c j m : ℕ) → j + suc m ≡ 9 → columns (fresh_line c) (11 + 6 * j) 2 ≡ c ∷ (48 + j) ∷ []
-unfolding padded
-fresh_name c j m is =
-    let place_is : 11 + 6 * j - 1 ≡ suc (suc (suc (suc (suc (suc (4 + 6 * j)))))) = omega arith in
-    rw (place_is, fields_from c 48 j m 9 is) refl
-
--- m names from number j on are taken
-types_taken : (c j m : ℕ) (names : List (List ℕ)) → j + m ≤ 9 → AreApart c (48 + j) names → (all : List (List ℕ)) × (names_from Rinex2 (fresh_line c) (11 + 6 * j) m names ≡ Ok all)
-unfolding names_from
-types_taken c j zero names few are = (names, refl)
-types_taken c j (suc m) names few are =
-    let left = 9 - j - 1 in
-    let name : columns (fresh_line c) (11 + 6 * j) 2 ≡ c ∷ (48 + j) ∷ [] = fresh_name c j left (omega arith) in
-    let next : 11 + 6 * j + 6 ≡ 11 + 6 * (j + 1) = omega arith in
-    let place_after : 48 + j + 1 ≡ 48 + (j + 1) = omega arith in
-    let below : AreApart c (48 + (j + 1)) (names ++ fresh c (48 + j) ∷ []) = subst (λ (y : ℕ). AreApart c y (names ++ fresh c (48 + j) ∷ [])) place_after (below_fresh c (48 + j) names are) in
-    let rest = types_taken c (j + 1) m (names ++ fresh c (48 + j) ∷ []) (omega arith) below in
-    (rest.0, rw (name, not_listed c (48 + j) names are, next) rest.1)
-
--- a line of names that aren't listed yet
-record FreshLine (h : HeaderSoFar) (names : List (List ℕ)) (n : ℕ) : Type 0 where
-  line : List ℕ
-  bytes : is_line line ≡ true
-  short : length line ≤ 4096
-  all : List (List ℕ)
-  few : length all + (n - 9) ≤ 200
-  admits : admit (More h names n) line ≡ Ok (more_types h all (n - 9))
-
-more_step : (h : HeaderSoFar) (names : List (List ℕ)) (n : ℕ) → length names + n ≤ MOST_TYPES → FreshLine h names n
-unfolding padded
-more_step h names n few =
-    let first = a_first_byte names (omega (arith, few)) in
-    let byte = first.byte in
-    let taken = types_taken byte 0 (min 9 n) names (omega arith) first.apart in
-    let counted = names_counted Rinex2 (fresh_line byte) 11 (min 9 n) names taken.0 taken.1 in
-    record {
-      line = fresh_line byte;
-      bytes = fresh_line-bytes byte first.from first.below;
-      short = lit≤ tt;
-      all = taken.0;
-      few = omega (arith, counted, few);
-      admits = rw (fresh_line-label byte, taken.1) refl;
-    }
-
-more_done : (fuel : ℕ) (h : HeaderSoFar) (names : List (List ℕ)) (n : ℕ) → n ≤ fuel → length names + n ≤ MOST_TYPES → Completes obs2_rules (more_types h names n)
-more_done fuel h names zero le few = head_done (with_types h names)
-more_done zero h names (suc k) le few = absurd (omega (arith, le))
-more_done (suc fuel) h names (suc k) le few =
-    let step = more_step h names (suc k) few in
-    with_line obs2_rules (More h names (suc k)) (more_types h step.all (suc k - 9)) step.line step.bytes step.short step.admits
-    (more_done fuel h step.all (suc k - 9) (omega (arith, le)) step.few)
-
 completed : (s : Expected) → Holds s → Completes obs2_rules s
-completed First holds =
-    let admits : admit First version_line ≡ Ok (Head (bare_header 211)) = rw version_line-says refl in
-    with_line obs2_rules First (Head (bare_header 211)) version_line refl (lit≤ tt) admits (head_done (bare_header 211))
-completed (Head h) holds = head_done h
-completed (More h names n) holds =
-    let step = more_step h names n holds in
-    with_line obs2_rules (More h names n) (more_types h step.all (n - 9)) step.line step.bytes step.short step.admits (more_done (n - 9) h step.all (n - 9) (omega arith) step.few)
+completed (Head s) holds = header_done header_reader (λ h. body_done h []) s holds
 completed (Body h epochs) holds = body_done h epochs
 completed (Names h epochs tag power names n) holds =
     let step = names_step h epochs tag power names n in

@@ -1,5 +1,5 @@
 -- Lines that give a file are one of the grammar.
-use Rattle.std.proofs.Common.{◌≡◌, ◌≤◌, ◌<◌, ◌+◌, ◌-◌, ◌*◌, ℕ, zero, suc, pos, nat_lt, Bool, true, false, List, [], ◌∷◌, ◌++◌, length, Result, Ok, Err, Option, Some, None, refl, sym, ap, ◌∙◌, subst, arith, append_assoc}
+use Rattle.std.proofs.Common.{◌≡◌, ◌≤◌, ◌<◌, ◌+◌, ◌-◌, ◌*◌, ℕ, zero, suc, nat_lt, Bool, true, false, List, [], ◌∷◌, ◌++◌, length, Result, Ok, Err, Option, Some, None, refl, sym, ap, ◌∙◌, subst, arith, append_assoc}
 use Rattle.std.proofs.lemmas.List.{append-nil}
 use Rattle.std.proofs.lemmas.Bool.Decides.{nat_tests}
 use Rattle.gps_time.specs.declared.Tick.{Tick}
@@ -10,29 +10,29 @@ use Rattle.obs_store.specs.declared.values.Value.{Value}
 use Rattle.obs_store.specs.declared.values.SatObs.{SatObs}
 use Rattle.obs_store.specs.Missing.{missing_values}
 use Rattle.rinex_head.specs.declared.place.What.{What}
-use Rattle.rinex_head.specs.declared.place.What.TheVariants.{ObsVersion, Truncated}
+use Rattle.rinex_head.specs.declared.place.What.TheVariants.{Truncated}
 use Rattle.rinex_head.specs.declared.place.Flaw.{Flaw}
 use Rattle.rinex_head.specs.Places.{and_then, flawed, at_line}
+use Rattle.rinex_head.specs.declared.system.System.TheVariants.{Gps}
 use Rattle.rinex_head.specs.LineRules.{walk}
 use Rattle.rinex_head.proofs.LineRuleLaws.{walk-end, TookLine, walk-took}
 use Rattle.obs_fields.specs.declared.layout.Layout.TheVariants.{Rinex2}
 use Rattle.obs_fields.specs.Events.{EventPart, AreEventLines}
 use Rattle.obs_fields.specs.Labels.{event_line_of}
-use Rattle.rinex2_obs.specs.FirstLine.{first_line_of}
 use Rattle.rinex2_obs.specs.Profile.{kept_of}
 use Rattle.rinex2_obs.specs.SatNames.{further_mark_of, further_names_of}
 use Rattle.rinex2_obs.specs.EpochLines.{epoch_line_of}
 use Rattle.rinex2_obs.specs.Rows.{rows_of, further_lines_of, row_of}
 use Rattle.rinex2_obs.specs.declared.sat_names.NameList.{NameList}
-use Rattle.rinex2_obs.specs.declared.header.Header.{Header}
+use Rattle.obs_fields.specs.declared.header.Header.{Header}
 use Rattle.rinex2_obs.specs.declared.epoch_lines.EpochLine.{EpochLine}
 use Rattle.rinex2_obs.specs.declared.epoch_lines.EpochLine.TheVariants as line
-use Rattle.rinex2_obs.specs.Obs2Rules.{Expected, First, Head, Body, Names, Row, Further, Skip, so_far, bare_header, whole_header, file_of, more_sats, more_names, more_rows, more_lines, more_slips, after_epoch, with_satellite, obs2_rules}
-use Rattle.obs_fields.specs.HeadParts.{head_lines, last_position, last_delta}
-use Rattle.obs_fields.proofs.HeaderLaws.{regroup, header_took}
+use Rattle.obs_fields.specs.HeaderRules.{First}
+use Rattle.rinex2_obs.specs.Obs2Rules.{Expected, Head, Body, Names, Row, Further, Skip, file_of, more_sats, more_names, more_rows, more_lines, more_slips, after_epoch, with_satellite, obs2_rules}
+use Rattle.obs_fields.proofs.HeaderTook.{header_took}
 use Rattle.rinex2_obs.specs.Obs2Form.{SatPart, EpochPart, SlipsPart, Part, Blank, Event, Slips, Epoch_, AreFurtherNames, AreRows, AreSats, numbers_of, sat_lines, satellites_of, AreMarked, AreShort, AreParts, epochs_of, body_lines, IsObs2File}
 use Rattle.rinex2_obs.proofs.Steps.{rows_due, rows_all, one_satellite}
-use Rattle.rinex2_obs.proofs.Headers.{head_rules}
+use Rattle.rinex2_obs.proofs.Headers.{header_reader}
 
 -- ---- the body
 
@@ -378,49 +378,17 @@ took (bytes ∷ lines) = record {
 
 -- ---- the file
 
-pub file_took : (lines : List (List ℕ)) (file : ObsFile) → walk obs2_rules lines 0 First ≡ Ok file → IsObs2File lines file
-file_took [] file gives = absurd (no_file 0 ObsVersion file (sym (walk-end obs2_rules First 0) ∙ gives))
-file_took (bytes ∷ lines) file gives = by_part (first_line_of bytes) refl first.admits
-  where
-    first : TookLine obs2_rules First bytes lines 0 file
-    first = walk-took obs2_rules First bytes lines 0 file gives
-
-    by_part : (r : Result ℕ Flaw) → first_line_of bytes ≡ r → and_then r (λ hundredths. Ok (Head (bare_header hundredths))) ≡ Ok first.next → IsObs2File (bytes ∷ lines) file
-    by_part (Ok v) is_read gives =
-        let next : Head (bare_header v) ≡ first.next = cc (gives) in
-        let zero_delta = pos 0 ∷ pos 0 ∷ pos 0 ∷ [] in
-        let head = header_took (head_rules v) lines None zero_delta (0 + 1) file (subst (λ (s : Expected). walk obs2_rules lines (0 + 1) s ≡ Ok file) (sym next) first.others) in
-        let end = head.end in
-        let header = whole_header (so_far v (last_position (last_position None head.before) end.after) (last_delta (last_delta zero_delta head.before) end.after) (Some head.types)) head.types in
-        let body = (took end.rest).body header [] end.number file end.gives in
-        let header_lines = bytes ∷ (head_lines head.before ++ (head.list ∷ (head.further ++ (head_lines end.after ++ (end.last ∷ []))))) in
-        let grouped = ap (λ (l : List (List ℕ)). bytes ∷ l) (regroup (head_lines head.before) head.list head.further (head_lines end.after) end.last (body_lines body.parts)) in
-        let tail_is = end.lines_are ∙ ap (λ (l : List (List ℕ)). head_lines end.after ++ (end.last ∷ l)) body.lines_are in
-        let lines_are = ap (λ (l : List (List ℕ)). bytes ∷ l) (head.lines_are ∙ ap (λ (l : List (List ℕ)). head_lines head.before ++ (head.list ∷ (head.further ++ l))) tail_is) in
-        record {
-          header_lines = header_lines;
-          header = header;
-          parts = body.parts;
-          lines_are = lines_are ∙ sym grouped;
-          is_header = record {
-            first = bytes;
-            before = head.before;
-            list = head.list;
-            further = head.further;
-            after = end.after;
-            last = end.last;
-            lines_are = refl;
-            first_short = first.short;
-            version = is_read;
-            before_are = head.are;
-            types = head.is_list;
-            after_are = end.are;
-            last_short = end.last_short;
-            ends = end.ends;
-            position = refl;
-            delta = refl;
-          };
-          are_parts = body.each;
-          file_is = body.whole_is;
-        }
-    by_part (Err flaw) is_read gives = absurd cc
+pub file_took : (lines : List (List ℕ)) (file : ObsFile) → walk obs2_rules lines 0 (Head (First Gps)) ≡ Ok file → IsObs2File lines file
+file_took lines file gives =
+    let head = header_took header_reader Gps lines file gives in
+    let body = (took head.rest).body head.header [] head.number file head.gives in
+    record {
+      header_lines = head.header_lines;
+      header = head.header;
+      parts = body.parts;
+      lines_are = head.lines_are ∙ ap (λ (l : List (List ℕ)). head.header_lines ++ l) body.lines_are;
+      is_header = head.is_header;
+      of_gps = head.of_system;
+      are_parts = body.each;
+      file_is = body.whole_is;
+    }

@@ -1,30 +1,15 @@
--- The rules of a header, to which the laws of headers apply.
-use Rattle.std.proofs.Common.{ℕ, [], None, Some, refl}
+-- The rules have a header in them, so that the laws of headers apply.
+use Rattle.std.proofs.Common.{refl}
 use Rattle.obs_store.specs.declared.file.ObsFile.{ObsFile}
 use Rattle.obs_fields.specs.declared.layout.Layout.TheVariants.{Rinex2}
-use Rattle.obs_fields.proofs.HeaderLaws.{HeadRules}
-use Rattle.rinex2_obs.specs.HeaderLines.{header_line_of}
-use Rattle.rinex2_obs.specs.Obs2Rules.{Expected, Head, Body, so_far, whole_header, more_types, after_header, obs2_rules}
+use Rattle.obs_fields.proofs.HeaderLaws.{HeaderReader}
+use Rattle.rinex2_obs.specs.Obs2Rules.{Expected, after_header, obs2_rules}
 
-abbrev pub head_rules : ℕ → HeadRules Expected ObsFile
-head_rules hundredths = record {
+abbrev pub header_reader : HeaderReader Expected ObsFile
+header_reader = record {
   rules = obs2_rules;
   layout = Rinex2;
-  meaning_of = header_line_of;
-  head = λ p d t. Head (so_far hundredths p d t);
-  due = λ p d names left. more_types (so_far hundredths p d None) names left;
-  body = λ p d types. Body (whole_header (so_far hundredths p d (Some types)) types) [];
-  next = λ p d t bytes l. after_header (so_far hundredths p d t) bytes l;
-  admits = λ p d t bytes. refl;
-  placed = λ p d t bytes q. refl;
-  moved = λ p d t bytes e. refl;
-  skipped = λ p d t bytes. refl;
-  begins = λ p d bytes. refl;
-  once = λ p d types bytes s same. cc;
-  ends = λ p d types bytes. refl;
-  listed = λ p d bytes s same. cc;
-  further = λ p d names left bytes. refl;
-  all_there = λ p d names. refl;
-  no_end = λ p d t. refl;
-  no_types = λ p d names left. refl;
+  after = λ l. after_header l;
+  admits = λ s bytes. refl;
+  missing = λ s. refl;
 }

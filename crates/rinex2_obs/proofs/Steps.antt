@@ -1,12 +1,12 @@
 -- What one line gives in its place.
-use Rattle.std.proofs.Common.{◌≡◌, ◌≤◌, ◌<◌, ◌-◌, ◌+◌, ℕ, zero, suc, nat_lt, Bool, true, false, List, [], ◌∷◌, ◌++◌, Result, Ok, Err, Option, Some, None, refl, sym, ◌∙◌, arith, is_some, append_assoc}
+use Rattle.std.proofs.Common.{◌≡◌, ◌≤◌, ◌<◌, ◌-◌, ◌+◌, ℕ, zero, suc, nat_lt, Bool, true, false, List, [], ◌∷◌, ◌++◌, Result, Ok, Err, Option, Some, None, refl, sym, ◌∙◌, arith, append_assoc}
 use Rattle.std.proofs.lemmas.Bool.Decides.{nat_tests}
 use Rattle.gps_time.specs.declared.Tick.{Tick}
 use Rattle.obs_store.specs.declared.series.Epoch.{Epoch}
 use Rattle.obs_store.specs.declared.values.Value.{Value}
 use Rattle.obs_store.specs.declared.values.SatObs.{SatObs}
 use Rattle.obs_store.specs.Missing.{missing_values}
-use Rattle.rinex_head.specs.declared.place.What.TheVariants.{NoEnd, Types, Truncated}
+use Rattle.rinex_head.specs.declared.place.What.TheVariants.{Truncated}
 use Rattle.line_source.specs.Lines.{Reading}
 use Rattle.rinex_head.specs.declared.place.TextFault.{TextFault}
 use Rattle.rinex_head.specs.Places.{and_then, flawed}
@@ -16,47 +16,12 @@ use Rattle.obs_fields.specs.declared.layout.Layout.TheVariants.{Rinex2}
 use Rattle.obs_fields.specs.declared.types.KeptType.{KeptType}
 use Rattle.obs_fields.specs.SatFields.{values_in}
 use Rattle.obs_fields.specs.Labels.{event_line_of}
-use Rattle.obs_fields.specs.Types.{first_types_of, further_types_of}
 use Rattle.rinex2_obs.specs.Profile.{kept_of}
 use Rattle.rinex2_obs.specs.Rows.{rows_of, row_of}
 use Rattle.rinex2_obs.specs.SatNames.{further_mark_of, further_names_of}
-use Rattle.rinex2_obs.specs.declared.header.Header.{Header}
-use Rattle.obs_fields.specs.declared.header_line.HeaderLine.TheVariants as header
-use Rattle.rinex2_obs.specs.Obs2Rules.{HeaderSoFar, Expected, Body, Row, Skip, more_types, more_sats, more_names, more_rows, more_lines, more_slips, with_satellite, whole_header, after_header, admit, finish, obs2_rules}
+use Rattle.obs_fields.specs.declared.header.Header.{Header}
+use Rattle.rinex2_obs.specs.Obs2Rules.{Expected, Body, Row, Skip, more_sats, more_names, more_rows, more_lines, more_slips, with_satellite, admit, finish, obs2_rules}
 use Rattle.rinex2_obs.specs.Obs2Form.{if_of_gps}
-
--- ---- the header
-
-pub finish_more : (h : HeaderSoFar) (names : List (List ℕ)) (n : ℕ) → finish (more_types h names n) ≡ flawed 1 NoEnd
-finish_more h names zero = refl
-finish_more h names (suc n) = refl
-
-pub admit_more : (h : HeaderSoFar) (names : List (List ℕ)) (n : ℕ) (bytes : List ℕ) → 0 < n
-    → admit (more_types h names n) bytes ≡ and_then (further_types_of Rinex2 bytes names n) (λ list. Ok (more_types h list.names list.left))
-admit_more h names zero bytes some = absurd (omega arith)
-admit_more h names (suc n) bytes some = refl
-
-pub types_twice : (h : HeaderSoFar) (bytes : List ℕ) → is_some h.types ≡ true → after_header h bytes header.Types ≡ flawed 1 Types
-types_twice h bytes is = by_types h.types refl is
-  where
-    by_types : (t : Option (List (List ℕ))) → h.types ≡ t → is_some t ≡ true → after_header h bytes header.Types ≡ flawed 1 Types
-    by_types None e is = absurd cc
-    by_types (Some names) e is = rw e refl
-
-pub types_once : (h : HeaderSoFar) (bytes : List ℕ) → is_some h.types ≡ false
-    → after_header h bytes header.Types ≡ and_then (first_types_of Rinex2 bytes) (λ list. Ok (more_types h list.names list.left))
-types_once h bytes is = by_types h.types refl is
-  where
-    by_types : (t : Option (List (List ℕ))) → h.types ≡ t → is_some t ≡ false
-        → after_header h bytes header.Types ≡ and_then (first_types_of Rinex2 bytes) (λ list. Ok (more_types h list.names list.left))
-    by_types None e is = rw e refl
-    by_types (Some names) e is = absurd cc
-
-pub types_missing : (h : HeaderSoFar) (bytes : List ℕ) → h.types ≡ None → after_header h bytes header.End ≡ flawed 1 Types
-types_missing h bytes e = rw e refl
-
-pub types_there : (h : HeaderSoFar) (bytes : List ℕ) (types : List (List ℕ)) → h.types ≡ Some types → after_header h bytes header.End ≡ Ok (Body (whole_header h types) [])
-types_there h bytes types e = rw e refl
 
 -- ---- the names and the lines of satellites
 

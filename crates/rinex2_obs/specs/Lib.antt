@@ -1,5 +1,3 @@
-pub mod FirstLine
-pub mod HeaderLines
 pub mod Profile
 pub mod SatNumbers
 pub mod SatNames

@@ -1,5 +1,5 @@
 -- A RINEX 2 observation file as a grammar over the whole list of its lines: a header, then blank lines, epochs and events.
-use Rattle.std.specs.Prelude.{◌≡◌, ℕ, pos, ◌<◌, ◌≤◌, ◌+◌, ◌*◌, List, [], ◌∷◌, ◌++◌, length, map, Bool, Ok, None, Some}
+use Rattle.std.specs.Prelude.{◌≡◌, ℕ, ◌<◌, ◌≤◌, ◌+◌, ◌*◌, List, [], ◌∷◌, ◌++◌, length, map, Bool, Ok, None, Some}
 use Rattle.std.specs.declared.option.Option.{Option}
 use Rattle.gps_time.specs.declared.Tick.{Tick}
 use Rattle.obs_store.specs.declared.file.ObsFile.{ObsFile}
@@ -9,42 +9,19 @@ use Rattle.obs_store.specs.declared.values.SatObs.{SatObs}
 use Rattle.obs_store.specs.Missing.{missing_values}
 use Rattle.obs_store.specs.Satellites.{satellite_of}
 use Rattle.obs_store.specs.Epochs.{epoch_of}
-use Rattle.obs_fields.specs.HeadParts.{HeadPart, AreHeadParts, head_lines, last_position, last_delta, IsTypeList}
+use Rattle.rinex_head.specs.declared.system.System.TheVariants.{Gps}
+use Rattle.obs_fields.specs.HeaderForm.{IsHeader}
 use Rattle.obs_fields.specs.declared.layout.Layout.TheVariants.{Rinex2}
 use Rattle.obs_fields.specs.Events.{EventPart, IsEventPart}
 use Rattle.obs_fields.specs.declared.types.KeptType.{KeptType}
-use Rattle.rinex2_obs.specs.FirstLine.{first_line_of}
-use Rattle.rinex2_obs.specs.HeaderLines.{header_line_of}
 use Rattle.rinex2_obs.specs.Profile.{kept_of}
 use Rattle.rinex2_obs.specs.SatNames.{further_mark_of, further_names_of}
 use Rattle.rinex2_obs.specs.EpochLines.{epoch_line_of}
 use Rattle.rinex2_obs.specs.Rows.{rows_of, further_lines_of, row_of}
 use Rattle.rinex2_obs.specs.Obs2Rules.{file_of}
 use Rattle.rinex2_obs.specs.declared.sat_names.NameList.{NameList}
-use Rattle.rinex2_obs.specs.declared.header.Header.{Header}
-use Rattle.obs_fields.specs.declared.header_line.HeaderLine.TheVariants as header
+use Rattle.obs_fields.specs.declared.header.Header.{Header}
 use Rattle.rinex2_obs.specs.declared.epoch_lines.EpochLine.TheVariants as line
-
--- ---- the header
-
--- The header: the first line, then lines among which the list of types stands once, then END OF HEADER.
-pub record IsHeader (lines : List (List ℕ)) (h : Header) : Type 0 where
-  pub first : List ℕ
-  pub before : List HeadPart
-  pub list : List ℕ
-  pub further : List (List ℕ)
-  pub after : List HeadPart
-  pub last : List ℕ
-  pub lines_are : lines ≡ first ∷ (head_lines before ++ (list ∷ (further ++ (head_lines after ++ (last ∷ [])))))
-  pub first_short : length first ≤ 4096
-  pub version : first_line_of first ≡ Ok h.hundredths
-  pub before_are : AreHeadParts header_line_of before
-  pub types : IsTypeList Rinex2 header_line_of list further h.types
-  pub after_are : AreHeadParts header_line_of after
-  pub last_short : length last ≤ 4096
-  pub ends : header_line_of last ≡ Ok header.End
-  pub position : h.position ≡ last_position (last_position None before) after
-  pub delta : h.delta ≡ last_delta (last_delta (pos 0 ∷ pos 0 ∷ pos 0 ∷ []) before) after
 
 -- ---- the body
 
@@ -176,7 +153,8 @@ pub record IsObs2File (lines : List (List ℕ)) (file : ObsFile) : Type 0 where
   pub header : Header
   pub parts : List Part
   pub lines_are : lines ≡ header_lines ++ body_lines parts
-  pub is_header : IsHeader header_lines header
+  pub is_header : IsHeader Rinex2 header_lines header
+  pub of_gps : header.system ≡ Gps
   pub are_parts : AreParts header.types [] parts
   pub file_is : file ≡ file_of header (epochs_of parts)
 

@@ -1,5 +1,5 @@
 -- What each line of an observation file must be in its place.
-use Rattle.std.specs.Prelude.{ℕ, ℤ, pos, zero, suc, ◌+◌, ◌-◌, ◌*◌, nat_lt, Bool, false, List, [], ◌∷◌, ◌++◌, Result, Ok, None, Some, if◌then◌else◌}
+use Rattle.std.specs.Prelude.{ℕ, zero, suc, ◌+◌, ◌-◌, ◌*◌, nat_lt, Bool, false, List, [], ◌∷◌, ◌++◌, Result, Ok, None, Some, if◌then◌else◌}
 use Rattle.std.specs.declared.option.Option.{Option}
 use Rattle.gps_time.specs.declared.Tick.{Tick}
 use Rattle.obs_store.specs.declared.file.ObsFile.{ObsFile}
@@ -11,72 +11,35 @@ use Rattle.obs_store.specs.Satellites.{satellite_of}
 use Rattle.obs_store.specs.Epochs.{epoch_of}
 use Rattle.rinex_head.specs.declared.place.At.{At}
 use Rattle.rinex_head.specs.declared.place.Flaw.{Flaw}
-use Rattle.rinex_head.specs.declared.place.What.TheVariants.{ObsVersion, NoEnd, Types, Truncated}
+use Rattle.rinex_head.specs.declared.place.What.TheVariants.{Truncated}
+use Rattle.rinex_head.specs.declared.system.System.TheVariants.{Gps}
 use Rattle.rinex_head.specs.Places.{and_then, flawed}
 use Rattle.rinex_head.specs.LineRules.{Rules, text_gives}
-use Rattle.obs_fields.specs.Types.{first_types_of, further_types_of}
+use Rattle.obs_fields.specs.HeaderRules.{InHeader, First, AfterLine, Inside, Whole, admit_header, missing_line}
 use Rattle.obs_fields.specs.declared.layout.Layout.TheVariants.{Rinex2}
 use Rattle.obs_fields.specs.Labels.{event_line_of}
-use Rattle.rinex2_obs.specs.FirstLine.{first_line_of}
-use Rattle.rinex2_obs.specs.HeaderLines.{header_line_of}
 use Rattle.rinex2_obs.specs.Profile.{kept_of, listed_of}
 use Rattle.rinex2_obs.specs.SatNames.{further_mark_of, further_names_of}
 use Rattle.rinex2_obs.specs.EpochLines.{epoch_line_of}
 use Rattle.rinex2_obs.specs.Rows.{rows_of, further_lines_of, row_of}
-use Rattle.rinex2_obs.specs.declared.header.Header.{Header}
-use Rattle.obs_fields.specs.declared.header_line.HeaderLine.{HeaderLine}
-use Rattle.obs_fields.specs.declared.header_line.HeaderLine.TheVariants as header
+use Rattle.obs_fields.specs.declared.header.Header.{Header}
 use Rattle.rinex2_obs.specs.declared.epoch_lines.EpochLine.{EpochLine}
 use Rattle.rinex2_obs.specs.declared.epoch_lines.EpochLine.TheVariants as line
-
--- what the lines of a header have said so far
-pub record HeaderSoFar : Type 0 where
-  pub hundredths : ℕ
-  pub position : Option (List ℤ)
-  pub delta : List ℤ
-  pub types : Option (List (List ℕ))
-
-abbrev pub so_far : ℕ → Option (List ℤ) → List ℤ → Option (List (List ℕ)) → HeaderSoFar
-so_far hundredths position delta types = record { hundredths = hundredths; position = position; delta = delta; types = types }
-
--- a header of which nothing was read but its first line
-abbrev pub bare_header : ℕ → HeaderSoFar
-bare_header hundredths = so_far hundredths None (pos 0 ∷ pos 0 ∷ pos 0 ∷ []) None
-
-abbrev pub with_position : HeaderSoFar → Option (List ℤ) → HeaderSoFar
-with_position h position = so_far h.hundredths position h.delta h.types
-
-abbrev pub with_delta : HeaderSoFar → List ℤ → HeaderSoFar
-with_delta h delta = so_far h.hundredths h.position delta h.types
-
-abbrev pub with_types : HeaderSoFar → List (List ℕ) → HeaderSoFar
-with_types h types = so_far h.hundredths h.position h.delta (Some types)
-
-abbrev pub whole_header : HeaderSoFar → List (List ℕ) → Header
-whole_header h types = record { hundredths = h.hundredths; position = h.position; delta = h.delta; types = types }
 
 -- the file of a header and its epochs
 abbrev pub file_of : Header → List Epoch → ObsFile
 file_of h epochs = record { hundredths = h.hundredths; position = h.position; delta = h.delta; listed = listed_of (kept_of h.types); epochs = epochs }
 
--- What may be expected: the first line; a line of the header; further types, in a further line of the list, by their number; an
--- epoch or an event after these epochs; further names of an epoch's satellites, in a further line of names;
--- the line of that number, from 0, of one of them, after which stand the lines of others; further lines of
+-- What may be expected: a line of the header; an epoch or an event after these epochs; further names of an epoch's satellites, in a
+-- further line of names; the line of that number, from 0, of one of them, after which stand the lines of others; further lines of
 -- names and then lines of satellites, after flag 6; lines of an event. What is due stands with its number.
 pub data Expected : Type 0 where
-  First : Expected
-  Head : HeaderSoFar → Expected
-  More : HeaderSoFar → List (List ℕ) → ℕ → Expected
+  Head : InHeader → Expected
   Body : Header → List Epoch → Expected
   Names : Header → List Epoch → Tick → Bool → List (Option ℕ) → ℕ → Expected
   Row : Header → List Epoch → Tick → Bool → List SatObs → Option ℕ → List (Option ℕ) → ℕ → List (Option Value) → Expected
   Further : Header → List Epoch → ℕ → ℕ → Expected
   Skip : Header → List Epoch → Bool → ℕ → Expected
-
--- after a list's line, by the number of types that are still due
-abbrev pub more_types : HeaderSoFar → List (List ℕ) → ℕ → Expected
-more_types h names zero = Head (with_types h names)
-more_types h names (suc n) = More h names (suc n)
 
 -- after these satellites of an epoch, where those of the names are still due
 abbrev pub more_sats : Header → List Epoch → Tick → Bool → List SatObs → List (Option ℕ) → Expected
@@ -109,21 +72,10 @@ abbrev pub more_slips : Header → List Epoch → ℕ → ℕ → Expected
 more_slips h epochs zero rows = more_lines h epochs false rows
 more_slips h epochs (suc n) rows = Further h epochs (suc n) rows
 
--- the list of types must stand once
-abbrev pub begun_list : HeaderSoFar → List ℕ → Option (List (List ℕ)) → Result Expected Flaw
-begun_list h bytes None = and_then (first_types_of Rinex2 bytes) (λ list. Ok (more_types h list.names list.left))
-begun_list h bytes (Some types) = flawed 1 Types
-
-abbrev pub ended_header : HeaderSoFar → Option (List (List ℕ)) → Result Expected Flaw
-ended_header h None = flawed 1 Types
-ended_header h (Some types) = Ok (Body (whole_header h types) [])
-
-abbrev pub after_header : HeaderSoFar → List ℕ → HeaderLine → Result Expected Flaw
-after_header h bytes header.End = ended_header h h.types
-after_header h bytes (header.Position p) = Ok (Head (with_position h p))
-after_header h bytes (header.Delta d) = Ok (Head (with_delta h d))
-after_header h bytes header.Types = begun_list h bytes h.types
-after_header h bytes header.Skipped = Ok (Head h)
+-- after a line of the header
+abbrev pub after_header : AfterLine → Expected
+after_header (Inside s) = Head s
+after_header (Whole h) = Body h []
 
 abbrev pub after_epoch : Header → List Epoch → EpochLine → Expected
 after_epoch h epochs line.Blank = Body h epochs
@@ -132,9 +84,7 @@ after_epoch h epochs (line.Slips n) = more_slips h epochs (further_lines_of n) (
 after_epoch h epochs (line.Epoch tag power list) = more_names h epochs tag power list.names list.left
 
 abbrev pub admit : Expected → List ℕ → Result Expected Flaw
-admit First bytes = and_then (first_line_of bytes) (λ hundredths. Ok (Head (bare_header hundredths)))
-admit (Head h) bytes = and_then (header_line_of bytes) (λ l. after_header h bytes l)
-admit (More h names n) bytes = and_then (further_types_of Rinex2 bytes names n) (λ list. Ok (more_types h list.names list.left))
+admit (Head s) bytes = and_then (admit_header Rinex2 s bytes) (λ l. Ok (after_header l))
 admit (Body h epochs) bytes = and_then (epoch_line_of epochs bytes) (λ l. Ok (after_epoch h epochs l))
 admit (Names h epochs tag power names n) bytes = and_then (further_names_of bytes names n) (λ list. Ok (more_names h epochs tag power list.names list.left))
 admit (Row h epochs tag power sats name names at values) bytes =
@@ -143,9 +93,7 @@ admit (Further h epochs n rows) bytes = and_then (further_mark_of bytes) (λ u. 
 admit (Skip h epochs changes n) bytes = and_then (event_line_of Rinex2 changes bytes) (λ u. Ok (more_lines h epochs changes (n - 1)))
 
 abbrev pub finish : Expected → Result ObsFile Flaw
-finish First = flawed 1 ObsVersion
-finish (Head h) = flawed 1 NoEnd
-finish (More h names n) = flawed 1 NoEnd
+finish (Head s) = flawed 1 (missing_line s)
 finish (Body h epochs) = Ok (file_of h epochs)
 finish (Names h epochs tag power names n) = flawed 1 Truncated
 finish (Row h epochs tag power sats name names at values) = flawed 1 Truncated
@@ -153,7 +101,7 @@ finish (Further h epochs n rows) = flawed 1 Truncated
 finish (Skip h epochs changes n) = flawed 1 Truncated
 
 abbrev pub obs2_rules : Rules Expected ObsFile
-obs2_rules = record { start = First; admit = admit; finish = finish }
+obs2_rules = record { start = Head (First Gps); admit = admit; finish = finish }
 
 -- the file that a text of these lines stands for, or its first failing place
 abbrev pub obs2_of : List (List ℕ) → Result ObsFile At

@@ -6,10 +6,9 @@ ghost use Rattle.rinex2_obs.specs.Obs2Rules.{Body, file_of, obs2_rules};
 
 use crate::epoch_lines::{EpochLine, epoch_line};
 use crate::events::{skip_lines, skip_slips};
-use crate::header::Header;
 use crate::sats::read_epoch;
 use line_source::Lines;
-use obs_fields::KeptType;
+use obs_fields::{Header, KeptType};
 use obs_store::{Epoch, Epochs};
 use rinex_head::{TextFault, line_or_end};
 use std::alloc::Global;

@@ -3,13 +3,13 @@ ghost use Rattle.std.specs.Prelude.{◌≡◌, ◌≤◌, ◌*◌, List, ℕ, le
 ghost use Rattle.obs_store.specs.declared.series.Epoch.{Epoch};
 ghost use Rattle.rinex_head.specs.LineRules.{ReadsFree};
 ghost use Rattle.rinex2_obs.specs.Rows.{rows_of, further_lines_of};
-ghost use Rattle.rinex2_obs.specs.declared.header.Header.{Header};
+ghost use Rattle.obs_fields.specs.declared.header.Header.{Header};
 ghost use Rattle.rinex2_obs.specs.Obs2Rules.{Body, more_lines, more_slips, obs2_rules};
 
-use crate::header::Header;
+use crate::header::rows;
 use crate::sat_names::further_mark;
 use line_source::Lines;
-use obs_fields::{Layout, event_line};
+use obs_fields::{Header, Layout, event_line};
 use rinex_head::{At, What, next_line};
 
 /// The lines of an event, after which the header may change or not.
@@ -62,5 +62,5 @@ pub fn skip_slips(lines: &mut Lines<'_>, header: &Header, count: u16) -> Result<
     ensures less { length lines.new.left ≤ length lines.old.left }
 {
     skip_names(lines, further_lines(count))?;
-    skip_lines(lines, false, count as u32 * header.rows() as u32)
+    skip_lines(lines, false, count as u32 * rows(header) as u32)
 }

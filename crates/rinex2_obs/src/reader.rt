@@ -6,7 +6,9 @@ ghost use Rattle.line_source.specs.declared.transfer.TheConstants.{MAX_FILE};
 ghost use Rattle.rinex_head.specs.FirstFailing.{IsFirstFailing};
 ghost use Rattle.rinex_head.specs.LineRules.{rest_gives, Gives, OnRefusal, IfRefused};
 ghost use Rattle.rinex2_obs.specs.Obs2Form.{IsObs2File, HasObs2File};
-ghost use Rattle.rinex2_obs.specs.Obs2Rules.{First, obs2_rules, obs2_of};
+ghost use Rattle.rinex_head.specs.declared.system.System.TheVariants.{Gps};
+ghost use Rattle.obs_fields.specs.HeaderRules.{First};
+ghost use Rattle.rinex2_obs.specs.Obs2Rules.{Head, obs2_rules, obs2_of};
 
 use crate::body::read_epochs;
 use crate::header::read_header;
@@ -17,7 +19,7 @@ use rinex_head::TextFault;
 use std::alloc::{AllocError, Global};
 
 fn read_lines(alloc: Global, mut lines: Lines<'_>) -> Result<ObsFile, TextFault>
-    ensures { Gives (rest_gives obs2_rules lines.entry First) (λ file. file) result }
+    ensures { Gives (rest_gives obs2_rules lines.entry (Head (First Gps))) (λ file. file) result }
 {
     let header = match read_header(&mut lines) {
         Ok(header) => header,

@@ -9,14 +9,14 @@ ghost use Rattle.obs_store.specs.Epochs.{epoch_of};
 ghost use Rattle.rinex_head.specs.LineRules.{Reads, ReadsFree};
 ghost use Rattle.rinex2_obs.specs.Profile.{kept_of};
 ghost use Rattle.rinex2_obs.specs.SatNumbers.{AreNames, AreNew, IsWith};
-ghost use Rattle.rinex2_obs.specs.declared.header.Header.{Header};
+ghost use Rattle.obs_fields.specs.declared.header.Header.{Header};
 ghost use Rattle.rinex2_obs.specs.Obs2Rules.{Body, more_names, more_sats, obs2_rules};
 
-use crate::header::Header;
+use crate::header::rows;
 use crate::sat_names::{NameList, further_names};
 use crate::sat_numbers::SatNames;
 use line_source::Lines;
-use obs_fields::{KeptType, Layout, set_values};
+use obs_fields::{Header, KeptType, Layout, set_values};
 use obs_store::{SatValues, Satellites};
 use rinex_head::{At, TextFault, What, next_line};
 use std::alloc::Global;
@@ -56,7 +56,7 @@ fn read_rows(
         (sats ++ record { number = number; values = values.new } ∷ []) names) result }
     ensures less { length lines.new.left ≤ length lines.old.left }
 {
-    for at in 0..header.rows() {
+    for at in 0..rows(header) {
         let line = next_line(lines, What::Truncated)?;
         match set_values(Layout::Rinex2, at, line.bytes, kept, values) {
             Ok(()) => {}
@@ -74,7 +74,7 @@ fn skip_rows(lines: &mut Lines<'_>, header: &Header) -> Result<(), At>
         (None ∷ names)) (λ u. more_sats header.now epochs tag power sats names) result }
     ensures less { length lines.new.left ≤ length lines.old.left }
 {
-    for _at in 0..header.rows() {
+    for _at in 0..rows(header) {
         next_line(lines, What::Truncated)?;
     }
     Ok(())

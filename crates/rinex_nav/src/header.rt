@@ -11,7 +11,7 @@ use rinex_head::{At, Flaw, System, Version, What, head_line, next_line, version_
 
 const LAST_LABEL: &[u8] = b"END OF HEADER";
 
-fn kind_of(system: System, version: Version) -> Result<(), Flaw>
+fn check_kind(system: System, version: Version) -> Result<(), Flaw>
     ensures { result ≡ of_kind system version }
 {
     if version.kind != b'N' {
@@ -34,7 +34,7 @@ fn first_line(system: System, line: &Line<'_>) -> Result<(), At>
     ensures { result ≡ at_line line.now.number (first_line_of system line.now.bytes.now) }
 {
     let version = version_of(line)?;
-    match kind_of(system, version) {
+    match check_kind(system, version) {
         Ok(()) => Ok(()),
         Err(flaw) => Err(flaw.at(line.number)),
     }

@@ -9,18 +9,10 @@ use Rattle.rinex_head.specs.declared.place.TextFault.{TextFault}
 use Rattle.rinex_head.specs.declared.place.TextFault.TheVariants.{Refused, NoMemory}
 use Rattle.rinex_head.specs.Places.{and_then, place}
 use Rattle.obs_fields.specs.Types.{kept_from}
-use Rattle.rinex_obs.specs.declared.header.Header.{Header}
+use Rattle.obs_fields.specs.declared.header.Header.{Header}
 use Rattle.rinex_obs.specs.SatLines.{satellite_line_of}
-use Rattle.rinex_obs.specs.ObsRules.{HeaderSoFar, Expected, Head, More, Body, Sats, Skip, with_types, more_types, more_sats, more_lines, with_satellite, sats_with, admit}
+use Rattle.rinex_obs.specs.ObsRules.{Expected, Body, Sats, Skip, more_sats, more_lines, with_satellite, sats_with, admit}
 use Rattle.rinex_obs.specs.Feeding.{Takes}
-
-pub types_due : (h : HeaderSoFar) (names : List (List ℕ)) (n : ℕ) → 0 < n → more_types h names n ≡ More h names n
-types_due h names zero some = absurd (omega arith)
-types_due h names (suc n) some = refl
-
-pub types_all : (h : HeaderSoFar) (names : List (List ℕ)) (n : ℕ) → n ≡ 0 → more_types h names n ≡ Head (with_types h names)
-types_all h names zero none = refl
-types_all h names (suc n) none = absurd (omega arith)
 
 pub sats_due : (h : Header) (epochs : List Epoch) (tag : Tick) (power : Bool) (sats : List SatObs) (n : ℕ) → 0 < n → more_sats h epochs tag power sats n ≡ Sats h epochs tag power sats n
 sats_due h epochs tag power sats zero some = absurd (omega arith)

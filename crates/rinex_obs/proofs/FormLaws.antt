@@ -1,5 +1,5 @@
 -- What the lines give is what the grammar says.
-use Rattle.std.proofs.Common.{◌≡◌, ◌+◌, ◌-◌, ℕ, suc, pos, Bool, List, [], ◌∷◌, ◌++◌, length, Ok, Option, Some, None, refl, sym, ap, ◌∙◌, arith, append_assoc, add-zero}
+use Rattle.std.proofs.Common.{◌≡◌, ◌+◌, ◌-◌, ℕ, suc, Bool, List, [], ◌∷◌, ◌++◌, length, Ok, Option, Some, None, refl, sym, ap, ◌∙◌, arith, append_assoc, add-zero}
 use Rattle.std.proofs.lemmas.List.{append-nil}
 use Rattle.gps_time.specs.declared.Tick.{Tick}
 use Rattle.obs_store.specs.declared.file.ObsFile.{ObsFile}
@@ -14,12 +14,12 @@ use Rattle.obs_fields.specs.declared.layout.Layout.TheVariants.{Rinex3}
 use Rattle.obs_fields.specs.Events.{AreEventLines}
 use Rattle.rinex_obs.specs.EpochLines.{epoch_line_of}
 use Rattle.rinex_obs.specs.declared.epoch_lines.EpochLine.TheVariants as line
-use Rattle.rinex_obs.specs.declared.header.Header.{Header}
-use Rattle.rinex_obs.specs.ObsRules.{First, Head, Body, Sats, Skip, so_far, bare_header, whole_header, file_of, more_sats, more_lines, admit, obs_rules}
-use Rattle.obs_fields.specs.HeadParts.{head_lines, last_position, last_delta}
-use Rattle.obs_fields.proofs.HeaderLaws.{regroup, header_given}
-use Rattle.rinex_obs.specs.ObsForm.{IsHeader, Part, Blank, Event, Epoch_, satellites_of, AreSatLines, epoch_in_part, AreParts, epochs_of, body_lines, IsObsFile}
-use Rattle.rinex_obs.proofs.Headers.{head_rules}
+use Rattle.obs_fields.specs.declared.header.Header.{Header}
+use Rattle.obs_fields.specs.HeaderRules.{First}
+use Rattle.rinex_obs.specs.ObsRules.{Head, Body, Sats, Skip, file_of, more_sats, more_lines, admit, obs_rules}
+use Rattle.obs_fields.proofs.HeaderLaws.{header_given}
+use Rattle.rinex_obs.specs.ObsForm.{Part, Blank, Event, Epoch_, satellites_of, AreSatLines, epoch_in_part, AreParts, epochs_of, body_lines, IsObsFile}
+use Rattle.rinex_obs.proofs.Headers.{header_reader}
 
 module _ (system : System) where
   -- the lines of an event are taken
@@ -76,35 +76,11 @@ module _ (system : System) where
       ∙ parts_taken parts h (epochs ++ epoch_in_part p ∷ []) (n + 1 + k) are.1
       ∙ rw (append_assoc epochs (epoch_in_part p ∷ []) (epochs_of parts)) refl
 
-  -- a header is taken, whatever follows it
-  record TookWhole (lines more : List (List ℕ)) (h : Header) : Type 0 where
-    number : ℕ
-    gives : walk (obs_rules system) (lines ++ more) 0 (First h.system) ≡ walk (obs_rules system) more number (Body h [])
-
-  header_taken : (lines more : List (List ℕ)) (h : Header) → IsHeader lines h → TookWhole lines more h
-  header_taken lines more h is =
-      let version = bare_header h.system h.hundredths in
-      let zero_delta = pos 0 ∷ pos 0 ∷ pos 0 ∷ [] in
-      let behind_first = head_lines is.before ++ (is.list ∷ (is.further ++ (head_lines is.after ++ (is.last ∷ more)))) in
-      let first_admits : admit (First h.system) is.first ≡ Ok (Head version) = rw (is.version) refl in
-      let all = so_far h.system h.hundredths (last_position (last_position None is.before) is.after) (last_delta (last_delta zero_delta is.before) is.after) (Some h.types) in
-      let whole : whole_header all h.types ≡ h = rw (← is.position, ← is.delta) refl in
-      let number = 0 + 1 + length is.before + 1 + length is.further + length is.after + 1 in
-      record {
-        number = number;
-        gives = ap (λ (l : List (List ℕ)). walk (obs_rules system) (l ++ more) 0 (First h.system)) is.lines_are
-            ∙ ap (λ (l : List (List ℕ)). walk (obs_rules system) (is.first ∷ l) 0 (First h.system)) (regroup (head_lines is.before) is.list is.further (head_lines is.after) is.last more)
-            ∙ walk-takes (obs_rules system) (First h.system) (Head version) is.first behind_first 0 is.first_short first_admits
-            ∙ header_given (head_rules system h.system h.hundredths) is.before is.after is.list is.last is.further more h.types None zero_delta
-            (0 + 1) is.before_are is.types is.after_are is.last_short is.ends
-            ∙ ap (λ (w : Header). walk (obs_rules system) more number (Body w [])) whole;
-      }
-
   -- a file of the grammar is what its lines give
-  pub file_given : (lines : List (List ℕ)) (file : ObsFile) → IsObsFile system lines file → walk (obs_rules system) lines 0 (First system) ≡ Ok file
+  pub file_given : (lines : List (List ℕ)) (file : ObsFile) → IsObsFile system lines file → walk (obs_rules system) lines 0 (Head (First system)) ≡ Ok file
   file_given lines file is =
-      let head = header_taken is.header_lines (body_lines is.parts) is.header is.is_header in
+      let head = header_given (header_reader system) is.header_lines (body_lines is.parts) is.header is.is_header in
       let parts : AreParts is.header.system (kept_from is.header.system 0 is.header.types) [] is.parts = rw is.of_system is.are_parts in
-      ap (λ (l : List (List ℕ)). walk (obs_rules system) l 0 (First system)) is.lines_are
-      ∙ ap (λ (s : System). walk (obs_rules system) (is.header_lines ++ body_lines is.parts) 0 (First s)) (sym is.of_system)
-      ∙ head.gives ∙ parts_taken is.parts is.header [] head.number parts ∙ ap (λ (f : ObsFile). Ok f) (sym is.file_is)
+      ap (λ (l : List (List ℕ)). walk (obs_rules system) l 0 (Head (First system))) is.lines_are
+      ∙ ap (λ (s : System). walk (obs_rules system) (is.header_lines ++ body_lines is.parts) 0 (Head (First s))) (sym is.of_system)
+      ∙ head.1 ∙ parts_taken is.parts is.header [] head.0 parts ∙ ap (λ (f : ObsFile). Ok f) (sym is.file_is)

@@ -1,5 +1,5 @@
 -- Lines that give a file are one of the grammar.
-use Rattle.std.proofs.Common.{◌≡◌, ◌+◌, ◌-◌, ℕ, zero, suc, pos, Bool, List, [], ◌∷◌, ◌++◌, length, Result, Ok, Err, Option, Some, None, refl, sym, ap, ◌∙◌, subst, arith, append_assoc}
+use Rattle.std.proofs.Common.{◌≡◌, ◌+◌, ◌-◌, ℕ, zero, suc, Bool, List, [], ◌∷◌, ◌++◌, length, Result, Ok, Err, Option, Some, None, refl, sym, ap, ◌∙◌, subst, arith, append_assoc}
 use Rattle.std.proofs.lemmas.List.{append-nil}
 use Rattle.gps_time.specs.declared.Tick.{Tick}
 use Rattle.obs_store.specs.declared.file.ObsFile.{ObsFile}
@@ -11,24 +11,22 @@ use Rattle.rinex_head.specs.declared.place.What.TheVariants.{Truncated}
 use Rattle.rinex_head.specs.declared.place.Flaw.{Flaw}
 use Rattle.rinex_head.specs.Places.{and_then, flawed, at_line}
 use Rattle.rinex_head.specs.declared.system.System.{System}
-use Rattle.rinex_head.specs.Systems.{bad_version}
 use Rattle.rinex_head.specs.LineRules.{walk}
 use Rattle.rinex_head.proofs.LineRuleLaws.{walk-end, TookLine, walk-took}
-use Rattle.rinex_obs.specs.FirstLine.{first_line_of}
 use Rattle.obs_fields.specs.Types.{kept_from}
 use Rattle.obs_fields.specs.Events.{EventPart, AreEventLines}
 use Rattle.obs_fields.specs.declared.layout.Layout.TheVariants.{Rinex3}
 use Rattle.obs_fields.specs.Labels.{event_line_of}
 use Rattle.rinex_obs.specs.EpochLines.{epoch_line_of}
 use Rattle.rinex_obs.specs.SatLines.{satellite_line_of}
-use Rattle.rinex_obs.specs.declared.header.Header.{Header}
+use Rattle.obs_fields.specs.declared.header.Header.{Header}
 use Rattle.rinex_obs.specs.declared.epoch_lines.EpochLine.{EpochLine}
 use Rattle.rinex_obs.specs.declared.epoch_lines.EpochLine.TheVariants as line
-use Rattle.rinex_obs.specs.ObsRules.{Expected, First, Head, Body, Sats, Skip, so_far, bare_header, whole_header, file_of, more_sats, more_lines, after_epoch, with_satellite, obs_rules}
-use Rattle.obs_fields.specs.HeadParts.{head_lines, last_position, last_delta}
-use Rattle.obs_fields.proofs.HeaderLaws.{regroup, header_took}
+use Rattle.obs_fields.specs.HeaderRules.{First}
+use Rattle.rinex_obs.specs.ObsRules.{Expected, Head, Body, Sats, Skip, file_of, more_sats, more_lines, after_epoch, with_satellite, obs_rules}
+use Rattle.obs_fields.proofs.HeaderTook.{header_took}
 use Rattle.rinex_obs.specs.ObsForm.{EpochPart, Part, Blank, Event, Epoch_, satellites_of, AreSatLines, AreParts, epochs_of, body_lines, IsObsFile}
-use Rattle.rinex_obs.proofs.Headers.{head_rules}
+use Rattle.rinex_obs.proofs.Headers.{header_reader}
 
 module _ (system : System) where
   -- ---- the body
@@ -223,52 +221,17 @@ module _ (system : System) where
 
   -- ---- the file
 
-  pub file_took : (lines : List (List ℕ)) (file : ObsFile) → walk (obs_rules system) lines 0 (First system) ≡ Ok file → IsObsFile system lines file
-  file_took [] file gives = absurd (no_file 0 (bad_version system) file (sym (walk-end (obs_rules system) (First system) 0) ∙ gives))
-  file_took (bytes ∷ lines) file gives = by_part (first_line_of system bytes) refl first.admits
-    where
-      first : TookLine (obs_rules system) (First system) bytes lines 0 file
-      first = walk-took (obs_rules system) (First system) bytes lines 0 file gives
-
-      by_part : (r : Result ℕ Flaw) → first_line_of system bytes ≡ r → and_then r (λ hundredths. Ok (Head (bare_header system hundredths))) ≡ Ok first.next → IsObsFile system (bytes ∷ lines) file
-      by_part (Ok v) is_read gives =
-          let next : Head (bare_header system v) ≡ first.next = cc (gives) in
-          let zero_delta = pos 0 ∷ pos 0 ∷ pos 0 ∷ [] in
-          let head = header_took (head_rules system system v) lines None zero_delta (0 + 1) file
-          (subst (λ (s : Expected). walk (obs_rules system) lines (0 + 1) s ≡ Ok file) (sym next) first.others) in
-          let end = head.end in
-          let header = whole_header (so_far system v (last_position (last_position None head.before) end.after)
-          (last_delta (last_delta zero_delta head.before) end.after) (Some head.types)) head.types in
-          let body = (took end.rest).body header [] end.number file end.gives in
-          let header_lines = bytes ∷ (head_lines head.before ++ (head.list ∷ (head.further ++ (head_lines end.after ++ (end.last ∷ []))))) in
-          let grouped = ap (λ (l : List (List ℕ)). bytes ∷ l) (regroup (head_lines head.before) head.list head.further (head_lines end.after) end.last (body_lines body.parts)) in
-          let tail_is = end.lines_are ∙ ap (λ (l : List (List ℕ)). head_lines end.after ++ (end.last ∷ l)) body.lines_are in
-          let lines_are = ap (λ (l : List (List ℕ)). bytes ∷ l) (head.lines_are ∙ ap (λ (l : List (List ℕ)). head_lines head.before ++ (head.list ∷ (head.further ++ l))) tail_is) in
-          record {
-            header_lines = header_lines;
-            header = header;
-            parts = body.parts;
-            lines_are = lines_are ∙ sym grouped;
-            of_system = refl;
-            is_header = record {
-              first = bytes;
-              before = head.before;
-              list = head.list;
-              further = head.further;
-              after = end.after;
-              last = end.last;
-              lines_are = refl;
-              first_short = first.short;
-              version = is_read;
-              before_are = head.are;
-              types = head.is_list;
-              after_are = end.are;
-              last_short = end.last_short;
-              ends = end.ends;
-              position = refl;
-              delta = refl;
-            };
-            are_parts = body.each;
-            file_is = body.whole_is;
-          }
-      by_part (Err flaw) is_read gives = absurd cc
+  pub file_took : (lines : List (List ℕ)) (file : ObsFile) → walk (obs_rules system) lines 0 (Head (First system)) ≡ Ok file → IsObsFile system lines file
+  file_took lines file gives =
+      let head = header_took (header_reader system) system lines file gives in
+      let body = (took head.rest).body head.header [] head.number file head.gives in
+      record {
+        header_lines = head.header_lines;
+        header = head.header;
+        parts = body.parts;
+        lines_are = head.lines_are ∙ ap (λ (l : List (List ℕ)). head.header_lines ++ l) body.lines_are;
+        is_header = head.is_header;
+        of_system = head.of_system;
+        are_parts = subst (λ (s : System). AreParts s (kept_from s 0 head.header.types) [] body.parts) head.of_system body.each;
+        file_is = body.whole_is;
+      }

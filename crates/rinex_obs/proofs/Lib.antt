@@ -1,4 +1,3 @@
-pub mod Steps
 pub mod Headers
 pub mod FormLaws
 pub mod FormTook

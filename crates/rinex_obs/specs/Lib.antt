@@ -1,5 +1,3 @@
-pub mod FirstLine
-pub mod HeaderLines
 pub mod EpochTag
 pub mod EpochLines
 pub mod SatLines

@@ -1,14 +1,12 @@
 -- An observation file as a grammar over the whole list of its lines: a header, then blank lines, epochs and events.
-use Rattle.std.specs.Prelude.{◌≡◌, ℕ, pos, ◌≤◌, List, [], ◌∷◌, ◌++◌, length, Bool, Ok, None, Some}
+use Rattle.std.specs.Prelude.{◌≡◌, ℕ, ◌≤◌, List, [], ◌∷◌, ◌++◌, length, Bool, Ok, None, Some}
 use Rattle.std.specs.declared.option.Option.{Option}
 use Rattle.gps_time.specs.declared.Tick.{Tick}
 use Rattle.obs_store.specs.declared.file.ObsFile.{ObsFile}
 use Rattle.obs_store.specs.declared.series.Epoch.{Epoch}
 use Rattle.obs_store.specs.declared.values.SatObs.{SatObs}
 use Rattle.obs_store.specs.Epochs.{epoch_of}
-use Rattle.rinex_obs.specs.FirstLine.{first_line_of}
-use Rattle.rinex_obs.specs.HeaderLines.{header_line_of}
-use Rattle.obs_fields.specs.HeadParts.{HeadPart, AreHeadParts, head_lines, last_position, last_delta, IsTypeList}
+use Rattle.obs_fields.specs.HeaderForm.{IsHeader}
 use Rattle.obs_fields.specs.Types.{kept_from}
 use Rattle.rinex_head.specs.declared.system.System.{System}
 use Rattle.obs_fields.specs.declared.layout.Layout.TheVariants.{Rinex3}
@@ -17,30 +15,8 @@ use Rattle.rinex_obs.specs.EpochLines.{epoch_line_of}
 use Rattle.rinex_obs.specs.SatLines.{satellite_line_of}
 use Rattle.rinex_obs.specs.ObsRules.{file_of}
 use Rattle.obs_fields.specs.declared.types.KeptType.{KeptType}
-use Rattle.rinex_obs.specs.declared.header.Header.{Header}
-use Rattle.obs_fields.specs.declared.header_line.HeaderLine.TheVariants as header
+use Rattle.obs_fields.specs.declared.header.Header.{Header}
 use Rattle.rinex_obs.specs.declared.epoch_lines.EpochLine.TheVariants as line
-
--- ---- the header
-
--- The header: the first line, then lines among which the system's list of types stands once, then END OF HEADER.
-pub record IsHeader (lines : List (List ℕ)) (h : Header) : Type 0 where
-  pub first : List ℕ
-  pub before : List HeadPart
-  pub list : List ℕ
-  pub further : List (List ℕ)
-  pub after : List HeadPart
-  pub last : List ℕ
-  pub lines_are : lines ≡ first ∷ (head_lines before ++ (list ∷ (further ++ (head_lines after ++ (last ∷ [])))))
-  pub first_short : length first ≤ 4096
-  pub version : first_line_of h.system first ≡ Ok h.hundredths
-  pub before_are : AreHeadParts (header_line_of h.system) before
-  pub types : IsTypeList Rinex3 (header_line_of h.system) list further h.types
-  pub after_are : AreHeadParts (header_line_of h.system) after
-  pub last_short : length last ≤ 4096
-  pub ends : header_line_of h.system last ≡ Ok header.End
-  pub position : h.position ≡ last_position (last_position None before) after
-  pub delta : h.delta ≡ last_delta (last_delta (pos 0 ∷ pos 0 ∷ pos 0 ∷ []) before) after
 
 -- ---- the body
 
@@ -116,7 +92,7 @@ pub record IsObsFile (system : System) (lines : List (List ℕ)) (file : ObsFile
   pub header : Header
   pub parts : List Part
   pub lines_are : lines ≡ header_lines ++ body_lines parts
-  pub is_header : IsHeader header_lines header
+  pub is_header : IsHeader Rinex3 header_lines header
   pub of_system : header.system ≡ system
   pub are_parts : AreParts system (kept_from system 0 header.types) [] parts
   pub file_is : file ≡ file_of header (epochs_of parts)

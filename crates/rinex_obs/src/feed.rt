@@ -13,6 +13,7 @@ ghost use Rattle.rinex_obs.specs.Fed.{LinesWithin, LinesWithin-prop, gives_behin
 use crate::open_file::OpenFile;
 use crate::started::{Overlong, StartedLine, split_line};
 use line_source::{Line, MAX_LINE, Taker, without_return};
+use obs_fields::OpenHeader;
 use obs_store::ObsFile;
 use rinex_head::{At, System, TextFault, What, flaw};
 use std::alloc::{AllocError, Global};
@@ -165,7 +166,7 @@ impl Feed {
             state: FeedState::Open(OpenText {
                 number: 0,
                 line: StartedLine::new(),
-                file: OpenFile::First(system),
+                file: OpenFile::Header(OpenHeader::First(system)),
             }),
         }
     }

@@ -7,11 +7,10 @@ ghost use Rattle.rinex_obs.specs.ObsRules.{Body, Sats, Skip, more_sats, more_lin
 ghost use Rattle.rinex_obs.specs.Feeding.{Takes};
 
 use crate::epoch_lines::{EpochLine, epoch_line};
-use crate::header::Header;
 use crate::sat_lines::satellite_line;
 use gps_time::Tick;
 use line_source::Line;
-use obs_fields::{KeptType, Layout, event_line, listed_types};
+use obs_fields::{Header, KeptType, Layout, event_line, listed_types};
 use obs_store::{Epoch, Epochs, ObsFile, SatValues, Satellites};
 use rinex_head::{Flaw, System, TextFault, What, flaw};
 use std::alloc::{AllocError, Global};

@@ -4,20 +4,16 @@ ghost use Rattle.rinex_obs.specs.ObsRules.{Body, admit, finish};
 ghost use Rattle.rinex_obs.specs.Opened.{expected_in, expected_in_body};
 ghost use Rattle.rinex_obs.specs.Feeding.{Takes};
 
-use crate::header::{Header, first_line};
 use crate::open_body::OpenBody;
-use crate::open_header::OpenHeader;
 use line_source::Line;
-use obs_fields::kept_types;
+use obs_fields::{Header, Layout, OpenHeader, kept_types};
 use obs_store::ObsFile;
-use rinex_head::{Flaw, System, TextFault, What, flaw};
+use rinex_head::{Flaw, TextFault, flaw};
 use std::alloc::{AllocError, Global};
 
 /// What the lines of a file have given so far.
 #[derive(Drop)]
 pub enum OpenFile {
-    /// None was read; satellites of this system will be.
-    First(System),
     Header(OpenHeader),
     Body(OpenBody),
 }
@@ -41,14 +37,7 @@ impl OpenFile {
             (expected_in self.new) result }
     {
         match self {
-            OpenFile::First(system) => match first_line(*system, line) {
-                Ok(hundredths) => {
-                    *self = OpenFile::Header(OpenHeader::new(*system, hundredths));
-                    Ok(())
-                }
-                Err(at) => Err(TextFault::Refused(at)),
-            },
-            OpenFile::Header(header) => match header.take_line(line) {
+            OpenFile::Header(header) => match header.take_line(Layout::Rinex3, line) {
                 Ok(None) => Ok(()),
                 Ok(Some(header)) => match begin_body(alloc, header) {
                     Ok(body) => {
@@ -68,8 +57,7 @@ impl OpenFile {
         ensures { result ≡ finish (expected_in self) }
     {
         match self {
-            OpenFile::First(system) => Err(flaw(1, system.bad_version())),
-            OpenFile::Header(_) => Err(flaw(1, What::NoEnd)),
+            OpenFile::Header(header) => Err(flaw(1, header.missing())),
             OpenFile::Body(body) => body.finish(),
         }
     }

@@ -10,11 +10,11 @@ use Rattle.obs_fields.specs.declared.layout.Layout.TheVariants.{Rinex3}
 use Rattle.obs_fields.specs.Labels.{label_in}
 use Rattle.obs_fields.specs.Offsets.{position_in, offset_in, delta_in}
 use Rattle.obs_fields.specs.Types.{is_listed, names_from, first_types_of, type_list, kept_from}
-use Rattle.rinex_obs.specs.FirstLine.{first_line_of}
-use Rattle.rinex_obs.specs.HeaderLines.{header_line_of}
-use Rattle.rinex_obs.specs.ObsForm.{IsHeader}
-use Rattle.rinex_obs.specs.declared.header.Header.{Header}
-use Rattle.obs_fields.specs.declared.header_line.HeaderLine.TheVariants as header
+use Rattle.obs_fields.specs.FirstLine.{first_line_of}
+use Rattle.obs_fields.specs.HeaderLines.{header_line_of}
+use Rattle.obs_fields.specs.HeaderForm.{IsHeader}
+use Rattle.obs_fields.specs.declared.header.Header.{Header}
+use Rattle.obs_fields.specs.declared.header_lines.HeaderLine.TheVariants as header
 use Rattle.sim_session.specs.declared.signals.Tracking.{Tracking}
 use Rattle.sim_session.specs.declared.signals.Tracking.TheVariants.{GpsL1L2, GpsL1L2L5, GalileoE1E5a}
 use Rattle.sim_session.specs.Tracked.{system_letter}
@@ -108,21 +108,21 @@ kept_are GpsL1L2 = refl
 kept_are GpsL1L2L5 = refl
 kept_are GalileoE1E5a = refl
 
-version_is : (t : Tracking) → first_line_of (system_in t) (line_1 t) ≡ Ok 304
+version_is : (t : Tracking) → first_line_of Rinex3 (system_in t) (line_1 t) ≡ Ok 304
 unfolding line_1 first_line_of padded trimmed
 version_is GpsL1L2 = refl
 version_is GpsL1L2L5 = refl
 version_is GalileoE1E5a = refl
 
-position_is : (t : Tracking) → header_line_of (system_in t) line_2 ≡ Ok (header.Position (Some (pos 63781370000 ∷ pos 0 ∷ pos 0 ∷ [])))
+position_is : (t : Tracking) → header_line_of Rinex3 (system_in t) line_2 ≡ Ok (header.Position (Some (pos 63781370000 ∷ pos 0 ∷ pos 0 ∷ [])))
 unfolding line_2 header_line_of label_in position_in fixed_in padded trimmed
 position_is t = refl
 
-delta_is : (t : Tracking) → header_line_of (system_in t) line_3 ≡ Ok (header.Delta (pos 0 ∷ pos 0 ∷ pos 0 ∷ []))
+delta_is : (t : Tracking) → header_line_of Rinex3 (system_in t) line_3 ≡ Ok (header.Delta (pos 0 ∷ pos 0 ∷ pos 0 ∷ []))
 unfolding line_3 header_line_of label_in delta_in offset_in padded trimmed
 delta_is t = refl
 
-types_are : (t : Tracking) → header_line_of (system_in t) (line_4 t) ≡ Ok header.Types
+types_are : (t : Tracking) → header_line_of Rinex3 (system_in t) (line_4 t) ≡ Ok header.Types
 unfolding line_4 header_line_of label_in padded trimmed
 types_are GpsL1L2 = refl
 types_are GpsL1L2L5 = refl
@@ -134,13 +134,13 @@ names_are GpsL1L2 = refl
 names_are GpsL1L2L5 = refl
 names_are GalileoE1E5a = refl
 
-time_is : (t : Tracking) → header_line_of (system_in t) line_5 ≡ Ok header.Skipped
+time_is : (t : Tracking) → header_line_of Rinex3 (system_in t) line_5 ≡ Ok header.Skipped
 unfolding line_5 header_line_of label_in padded trimmed
 time_is GpsL1L2 = refl
 time_is GpsL1L2L5 = refl
 time_is GalileoE1E5a = refl
 
-ends_is : (t : Tracking) → header_line_of (system_in t) line_6 ≡ Ok header.End
+ends_is : (t : Tracking) → header_line_of Rinex3 (system_in t) line_6 ≡ Ok header.End
 unfolding line_6 header_line_of label_in padded trimmed
 ends_is t = refl
 
@@ -170,7 +170,7 @@ short_6 : length line_6 ≤ 4096
 unfolding line_6
 short_6 = omega arith
 
-pub header_is : (t : Tracking) → IsHeader (lines t) (the_header t)
+pub header_is : (t : Tracking) → IsHeader Rinex3 (lines t) (the_header t)
 unfolding lines the_header
 header_is t = record {
   first = line_1 t;

@@ -1,7 +1,7 @@
 use Rattle.std.proofs.Common.{◌≡◌, ◌≤◌, List, length}
 use Rattle.obs_store.specs.declared.series.Epoch.{Epoch}
 use Rattle.rinex_head.specs.LineRules.{rest_gives}
-use Rattle.rinex2_obs.specs.declared.header.Header.{Header}
+use Rattle.obs_fields.specs.declared.header.Header.{Header}
 use Rattle.rinex2_obs.specs.Obs2Rules.{more_lines, obs2_rules}
 use Rattle.rinex2_obs.proofs.events.skip_lines.Given as goal
 

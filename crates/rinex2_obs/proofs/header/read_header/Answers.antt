@@ -1,13 +1,41 @@
-use Rattle.rinex_head.proofs.LineRuleLaws.{reads_then}
-use Rattle.rinex2_obs.specs.Obs2Rules.{First, Head, Body, bare_header, obs2_rules}
-use Rattle.std.proofs.Common.{[]}
+use Rattle.std.proofs.Common.{◌≡◌, Ok, [], refl, sym, ap, ◌∙◌, Result}
 use Rattle.std.proofs.lemmas.Result.{err_from_is_err_and}
+use Rattle.obs_store.specs.declared.file.ObsFile.{ObsFile}
+use Rattle.rinex_head.specs.declared.place.What.{What}
+use Rattle.rinex_head.specs.declared.place.Flaw.{Flaw}
+use Rattle.rinex_head.specs.Places.{flawed}
+use Rattle.rinex_head.proofs.LineRuleLaws.{goes_on, stops, has_none}
+use Rattle.obs_fields.specs.declared.layout.Layout.TheVariants.{Rinex2}
+use Rattle.obs_fields.specs.HeaderRules.{Inside, Whole, admit_header}
+use Rattle.obs_fields.specs.OpenHeaders.{expected_in_header}
+use Rattle.rinex2_obs.specs.Obs2Rules.{Expected, Head, Body, after_header, finish, obs2_rules}
 use Rattle.rinex2_obs.proofs.header.read_header.Goals as goal
 
-pub returns-in_err-hundredths : goal.returns-in_err-hundredths
-returns-in_err-hundredths c =
+pub returns-in_err-line : goal.returns-in_err-line
+returns-in_err-line c =
+    let refused : What → Result ObsFile Flaw = λ what. flawed 1 what in
     let refusal = err_from_is_err_and c.from_residual.result c.from_residual.ensures.1 in
-    rw (refusal.1, refusal.2) c.in_err-hundredths.ensures
+    rw (refusal.1, refusal.2) (c.header.invariant ∙ has_none obs2_rules (Head (expected_in_header c.header.header)) _ _ c.missing.result _ (ap refused (sym c.missing.ensures)) c.in_err-line.ensures)
 
-pub returns : goal.returns
-returns c = reads_then obs2_rules First (Head (bare_header c.in_ok-hundredths.hundredths)) (λ h. Body h []) _ _ _ c.read_lines.result c.in_ok-hundredths.ensures c.read_lines.ensures
+pub header-preserved : goal.header-preserved
+header-preserved c =
+    let bytes = c.in_ok-line.line.bytes.now in
+    let before = expected_in_header c.header.header in
+    let after = expected_in_header c.take_line.new.self in
+    let taken = rw c.in-Ok-None.field-0-is at c.in-Ok-None.ensures.ok in
+    c.header.invariant ∙ goes_on obs2_rules (Head before) (Head after) (admit_header Rinex2 before bytes) (λ l. Ok (after_header l)) (Inside after) _ _ _ bytes c.in_ok-line.ensures refl (sym taken) refl
+
+pub returns-in-Ok-Some : goal.returns-in-Ok-Some
+returns-in-Ok-Some c =
+    let bytes = c.in_ok-line.line.bytes.now in
+    let before = expected_in_header c.header.header in
+    let whole = c.in-Ok-Some.whole in
+    let taken = rw c.in-Ok-Some.field-0-is at c.in-Ok-Some.ensures.ok in
+    rw c.in-Ok-Some.field-0-is (c.header.invariant ∙ goes_on obs2_rules (Head before) (Body whole []) (admit_header Rinex2 before bytes) (λ l. Ok (after_header l)) (Whole whole) _ _ _ bytes c.in_ok-line.ensures refl (sym taken) refl)
+
+pub returns-in-Err : goal.returns-in-Err
+returns-in-Err c =
+    let bytes = c.in_ok-line.line.bytes.now in
+    let before = expected_in_header c.header.header in
+    rw c.at.ensures (c.header.invariant
+    ∙ stops obs2_rules (Head before) (admit_header Rinex2 before bytes) (λ l. Ok (after_header l)) _ _ _ _ bytes c.in_ok-line.ensures refl (sym c.in-Err.ensures.err))

@@ -2,7 +2,7 @@ use Rattle.std.proofs.Common.{◌≡◌, ◌+◌, ◌≤◌, Bool, List, length}
 use Rattle.gps_time.specs.declared.Tick.{Tick}
 use Rattle.obs_store.specs.declared.series.Epoch.{Epoch}
 use Rattle.rinex_head.specs.LineRules.{rest_gives}
-use Rattle.rinex2_obs.specs.declared.header.Header.{Header}
+use Rattle.obs_fields.specs.declared.header.Header.{Header}
 use Rattle.rinex2_obs.specs.Obs2Rules.{more_names, obs2_rules}
 use Rattle.rinex2_obs.proofs.sats.read_names.Given as goal
 
