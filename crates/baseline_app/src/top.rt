@@ -71,8 +71,7 @@ fn sim_part(
 // What the job ends with.
 fn do_job<F: Files>(alloc: Global, job: &Job, files: &mut F) -> Result<JobOutput, JobStop>
     requires { IsInRange job.now }
-    ensures done {
-        IsCommandDone (file_work F.Files files.old files.new) (command_of job.now) result }
+    ensures done { IsCommandDone (file_work F.Files files.old files.new) (command_of job.now) result }
     ensures untouched { (command_of job.now).file_words ≡ [] → files.new ≡ files.old }
 {
     match job {
