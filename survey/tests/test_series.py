@@ -283,6 +283,9 @@ def test_bad_input(folder, tmp_path):
     refused(series_of(tmp_path / "none"), "none", "No such file")
     (tmp_path / "L").write_text("a b c\n")
     refused(series_of(tmp_path / "L"), "line 1")
+    for zone in ("Z", "+05:45"):
+        (tmp_path / "L").write_text(f"sessions/20050402_0000.cert\n2005-04-02T08:00{zone} sessions/20050402_0800.cert\n")
+        refused(series_of(tmp_path / "L"), "line 2", "without a zone")
     refused(series_of(folder, "--picture", tmp_path / "p.gif"), ".png")
     refused(series_of(folder, "--since", "today"), "today")
     series_of(folder)

@@ -58,12 +58,9 @@ def configure(parser: argparse.ArgumentParser) -> None:
 def time(word: str) -> datetime:
     """A time of an option: GPS time, without a zone."""
     try:
-        found = datetime.fromisoformat(word)
+        return series.gps_time(word)
     except ValueError:
-        found = None
-    if found is None or found.tzinfo:
-        raise argparse.ArgumentTypeError(f"{word}: a time as 2005-04-02T00:00 (GPS time) is expected")
-    return found
+        raise argparse.ArgumentTypeError(f"{word}: a time as 2005-04-02T00:00 (GPS time) is expected") from None
 
 
 def sigmas(word: str) -> float:
