@@ -290,7 +290,10 @@ def test_bad_input(folder, tmp_path):
     refused(series_of(folder, "--since", "today"), "today")
     series_of(folder)
     log = (folder / "series.tsv").read_bytes()
-    for bad in (log[:-1], log.replace(b"\t7\t", b"\tx\t"), log + b"one more\n", b"something else\n"):
+    for bad in (log[:-1], log.replace(b"\t7\t", b"\tx\t"), log + b"one more\n", b"something else\n",
+                re.sub(rb'"fixed"', b"5", log, 1), re.sub(rb'("fixed"\t)[^\t]+', rb"\1nan", log, 1),
+                re.sub(rb"(\n[^\t]{26})\t", rb"\1+05:45\t", log, 1)):
+        assert bad != log
         (folder / "series.tsv").write_bytes(bad)
         refused(series_of(folder), "series.tsv")
         assert (folder / "series.tsv").read_bytes() == bad
