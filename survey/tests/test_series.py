@@ -288,6 +288,7 @@ def test_bad_input(folder, tmp_path):
         refused(series_of(tmp_path / "L"), "line 2", "without a zone")
     refused(series_of(folder, "--picture", tmp_path / "p.gif"), ".png")
     refused(series_of(folder, "--since", "today"), "today")
+    refused(series_of(folder, "--reference", "4"), "5 fixes or more")
     series_of(folder)
     log = (folder / "series.tsv").read_bytes()
     for bad in (log[:-1], log.replace(b"\t7\t", b"\tx\t"), log + b"one more\n", b"something else\n",
