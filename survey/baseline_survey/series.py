@@ -215,11 +215,12 @@ def _triple(x: str, y: str, z: str) -> Optional[Triple]:
 
 def update(source: str, log: str, make: MakeSettings, key: str, check: Optional[Check]) -> tuple[list[Row], int]:
     """Brings a log up to date with a folder or a list, under a lock; gives the rows and how many are new. `key` names the
-    settings in the log."""
+    settings in the log. Where the folder or the list can't be read, nothing is written, a lock neither."""
+    listed = list(entries(source))
     with files.locked(log):
         rows = {row.name: row for row in load(log, key)}
         fresh = 0
-        for entry in entries(source):
+        for entry in listed:
             known, file = rows.get(entry.name), _file(entry.path)
             if known and file and known.file == file:
                 continue

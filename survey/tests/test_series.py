@@ -286,6 +286,7 @@ def test_bad_input(folder, tmp_path):
     for zone in ("Z", "+05:45"):
         (tmp_path / "L").write_text(f"sessions/20050402_0000.cert\n2005-04-02T08:00{zone} sessions/20050402_0800.cert\n")
         refused(series_of(tmp_path / "L"), "line 2", "without a zone")
+    assert sorted(it.name for it in tmp_path.iterdir()) == ["L", "sessions"]
     refused(series_of(folder, "--picture", tmp_path / "p.gif"), ".png")
     refused(series_of(folder, "--since", "today"), "today")
     refused(series_of(folder, "--reference", "4"), "5 fixes or more")
