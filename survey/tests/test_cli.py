@@ -146,7 +146,10 @@ def test_wrong_words(survey, tmp_path):
     refused(run("adjust"), "CERT")
     refused(run("adjust", survey[0], survey[1]), "ROVER is missing")
     refused(run("adjust", survey[0], "--sigma", "nan", "3"), "no number: nan")
-    refused(run("adjust", survey[0], "--sigma", "0", "0"), "standard deviations")
+    for least in ("0", "1e-200", "9e-4"):
+        refused(run("adjust", survey[0], "--sigma", least, "0"), "standard deviations")
+    refused(run("adjust", survey[0], "--zenith", "--zenith-sd", "1e-300"), "zenith delays")
+    refused(run("adjust", survey[0], "--zenith-per-km", "1e-300"), "each metre of height")
     refused(run("adjust", survey[0], "--combination", "wide"), "wide")
     refused(run("adjust", survey[0], "--comb", "both"), "--comb")
     refused(run("adjust", survey[0], "--blocks", "0"), "no number above 0")
