@@ -160,6 +160,8 @@ def test_wrong_words(survey, tmp_path):
     refused(run("adjust", survey[0], "--pressure", "900", "--no-troposphere"), "exclude")
     refused(run("quality", survey[0], "--phase", "-1"), "not above 0")
     refused(run("coordinates", *survey, "--crs", "EPSG:1"), "EPSG:1")
+    refused(run("coordinates", *survey, "--crs", "EPSG:\udcff"), "EPSG:\\udcff", "aren't UTF-8")
+    assert len(run("coordinates", *survey, "--crs", "x" * 5000).stderr) < 600
     refused(run("coordinates", survey[0], survey[2], survey[1]), "exchanged")
     (tmp_path / "few.atx").write_bytes(b"     1.4            M".ljust(60) + b"ANTEX VERSION / SYST\n" + b"".ljust(60) + b"END OF HEADER\n")
     refused(run("adjust", *survey, "--atx", tmp_path / "few.atx"), "no antenna TRM29659.00 NONE", "few.atx")
