@@ -451,6 +451,8 @@ def parse_time(word: str, day: int) -> int:
     try:
         if not told or int(told[2]) > 24 or int(told[3]) > 59 or int(told[4] or 0) > 59:
             raise ValueError
+        if told[2] == "24" and any(int(it or 0) for it in told.groups()[2:]):
+            raise ValueError
         days = datetime.date.fromisoformat(told[1]).toordinal() - _EPOCH if told[1] else day
     except ValueError:
         raise SurveyError(f"no time of the form 2005-04-02T00:05:00 or 00:05:00: {word}") from None

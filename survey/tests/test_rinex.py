@@ -217,7 +217,8 @@ def test_cut_and_events(examples):
 
 @pytest.mark.parametrize("begin, end, part", [("00:10", "00:05", "before TO"), ("01:00", "02:00", "no epoch"), ("x", "00:05", "no time"),
                                              ("2005-02-30T00:00", "00:05", "no time"), ("00:61", "00:05", "no time"),
-                                             ("0:05", "00:10", "no time")])
+                                             ("0:05", "00:10", "no time"), ("00:00", "24:30", "no time"),
+                                             ("00:00", "24:00:01", "no time"), ("00:00", "24:00:00.1", "no time")])
 def test_cut_refuses(examples, begin, end, part):
     with pytest.raises(SurveyError, match=part):
         rinex.cut((examples / FILES[0]).read_bytes(), begin, end)
