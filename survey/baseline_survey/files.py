@@ -2,8 +2,10 @@
 from __future__ import annotations
 
 import contextlib
+import errno
 import fcntl
 import os
+import stat
 import tempfile
 from typing import Iterator, Optional, Union
 
@@ -28,8 +30,31 @@ def read(name: Name) -> bytes:
 def replace(name: Name, data: bytes, part: Optional[Name] = None) -> None:
     """Puts these bytes in the place of a file: written beside it, flushed to the disk, and renamed. The old file stays until
     the new one is whole. OSError where that fails; then nothing is left behind. A kill may leave the half-written file: it
-    has a name of its own, or `part`, which the next call writes anew (for a caller that holds a lock)."""
+    has a name of its own, or `part`, which the next call writes anew (for a caller that holds a lock). A device or a pipe is
+    written to."""
     name = os.fspath(name)
+    try:
+        if _is_special(name):
+            with open(name, "wb") as file:
+                file.write(data)
+        else:
+            _replace(name, data, part)
+    except OSError as why:  # of a name that the caller knows, not of the half-written file's own
+        raise OSError(why.errno, why.strerror, name if part is None else why.filename or name) from None
+
+
+def _is_special(name: str) -> bool:
+    """Whether a device or a pipe has this name, as /dev/null or /dev/stdout: it is written to, and no file takes its place."""
+    try:
+        mode = os.stat(name).st_mode
+    except OSError:
+        return False
+    if stat.S_ISDIR(mode):
+        raise IsADirectoryError(errno.EISDIR, os.strerror(errno.EISDIR), name)
+    return not stat.S_ISREG(mode)
+
+
+def _replace(name: str, data: bytes, part: Optional[Name]) -> None:
     folder = os.path.dirname(os.path.abspath(name))
     if part is None:
         handle, written = tempfile.mkstemp(dir=folder, prefix=".baseline-survey-", suffix=".part")
