@@ -225,6 +225,15 @@ def test_outputs_that_fail(survey):
     assert ran.returncode == 2
 
 
+def test_closed_outputs(survey, monkeypatch, capsysbinary):
+    """Python has None for a stream that a shell closed (`>&-`)."""
+    monkeypatch.setattr(sys, "stdout", None)
+    assert cli.main(["adjust", str(survey[0])]) == 2
+    assert capsysbinary.readouterr().err == b"baseline-survey: standard output: closed\n"
+    monkeypatch.setattr(sys, "stderr", None)
+    assert cli.main(["adjust", str(survey[0])]) == 2 and cli.main(["adjust", "none"]) == 2
+
+
 def test_a_missing_library_is_named(survey, tmp_path):
     (tmp_path / "numpy.py").write_text("raise ModuleNotFoundError(\"No module named 'numpy'\", name='numpy')")
     env = dict(os.environ, PYTHONPATH=f"{tmp_path}:{HERE}", PYTHONDONTWRITEBYTECODE="1")
