@@ -7,7 +7,7 @@ import fcntl
 import os
 import stat
 import tempfile
-from typing import Iterator, Optional, Union
+from typing import BinaryIO, Iterator, Optional, Union
 
 from .certificate import MOST_BYTES
 from .errors import SurveyError
@@ -19,11 +19,16 @@ Name = Union[str, "os.PathLike[str]"]
 def read(name: Name) -> bytes:
     """The bytes of a file, read once. SurveyError where it has more than 64 MiB or is packed, OSError where it can't be read."""
     with open(name, "rb") as file:
-        data = file.read(MOST_BYTES + 1)
+        return read_from(file, os.fspath(name))
+
+
+def read_from(file: BinaryIO, name: str) -> bytes:
+    """The same of what is open already."""
+    data = file.read(MOST_BYTES + 1)
     if len(data) > MOST_BYTES:
-        raise SurveyError(f"{os.fspath(name)}: file too large")
+        raise SurveyError(f"{name}: file too large")
     if packed := why_packed(data):
-        raise SurveyError(f"{os.fspath(name)}: {packed}")
+        raise SurveyError(f"{name}: {packed}")
     return data
 
 

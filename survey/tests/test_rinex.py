@@ -258,6 +258,15 @@ def test_words(examples, tmp_path):
     assert sorted(it.name for it in tmp_path.iterdir()) == ["c"]
 
 
+def test_rebase_of_too_large_an_input(examples, monkeypatch):
+    """What is read from standard input has the limit of a file; the rest isn't dropped in silence."""
+    from baseline_survey import files
+    data = (examples / FILES[0]).read_bytes()
+    monkeypatch.setattr(files, "MOST_BYTES", len(data) - 1)
+    refused(run("rebase", *SOME_PLACE_WORDS, input=data), "standard input: file too large")
+    refused(run("rebase", *SOME_PLACE_WORDS, examples / FILES[0]), FILES[0], "file too large")
+
+
 def test_hostile_file_names(examples, tmp_path, monkeypatch, capfd):
     """Names of any kind are files and nothing else, in and out."""
     from sessions import HOSTILE
