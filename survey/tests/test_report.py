@@ -185,6 +185,8 @@ def test_word_writes_nothing_where_it_can_not(examples, tmp_path):
     refused(run("report", tmp_path / "none.cert", *names), "none.cert")
     refused(run("report", tmp_path / "n", names[0], names[1], tmp_path / "none", "--program", program), "none")
     refused(run("report", tmp_path / "n", *names, "--mask", "17.5"), "0 to 900")
+    for name in ("", f"{tmp_path}/", f"{tmp_path}/.", ".."):
+        refused(run("report", name, *names, "--program", stand_in(tmp_path / "p")), "the name of a certificate", name)
     assert sorted(it.name for it in tmp_path.iterdir()) == ["p", "q"]
 
 

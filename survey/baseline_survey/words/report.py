@@ -41,6 +41,8 @@ def configure(parser: argparse.ArgumentParser) -> None:
 
 
 def run(options: argparse.Namespace) -> Outcome:
+    if os.path.basename(options.certificate) in ("", ".", ".."):
+        raise SurveyError(f"the name of a certificate or of a new one is expected: {options.certificate or 'it is empty'}")
     observed = (options.base, options.rover, options.navigation)
     is_certificate = os.path.exists(options.certificate) and not os.path.isdir(options.certificate)
     if not is_certificate and options.certificate.endswith(".cert"):
