@@ -370,6 +370,8 @@ def test_bad_input(triangle):
     (triangle / "AB.cert").write_bytes((triangle / "AB.cert").read_bytes().replace(b"\nfixed\n", b"\ndeclined unseparated\n"))
     refused(run("network", triangle / "LIST", *HOLD), "AB.cert", "declined unseparated")
     refused(run("network", triangle / "LIST", "--hold", "A", "1", "2", "x"), "--hold A")
+    refused(run("network", triangle / "LIST", "--hold", "A", "0", "0", "0"), "--hold A isn't on the Earth")
+    refused(run("network", triangle / "LIST", *HOLD, *HOLD), "--hold A: held twice")
     refused(run("network", triangle / "LIST", "--scale", "0"), "--scale")
     assert not (triangle / "x.xml").exists()
 
