@@ -196,7 +196,7 @@ def adjust(cert: Certificate, settings: Settings = Settings(), base: Optional[He
     Raises SurveyError where the certificate has no fix or isn't on the Earth, or where its rows don't determine the vector.
     """
     rows, place = rows_of(cert), checked_place(cert.base_m, "the base")
-    first, last = time_of(int(rows.tags[0])), time_of(int(rows.tags[-1]))
+    first, last = time_of(int(rows.tags.min())), time_of(int(rows.tags.max()))
     choice = chosen(settings.combination, float(np.linalg.norm(cert.vector_m())), (last - first).total_seconds())
     settings = replace(settings, combination=choice.combination)
     found = solve(system_of(cert, rows, settings), settings.robust)

@@ -249,6 +249,17 @@ def test_a_dateless_tag(tmp_path):
         refused(run(word, tmp_path / "c"), "no date", str(tmp_path / "c"))
 
 
+def test_tags_that_fall(tmp_path):
+    """A forged order of the pairs: the time from first to last is that of the earliest and the latest, and `quality` has a note."""
+    text = made(pairs=4, noise_m=0.003).text.decode().split("\n")
+    tags = iter(sorted((int(line.split()[2]) for line in text if line.startswith("pair ")), reverse=True))
+    text = [" ".join([*line.split()[:2], str(next(tags)), *line.split()[3:]]) if line.startswith("pair ") else line for line in text]
+    (tmp_path / "c").write_text("\n".join(text))
+    ran = run("adjust", tmp_path / "c", "--no-troposphere")
+    assert ran.returncode == 0 and b"from 2005-04-02 00:00:00 to 2005-04-02 00:01:30 GPS time" in ran.stdout, ran
+    assert b"isn't later than the pair before it" in run("quality", tmp_path / "c").stdout
+
+
 def test_text():
     assert visible("a\x1b\n\x9b\u202e\udcff") == "a\\x1b\\x0a\\x9b\\u202e\\udcff" and visible("Höhe 5") == "Höhe 5"
     assert number(-0.0001, 2) == "0.00" and number(-0.01, 2) == "-0.01"

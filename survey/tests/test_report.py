@@ -219,6 +219,12 @@ def test_what_a_check_says_stands_out(files, no_pictures):
         assert done.looks == told and ("Something stands out" in Page(report.html(done).decode()).text) == told
 
 
+def test_a_tag_without_a_date():
+    """One pair of a forged certificate, between others, has a tag past the year 9999."""
+    with pytest.raises(SurveyError, match="is no date"):
+        report.pictures._times([0, 2**63 - 1])
+
+
 def test_three_bands(tmp_path, no_pictures):
     """Three signals, long names and offsets of the antennas."""
     from made import made as certificate

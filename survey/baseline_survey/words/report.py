@@ -24,6 +24,7 @@ from ..errors import SurveyError
 from ..rinex_header import Header
 from ..text import number, numbers, visible
 from ._fix import add_fix, fix_options
+from ._output import named
 from .options import add_settings, count, settings_of
 
 
@@ -58,7 +59,10 @@ def run(options: argparse.Namespace) -> Outcome:
     page = options.output or (cert_name[:-5] if cert_name.endswith(".cert") else cert_name) + ".html"
     given = report.Input(cert, base, rover, navigation, (cert_name, *observed))
     made = report.build(given, verdicts, functools.partial(_settings, options), options.title, options.blocks)
-    page_bytes = report.html(made)
+    try:
+        page_bytes = report.html(made)
+    except SurveyError as why:
+        raise named(why, cert_name) from None
     if log is not None:
         files.replace(cert_name, cert)
         files.replace(options.certificate + ".log", log)
