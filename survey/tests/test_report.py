@@ -198,17 +198,20 @@ def test_with_the_program(examples, program, tmp_path, no_pictures):
     refused(run("report", tmp_path / "no", *names, "--program", program, "--ratio", "15000"), "declined unseparated")
 
 
-def test_a_corrected_rover_with_a_wrong_height(files):
-    """The delays of a corrected file belong to its header's height: one that is off is told, one that is right isn't."""
-    from baseline_survey import rinex
+def test_corrected_files_with_a_wrong_height(files):
+    """The delays of a corrected file belong to the height that its COMMENT says, whatever its header was made to say later."""
+    from baseline_survey import geodesy
     cert, base, rover, nav = files
-    mark = made(files).adjustment.marks.rover_m
-    for rise, told in ((0.0, False), (20.0, True)):
-        place = mark * (1 + rise / 6_371_000)
-        comment = f"{'baseline-survey correct: x':<60}COMMENT\nrebased, was"
-        changed = rinex.rebase(rover, [f"{x:.4f}" for x in place]).replace(b"rebased, was", comment.encode())
-        caveats = made((cert, base, changed, nav), settings=Settings(troposphere=False)).caveats
-        assert any("m too high" in it for it in caveats) == told, caveats
+    marks = made(files).adjustment.marks
+    for which, mark in ((1, marks.base_m), (2, marks.rover_m)):
+        for rise, told in ((0.0, ""), (2.0, ""), (20.0, "20 m too high"), (-4.0, "4 m too low")):
+            comments = ("baseline-survey correct: x", f"at height {geodesy.geodetic(mark)[2] + rise:.1f} m; orbits: broadcast")
+            changed = list(files)
+            changed[which] = files[which].replace(
+                b" " * 60 + b"END OF HEADER", "".join(f"{it:<60}COMMENT\n" for it in comments).encode() + b" " * 60 + b"END OF HEADER", 1)
+            caveats = made(changed, settings=Settings(troposphere=False)).caveats
+            found = [it for it in caveats if "too high" in it or "too low" in it]
+            assert len(found) == bool(told) and all(told in it and it.startswith(("", "The base's", "The rover's")[which]) for it in found)
 
 
 def test_what_a_check_says_stands_out(files, no_pictures):
