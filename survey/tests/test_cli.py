@@ -115,7 +115,8 @@ def test_corrected_files(survey, tmp_path):
         comment, end = b"baseline-survey correct: troposphere".ljust(60) + b"COMMENT\n", b"".ljust(60) + b"END OF HEADER"
         made[-1].write_bytes(name.read_bytes().replace(end, comment + end, 1))
     ran = run("adjust", survey[0], *made)
-    assert ran.returncode == 0 and b"no troposphere" in ran.stdout
+    assert ran.returncode == 0 and b"\nmodel troposphere taken off by `correct`, sigma" in ran.stdout
+    assert b"\nmodel no troposphere, sigma" in run("adjust", *survey, "--no-troposphere").stdout
     assert ran.stdout.splitlines()[0] == run("adjust", survey[0], "--no-troposphere").stdout.splitlines()[0]
     refused(run("adjust", survey[0], made[0], survey[2]), "one of both files was made by `correct`", made[0].name)
 

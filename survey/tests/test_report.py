@@ -107,6 +107,10 @@ def test_what_to_keep_in_mind(files, no_pictures):
     corrected = fixed.replace(b"Linux 2.0.36|Pentium II|gcc -static|Linux|486/DX+           COMMENT",
                               f"{'baseline-survey correct: delays taken off':<60}COMMENT".encode())
     assert len([it for it in made((cert, base, corrected, nav)).caveats if "corrected" in it or "--no-troposphere" in it]) == 2
+    by_correct = head_changed(base, "COMMENT", "baseline-survey correct: delays taken off")
+    for one, told in ((base, "no troposphere taken off"), (by_correct, "troposphere taken off the files by `correct`")):
+        page = Page(report.html(made((cert, one, rover, nav), settings=Settings(troposphere=False))).decode())
+        assert told in page.text
     assert not any("ionosphere" in it for it in made(files, settings=Settings(combination="ionosphere-free")).caveats)
     less = cert.replace(b"ratio 2000", b"ratio 1500")
     assert any("A ratio of 1.5 was asked for" in it for it in made((less, base, rover, nav)).caveats)
