@@ -157,13 +157,29 @@ def test_word_with_a_certificate(examples, tmp_path, monkeypatch, no_pictures):
     shutil.copy(examples / NAMES[0], tmp_path / "v.cert")
     names = [examples / name for name in NAMES[1:]]
     ran = run("report", tmp_path / "v.cert", *names, "--program", program)
-    assert ran.returncode == 0 and b"check certified" in ran.stdout and b"not run again" in (tmp_path / "v.html").read_bytes()
+    assert ran.returncode == 0 and b"check certified" in ran.stdout and b"\nfiles: the same bytes\n" in ran.stdout
     ran = run("report", tmp_path / "v.cert", *names, "--program", program, "--verify", "--output", tmp_path / "w.html", "--json")
     data = json.loads(ran.stdout)
     assert data["verified"] is True and data["check"] == "certified" and b"the same bytes" in (tmp_path / "w.html").read_bytes()
     (tmp_path / "v.cert").write_bytes((tmp_path / "v.cert").read_bytes().replace(b"move -2233", b"move -2333"))
-    ran = run("report", tmp_path / "v.cert", *names, "--program", program, "--verify")
-    assert ran.returncode == 1 and b"another text" in (tmp_path / "v.html").read_bytes()
+    for more in ((), ("--verify",)):
+        (tmp_path / "v.html").unlink()
+        ran = run("report", tmp_path / "v.cert", *names, "--program", program, *more)
+        assert ran.returncode == 1 and b"another text" in (tmp_path / "v.html").read_bytes() and b"\nfiles: `fix` gives another" in ran.stdout
+
+
+def test_the_originals_of_a_corrected_certificate(examples, program, tmp_path, no_pictures):
+    """Their headers are those of the corrected files. `fix` gives another text from them, so the page says that something is wrong."""
+    names = [examples / name for name in NAMES[1:]]
+    for name in names[:2]:
+        assert run("correct", name, names[2], "--output", tmp_path / name.name).returncode == 0
+    corrected = [tmp_path / name.name for name in names[:2]] + names[2:]
+    ran = run("report", tmp_path / "v", *corrected, "--program", program)
+    assert ran.returncode == 0 and b"taken off the files by `correct`" in (tmp_path / "v.html").read_bytes()
+    ran = run("report", tmp_path / "v.cert", *corrected, "--program", program)
+    assert ran.returncode == 0 and b"\nfiles: the same bytes\n" in ran.stdout
+    ran = run("report", tmp_path / "v.cert", *names, "--program", program)
+    assert ran.returncode == 1 and b"Something stands out" in (tmp_path / "v.html").read_bytes()
 
 
 def test_word_with_a_name(examples, tmp_path, no_pictures):
