@@ -86,6 +86,15 @@ def test_a_wrong_integer_is_told(survey, tmp_path):
     assert told["look"] == [f"L1 of G03 (arc 2): as a real number 1.00 cycles from the held {words[3]}"] and len(told["integers"]) == 14
 
 
+def test_a_wrong_integer_is_told_beside_coordinates(survey, tmp_path):
+    """A mark that is 0.6 m off by one integer has the look that `adjust` has."""
+    assert b"\nlook: " not in run("coordinates", *survey).stdout
+    (tmp_path / "c").write_bytes(survey[0].read_bytes().replace(b"\nz1 0 0 0 ", b"\nz1 0 0 1 ", 1))
+    ran = run("coordinates", tmp_path / "c", *survey[1:])
+    assert ran.returncode == 1 and b"\nlook: IF12 of G11 (arc 2): as a real number 4.50 cycles from the held 1 and 0\n" in ran.stdout
+    assert len(json.loads(run("coordinates", tmp_path / "c", *survey[1:], "--json").stdout)["look"]) == 1
+
+
 def test_a_zenith_delay_of_a_quarter_is_noted(survey):
     ran = run("adjust", "--zenith", survey[0])
     assert ran.returncode == 0 and b"note: a zenith delay needs an hour or more" in ran.stdout and b"\nzenith_mm " in ran.stdout
