@@ -48,6 +48,8 @@ ORBIT_M = {"G": 26.56e6, "E": 29.60e6}
 LOWEST = math.radians(3.0)
 # From this difference in height on the air between is an unknown.
 LEAST_RISE_M = 25.0
+# A standard deviation below this is no receiver's, and a weight of its square leaves the range of numbers.
+LEAST_SIGMA_M = 1e-6
 
 
 @dataclass(frozen=True)
@@ -74,12 +76,12 @@ class Settings:
         for sigma in (self.sigma_a_m, self.sigma_b_m):
             if not 0 <= sigma <= 1:
                 raise SurveyError(f"a standard deviation is 0 to 1 m: {sigma}")
-        if not 0 <= self.zenith_per_m <= 1e-3:
-            raise SurveyError(f"the standard deviation for each metre of height is 0 to 1 mm: {self.zenith_per_m}")
-        if not 0 < self.zenith_sd_m <= 1:
-            raise SurveyError(f"the standard deviation of the zenith delays' difference is above 0, to 1 m: {self.zenith_sd_m}")
-        if self.sigma_a_m == self.sigma_b_m == 0:
-            raise SurveyError("not both standard deviations can be 0")
+        if self.zenith_per_m != 0 and not 1e-9 <= self.zenith_per_m <= 1e-3:
+            raise SurveyError(f"the standard deviation for each metre of height is 0, or 0.000001 to 1 mm: {1000 * self.zenith_per_m:g}")
+        if not LEAST_SIGMA_M <= self.zenith_sd_m <= 1:
+            raise SurveyError(f"the standard deviation of the zenith delays' difference is 0.001 to 1000 mm: {1000 * self.zenith_sd_m:g}")
+        if max(self.sigma_a_m, self.sigma_b_m) < LEAST_SIGMA_M:
+            raise SurveyError("one of both standard deviations is 0.001 mm or more")
 
 
 @dataclass(frozen=True)
@@ -194,7 +196,7 @@ def adjust(cert: Certificate, settings: Settings = Settings(), base: Optional[He
     Raises SurveyError where the certificate has no fix or isn't on the Earth, or where its rows don't determine the vector.
     """
     rows, place = rows_of(cert), checked_place(cert.base_m, "the base")
-    first, last = time_of(int(rows.tags[0])), time_of(int(rows.tags[-1]))
+    first, last = time_of(int(rows.tags.min())), time_of(int(rows.tags.max()))
     choice = chosen(settings.combination, float(np.linalg.norm(cert.vector_m())), (last - first).total_seconds())
     settings = replace(settings, combination=choice.combination)
     found = solve(system_of(cert, rows, settings), settings.robust)

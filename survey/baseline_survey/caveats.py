@@ -16,11 +16,11 @@ from .certificate import Certificate
 from .errors import SurveyError
 from .integers import RealInteger
 from .quality import Quality
-from .rinex import MARK
+from .rinex import OFF_M, height_of_correction, is_corrected
 from .rinex_header import Header
 from .text import numbers
 
-SHORT_S, FAR_M, HIGH_M, OFF_M = 600, 3000, 20, 3
+SHORT_S, FAR_M, HIGH_M = 600, 3000, 20
 
 
 def caveats(cert: Certificate, base: Header, rover: Header, done: Adjustment, parts: Optional[Blocks], found: Quality,
@@ -35,14 +35,14 @@ def caveats(cert: Certificate, base: Header, rover: Header, done: Adjustment, pa
             told.append(f"The integers of {it}: with troposphere and weights another one may fit better. It is a slip inside its arc, or a "
                         "wrong integer, or on a long line by day the ionosphere: `fix` without this satellite's time, or with --ratio "
                         "3000, shows which.")
-    is_corrected = any(comment.startswith(MARK) for header in (base, rover) for comment in header.comments)
+    corrected = is_corrected(base.comments) or is_corrected(rover.comments)
     length, rise = float((done.enu_m[:2]**2).sum()**0.5), float(done.enu_m[2])
     if not any(done.vector_m.round(4)):
         told.append("The vector is 0: the same file stands for base and rover, or both receivers shared an antenna.")
     if found.ratio_asked < 2:
         told.append(f"A ratio of {found.ratio_asked:g} was asked for; the usual one is 2. `certified` is about the ratio in the "
                     "certificate.")
-    told += _air(done, length, rise, is_corrected) + _ionosphere(cert, done, parts)
+    told += _air(done, length, rise, corrected) + _ionosphere(cert, done, parts)
     seconds = (done.last - done.first).total_seconds()
     if seconds < SHORT_S:
         told.append(f"The observation lasts {seconds / 60:.0f} minutes: reflections at the antennas, which turn in 5 to 20 minutes, aren't "
@@ -51,12 +51,12 @@ def caveats(cert: Certificate, base: Header, rover: Header, done: Adjustment, pa
     if parts is None:
         told.append("The observation is too short for a precision by parts: the formal standard deviations take the noise of each epoch as "
                     "independent and are three to ten times too small.")
-    if is_corrected:
+    if corrected:
         told.append("The observations were corrected before `fix` read them (the COMMENT lines of the files say how): the certificate "
                     "speaks of the corrected files, whose checksums stand below.")
         if done.settings.troposphere:
             told.append("The troposphere was taken off the files already, and this adjustment took it off again: use --no-troposphere.")
-        told += _wrong_height(rover, done)
+        told += _wrong_heights(base, rover, done)
     told.append("The base's coordinates are those of its file's header. An error there shifts the rover by as much, and 10 m of it change "
                 f"the vector by {10 / 4 * 1e-7 * math.hypot(length, rise) * 1000:.1f} mm.")
     told.append("One observation can't show errors that belong to a station: a wrong antenna height, centring, the atmosphere. A loop of "
@@ -64,15 +64,16 @@ def caveats(cert: Certificate, base: Header, rover: Header, done: Adjustment, pa
     return told
 
 
-def _wrong_height(rover: Header, done: Adjustment) -> list[str]:
-    """Where the rover's delays were taken off at the height of a header that is off."""
-    if rover.position_m is None or done.marks is None:
-        return []
-    off = float(geodesy.to_local(np.array(rover.position_m) - done.marks.rover_m, done.marks.rover_m)[2])
-    if abs(off) < OFF_M:
-        return []
-    return [f"The rover's delays were taken off at the height in its header, {abs(off):.0f} m too {'high' if off > 0 else 'low'}, which "
-            f"costs about {abs(off):.0f} mm: `rebase` the original file to the mark above, `correct` it and run `fix` again."]
+def _wrong_heights(base: Header, rover: Header, done: Adjustment) -> list[str]:
+    """Where the delays were taken off at another height than the antenna's: a `rebase` after `correct`, or a header that was off."""
+    told = []
+    for role, header, mark in (("base", base, done.base_m), ("rover", rover, done.marks.rover_m if done.marks else done.rover_m)):
+        taken_at = height_of_correction(header.comments)
+        off = 0.0 if taken_at is None else taken_at - header.delta_m[0] - geodesy.geodetic(mark)[2]
+        if abs(off) >= OFF_M:
+            told.append(f"The {role}'s delays were taken off {abs(off):.0f} m too {'high' if off > 0 else 'low'}, which costs about "
+                        f"{abs(off):.0f} mm: `rebase` the original file to the mark above, `correct` it and run `fix` again.")
+    return told
 
 
 def _ionosphere(cert: Certificate, done: Adjustment, parts: Optional[Blocks]) -> list[str]:
@@ -91,7 +92,7 @@ def _ionosphere(cert: Certificate, done: Adjustment, parts: Optional[Blocks]) ->
             "than the noise of both: what remains of the ionosphere, or of reflections, is in one of them."]
 
 
-def _air(done: Adjustment, length: float, rise: float, is_corrected: bool) -> list[str]:
+def _air(done: Adjustment, length: float, rise: float, corrected: bool) -> list[str]:
     """The atmosphere by length and height."""
     told = []
     km = length / 1000
@@ -102,7 +103,7 @@ def _air(done: Adjustment, length: float, rise: float, is_corrected: bool) -> li
     if length > 10_000:
         told.append("Beyond 10 km what the atmosphere leaves can make wrong integers the best: ask `fix` for --ratio 3000.")
     if abs(rise) > HIGH_M:
-        own = "" if is_corrected else (" The vector that `fix` itself prints has no troposphere and is off by about 1 mm for each metre of "
+        own = "" if corrected else (" The vector that `fix` itself prints has no troposphere and is off by about 1 mm for each metre of "
                                        "height.")
         left = ", which leaves some mm for each 100 m."
         if done.zenith_m is not None and done.zenith_sd_m is not None:
@@ -110,7 +111,7 @@ def _air(done: Adjustment, length: float, rise: float, is_corrected: bool) -> li
                     f"deviation of {1000 * done.zenith_sd_m:.0f} mm, which is in the precision.")
         told.append(f"The stations differ by {abs(rise):.0f} m in height.{own} The real air is warmer, moister or drier than the modelled "
                     f"one{left}")
-    if not done.settings.troposphere and not is_corrected:
+    if not done.settings.troposphere and not corrected:
         told.append("No troposphere was taken off: the vector is off by about 1 mm for each metre of height between the stations.")
     return told
 

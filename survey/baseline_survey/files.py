@@ -2,10 +2,12 @@
 from __future__ import annotations
 
 import contextlib
+import errno
 import fcntl
 import os
+import stat
 import tempfile
-from typing import Iterator, Optional, Union
+from typing import BinaryIO, Iterator, Optional, Union
 
 from .certificate import MOST_BYTES
 from .errors import SurveyError
@@ -17,19 +19,47 @@ Name = Union[str, "os.PathLike[str]"]
 def read(name: Name) -> bytes:
     """The bytes of a file, read once. SurveyError where it has more than 64 MiB or is packed, OSError where it can't be read."""
     with open(name, "rb") as file:
-        data = file.read(MOST_BYTES + 1)
+        return read_from(file, os.fspath(name))
+
+
+def read_from(file: BinaryIO, name: str) -> bytes:
+    """The same of what is open already."""
+    data = file.read(MOST_BYTES + 1)
     if len(data) > MOST_BYTES:
-        raise SurveyError(f"{os.fspath(name)}: file too large")
+        raise SurveyError(f"{name}: file too large")
     if packed := why_packed(data):
-        raise SurveyError(f"{os.fspath(name)}: {packed}")
+        raise SurveyError(f"{name}: {packed}")
     return data
 
 
 def replace(name: Name, data: bytes, part: Optional[Name] = None) -> None:
     """Puts these bytes in the place of a file: written beside it, flushed to the disk, and renamed. The old file stays until
     the new one is whole. OSError where that fails; then nothing is left behind. A kill may leave the half-written file: it
-    has a name of its own, or `part`, which the next call writes anew (for a caller that holds a lock)."""
+    has a name of its own, or `part`, which the next call writes anew (for a caller that holds a lock). A device or a pipe is
+    written to."""
     name = os.fspath(name)
+    try:
+        if _is_special(name):
+            with open(name, "wb") as file:
+                file.write(data)
+        else:
+            _replace(name, data, part)
+    except OSError as why:  # of a name that the caller knows, not of the half-written file's own
+        raise OSError(why.errno, why.strerror, name if part is None else why.filename or name) from None
+
+
+def _is_special(name: str) -> bool:
+    """Whether a device or a pipe has this name, as /dev/null or /dev/stdout: it is written to, and no file takes its place."""
+    try:
+        mode = os.stat(name).st_mode
+    except OSError:
+        return False
+    if stat.S_ISDIR(mode):
+        raise IsADirectoryError(errno.EISDIR, os.strerror(errno.EISDIR), name)
+    return not stat.S_ISREG(mode)
+
+
+def _replace(name: str, data: bytes, part: Optional[Name]) -> None:
     folder = os.path.dirname(os.path.abspath(name))
     if part is None:
         handle, written = tempfile.mkstemp(dir=folder, prefix=".baseline-survey-", suffix=".part")

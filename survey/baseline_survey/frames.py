@@ -14,6 +14,7 @@ import numpy as np
 
 from .errors import SurveyError
 from .geodesy import AXIS_M, FLATTENING, Vector, geodetic
+from .text import visible
 
 if TYPE_CHECKING:
     from pyproj import CRS
@@ -45,8 +46,9 @@ def projected(places: Sequence[Vector], crs: str) -> Projected:
         from .cli import missing
         raise missing(why.name or "pyproj") from None
     set_network_enabled(False)
+    crs, asked = " ".join(visible(crs).split())[:200], crs
     try:
-        target = _checked(CRS.from_user_input(crs), crs)
+        target = _checked(CRS.from_user_input(asked), crs)
         for place in places:
             _check_area(place, target, crs)
         named = [(axis.name, axis.unit_name) for axis in target.axis_info][:3]
@@ -56,6 +58,8 @@ def projected(places: Sequence[Vector], crs: str) -> Projected:
             own = target.geodetic_crs.to_3d()
             transformer = Transformer.from_crs(own, target, allow_ballpark=False)
             done = [transformer.transform(*_angles(place, own), errcheck=True)[:3] for place in places]
+    except UnicodeEncodeError:
+        raise SurveyError(f"system {crs}: bytes that aren't UTF-8") from None
     except (CRSError, ProjError) as why:
         raise SurveyError(f"system {crs}: {' '.join(str(why).split())[:200]}") from None
     if not np.all(np.isfinite(np.array(done, dtype=float))):

@@ -85,21 +85,36 @@ def read_list(text: str, name: str = "") -> list[Entry]:
 
 def _spelled(text: str, name: str) -> list[tuple[int, list[str]]]:
     """The words of each line that has some, with the number of the line that they begin on."""
-    found, held, began = [], "", 0
+    found, held, began, still_open = [], [], 0, ""
     for number, raw in enumerate(text.split("\n"), 1):
         began = began if held else number
-        held += raw
-        try:
-            words = shlex.split(held, comments=True)
-        except ValueError:  # a quote that the next line closes
-            held += "\n"
+        held.append(raw)
+        if still_open := _open_after(raw, still_open):
+            still_open = still_open.rstrip("\\")  # a backslash takes the line's end
             continue
-        held = ""
-        if words:
+        if words := shlex.split("\n".join(held), comments=True):
             found.append((began, words))
-    if held.strip():
+        held = []
+    if held:
         raise NetworkError(f"{name}: line {began}: a quote isn't closed")
     return found
+
+
+def _open_after(line: str, still_open: str) -> str:
+    """What is open at the end of a line, as shlex reads it: a quote, a backslash, a backslash in a double quote, or nothing."""
+    for character in line:
+        if still_open.endswith("\\"):
+            still_open = still_open[:-1]
+        elif still_open:
+            if character == still_open:
+                still_open = ""
+            elif still_open + character == '"\\':
+                still_open += character
+        elif character == "#":
+            break
+        elif character in "'\"\\":
+            still_open = character
+    return still_open
 
 
 def _entry(words: Sequence[str], where: str) -> Entry:

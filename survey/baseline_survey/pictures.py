@@ -6,7 +6,7 @@ import io
 import math
 import os
 import re
-from datetime import datetime, timedelta
+from datetime import datetime
 from typing import Any, Callable, Optional, Sequence
 
 import matplotlib
@@ -18,7 +18,7 @@ from matplotlib.figure import Figure  # noqa: E402
 
 from . import alarm, files  # noqa: E402
 from .adjust import Blocks, Residuals  # noqa: E402
-from .certificate import EPOCH  # noqa: E402
+from .certificate import time_of  # noqa: E402
 from .errors import SurveyError  # noqa: E402
 from .text import visible  # noqa: E402
 
@@ -58,7 +58,7 @@ def write(path: str, draw: Callable[[], Figure]) -> None:
 
 
 def _times(tags: np.ndarray) -> list[datetime]:
-    return [EPOCH + timedelta(microseconds=int(tag) // 10) for tag in tags]
+    return [time_of(int(tag)) for tag in tags]
 
 
 def _clock(axes: matplotlib.axes.Axes, ticks: int = 4) -> None:

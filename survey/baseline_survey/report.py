@@ -28,6 +28,7 @@ from .coordinates import check_belongs
 from .errors import SurveyError
 from .integers import RealInteger, real_integers
 from .quality import Quality, quality
+from .rinex import is_corrected
 from .rinex_header import Header, read_header
 from .text import clock, moment, number, numbers, visible
 
@@ -154,7 +155,7 @@ def view(report: Report) -> dict[str, Any]:
         "slope": number(slope, 4), "level": number(math.hypot(*marks.enu_m[:2]), 4), "azimuth": angle(azimuth), "zenith": angle(zenith),
         "rise": number(geodesy.geodetic(marks.rover_m)[2] - geodesy.geodetic(marks.base_m)[2], 4),
         "precision": _precision(report), "covariance": [numbers(1e6 * row, 3) for row in done.covariance_m2],
-        "sigma0": number(done.sigma0, 2), "model": _model(done), "statistics": _statistics(report), "signals": _signals(report),
+        "sigma0": number(done.sigma0, 2), "model": _model(done, is_corrected(report.base.comments)), "statistics": _statistics(report), "signals": _signals(report),
         "caveats": [visible(it) for it in report.caveats],
         "checksums": [(role, visible(os.path.basename(name)), told) for role, name, told in report.checksums],
         "command": _command(report), "certificate": shlex.quote(visible(os.path.basename(report.checksums[0][1]))),
@@ -217,10 +218,12 @@ def _precision(report: Report) -> list[tuple[str, str, str, str]]:
     return [*rows, ("to be used", *(number(1000 * x, 1) for x in report.sd_enu_m))]  # type: ignore[list-item]
 
 
-def _model(done: Adjustment) -> str:
+def _model(done: Adjustment, corrected: bool) -> str:
+    """What was adjusted and how; `corrected` says whether the files were made by `correct`."""
     settings = done.settings
     weights = "; outliers count less (Huber) or not at all" if settings.robust else ""
-    air = "troposphere by Saastamoinen (1972) with Niell's mapping function (1996)" if settings.troposphere else "no troposphere taken off"
+    none = "troposphere taken off the files by `correct`, before `fix`" if corrected else "no troposphere taken off"
+    air = "troposphere by Saastamoinen (1972) with Niell's mapping function (1996)" if settings.troposphere else none
     phases = {"both": "the phases of all bands, each for itself", "ionosphere-free": "the ionosphere-free combination",
               "narrow": "the narrow-lane combination"}
     centres = "phase centres by ANTEX" if settings.base_antenna else "no phase centres applied"

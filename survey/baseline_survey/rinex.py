@@ -29,12 +29,27 @@ TICK = 10_000_000  # ticks of 100 ns in a second, as in a certificate
 SLACK = TICK // 100  # a tag may be off its whole second by a receiver's clock
 LOWEST = math.radians(3)  # Niell's mapping function is meant for elevations above this
 MARK = "baseline-survey correct:"  # begins the COMMENT of a corrected file
+OFF_M = 3.0  # delays that were taken off so far from the antenna's height cost some 3 mm
 DECIDING = ("SYS / # / OBS TYPES", "SYS / SCALE FACTOR", "# / TYPES OF OBSERV", "WAVELENGTH FACT L1/2")  # labels that say what values mean
 _EPOCH = datetime.date(1980, 1, 6).toordinal()
 _VALUE = re.compile(r" *([+-]?)(?:([0-9]+)(?:\.([0-9]{0,3}))?|\.([0-9]{1,3})) *\Z")
 _WHOLE = re.compile(r" *[0-9]+ *\Z")
 _SECOND = re.compile(r" *([0-9]{1,2})(?:\.([0-9]{0,7}))? *\Z")
 _PLACE = re.compile(r"[+-]?[0-9]{1,8}(?:\.[0-9]{0,4})?\Z")
+
+
+_HEIGHT = re.compile(r"at height (-?[0-9]+\.[0-9]) m; orbits: broadcast")
+
+
+def is_corrected(comments: Sequence[str]) -> bool:
+    """Whether a file with these texts of its lines COMMENT was made by `correct`."""
+    return any(comment.startswith(MARK) for comment in comments)
+
+
+def height_of_correction(comments: Sequence[str]) -> Optional[float]:
+    """The antenna's height in metres at which `correct` took the delays off; None where the file doesn't say it."""
+    found = [float(it[1]) for it in map(_HEIGHT.match, comments) if it]
+    return found[-1] if found and is_corrected(comments) else None
 
 
 class RinexError(SurveyError):
@@ -289,7 +304,7 @@ def correct(data: bytes, navigation: Navigation, *, ionosphere: bool = False, po
     """
     text = Text(data)
     form = read_form(text)
-    if any(comment.startswith(MARK) for comment in form.comments):
+    if is_corrected(form.comments):
         raise RinexError(0, "is corrected already")
     if ionosphere and navigation.klobuchar is None:
         raise SurveyError("the navigation file has no lines GPSA and GPSB")
@@ -421,13 +436,19 @@ def rebase(data: bytes, place: Sequence[str]) -> bytes:
     """Puts known coordinates (m, as words with at most four places) into every line APPROX POSITION XYZ of the header.
 
     Where the header has none, one is put before its end. A COMMENT keeps the coordinates that stood there. The header's
-    position is the mark: the antenna is above it by DELTA H/E/N.
+    position is the mark: the antenna is above it by DELTA H/E/N. `RinexError` for a file whose delays `correct` took off at
+    another height.
     """
     if len(place) != 3 or not all(_PLACE.match(word) for word in place):
         raise SurveyError("X Y Z are three numbers of metres with at most four places")
     geodesy.checked_place([float(word) for word in place], "X Y Z")
     text = Text(data)
     form = read_form(text)
+    if (taken_at := height_of_correction(form.comments)) is not None:
+        off = taken_at - rinex_header.read_header(data).delta_m[0] - geodesy.geodetic([float(word) for word in place])[2]
+        if abs(off) >= OFF_M:
+            raise RinexError(0, f"`correct` took the delays off {abs(off):.0f} m {'over' if off > 0 else 'under'} the new position: "
+                                "`rebase` the original file, then `correct` it")
     lines, before, content = list(text.lines), "none", "".join(f"{float(word):14.4f}" for word in place)
     last = form.lines - 1
     for at in range(last):
@@ -450,6 +471,8 @@ def parse_time(word: str, day: int) -> int:
     told = re.match(r"(?:(\d{4}-\d\d-\d\d)[T ])?(\d\d):(\d\d)(?::(\d\d)(?:\.(\d{1,7}))?)?\Z", word)
     try:
         if not told or int(told[2]) > 24 or int(told[3]) > 59 or int(told[4] or 0) > 59:
+            raise ValueError
+        if told[2] == "24" and any(int(it or 0) for it in told.groups()[2:]):
             raise ValueError
         days = datetime.date.fromisoformat(told[1]).toordinal() - _EPOCH if told[1] else day
     except ValueError:

@@ -13,7 +13,7 @@ import os
 import re
 from dataclasses import dataclass, field
 from datetime import datetime, timedelta
-from typing import NoReturn, Optional, Union
+from typing import Callable, NoReturn, Optional, Union
 
 from .certificate import Triple, metres, triple
 from .errors import SurveyError
@@ -152,7 +152,9 @@ class _Reader:
             else:
                 found[label] = line
         end = self.at + 1
-        first, last, epochs = self.epochs(version.startswith("2"))
+        is_rinex2 = version.startswith("2")
+        self.types = self.count_of_types(end) if is_rinex2 else 0
+        first, last, epochs = self.epochs(self.epoch2 if is_rinex2 else self.epoch3)
         marker, receiver = found.get(b"MARKER NAME", b""), found.get(b"REC # / TYPE / VERS", b"")
         antenna = found.get(b"ANT # / TYPE", b"")
         return Header(
@@ -193,11 +195,10 @@ class _Reader:
         word = columns(line, 1, 10)
         return float(word) if FIXED.fullmatch(word) and float(word) > 0 else None
 
-    def epochs(self, is_rinex2: bool) -> tuple[Optional[datetime], Optional[datetime], int]:
-        """The first and the last time of an epoch with observations, and how many there are."""
-        step = self.epoch2 if is_rinex2 else self.epoch3
+    def epochs(self, step: Callable[[bytes], Optional[datetime]]) -> tuple[Optional[datetime], Optional[datetime], int]:
+        """The first and the last time of an epoch with observations, and how many there are. `step` reads one."""
         first = last = None
-        count, self.types = 0, self.count_of_types() if is_rinex2 else 0
+        count = 0
         self.at += 1
         while self.at < len(self.lines):
             if not self.lines[self.at].strip(b" "):
@@ -230,16 +231,14 @@ class _Reader:
         flag = columns(line, column, column)
         return flag if flag in (b"0", b"1", b"2", b"3", b"4", b"5", b"6") else self.refuse("bad epoch flag")
 
-    def count_of_types(self) -> int:
-        for self.at, line in enumerate(self.lines):
+    def count_of_types(self, end: int) -> int:
+        """How many types the header of RINEX 2 lists, which has so many lines; the place is its last line again."""
+        for self.at, line in enumerate(self.lines[:end]):
             if label_of(line) == b"# / TYPES OF OBSERV" and columns(line, 1, 6).strip(b" "):
                 count = self.whole(line, 1, 6)
-                break
-        else:
-            count = 0
-        while label_of(self.lines[self.at]) != b"END OF HEADER":
-            self.at += 1
-        return count
+                self.at = end - 1
+                return count
+        return self.refuse("no list of observation types")
 
     def whole(self, line: bytes, first: int, last: int, blank: bool = False) -> int:
         word = columns(line, first, last)

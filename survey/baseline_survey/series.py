@@ -89,13 +89,22 @@ def _listed(source: str) -> Iterator[Entry]:
     for number, line in enumerate(text.split("\n"), 1):
         try:
             words = shlex.split(line, comments=True)
-            time = datetime.fromisoformat(words[0]) if len(words) == 2 else None
+            time = gps_time(words[0]) if len(words) == 2 else None
         except ValueError:
-            raise SeriesError(f"{source}: line {number}: CERT or TIME CERT is expected, as 2005-04-02T00:00 day.cert") from None
+            raise SeriesError(f"{source}: line {number}: CERT or TIME CERT is expected, as 2005-04-02T00:00 day.cert (GPS time, "
+                              "without a zone)") from None
         if len(words) > 2:
             raise SeriesError(f"{source}: line {number}: CERT or TIME CERT is expected, {len(words)} words are there")
         if words:
             yield Entry(words[-1], os.path.join(folder, words[-1]), time or stamp(os.path.basename(words[-1])))
+
+
+def gps_time(word: str) -> datetime:
+    """A time as 2005-04-02T00:00, which is GPS time. ValueError where it is none or has a zone, as a Z at its end."""
+    time = datetime.fromisoformat(word)
+    if time.tzinfo is not None:
+        raise ValueError(f"a zone: {word}")
+    return time
 
 
 def stamp(name: str) -> Optional[datetime]:
@@ -180,24 +189,38 @@ def _numbers(values: Optional[Triple], places: int) -> list[str]:
 def _parse(line: str, log: str, number: int) -> Row:
     try:
         time, state, e, n, u, se, sn, su, satellites, pairs, ratio, x, y, z, sha256, file, name = line.split("\t")
-        return Row(None if time == "-" else datetime.fromisoformat(time), json.loads(state), sha256, json.loads(name),
-                   _triple(e, n, u), _triple(se, sn, su), int(satellites), int(pairs), None if ratio == "-" else float(ratio),
-                   _triple(x, y, z), "" if file == "-" else file)
+        return Row(None if time == "-" else gps_time(time), _text(state), sha256, _text(name), _triple(e, n, u), _triple(se, sn, su),
+                   int(satellites), int(pairs), None if ratio == "-" else _finite(ratio), _triple(x, y, z), "" if file == "-" else file)
     except ValueError:
         raise SeriesError(f"{log}: line {number}: damaged") from None
 
 
+def _text(word: str) -> str:
+    found = json.loads(word)
+    if not isinstance(found, str):
+        raise ValueError(word)
+    return found
+
+
+def _finite(word: str) -> float:
+    value = float(word)
+    if not math.isfinite(value):
+        raise ValueError(word)
+    return value
+
+
 def _triple(x: str, y: str, z: str) -> Optional[Triple]:
-    return None if (x, y, z) == ("-", "-", "-") else (float(x), float(y), float(z))
+    return None if (x, y, z) == ("-", "-", "-") else (_finite(x), _finite(y), _finite(z))
 
 
 def update(source: str, log: str, make: MakeSettings, key: str, check: Optional[Check]) -> tuple[list[Row], int]:
     """Brings a log up to date with a folder or a list, under a lock; gives the rows and how many are new. `key` names the
-    settings in the log."""
+    settings in the log. Where the folder or the list can't be read, nothing is written, a lock neither."""
+    listed = list(entries(source))
     with files.locked(log):
         rows = {row.name: row for row in load(log, key)}
         fresh = 0
-        for entry in entries(source):
+        for entry in listed:
             known, file = rows.get(entry.name), _file(entry.path)
             if known and file and known.file == file:
                 continue

@@ -97,3 +97,10 @@ def test_the_delay_falls_with_the_height():
 def test_impossible_weather(words):
     with pytest.raises(SurveyError, match="must be"):
         Weather(**words)
+
+
+@pytest.mark.parametrize("height", [-2000, 9001, 45_000, 120_000])
+def test_a_height_without_air(height):
+    """A header with a wrong digit stands there: the height is refused, and no root of a negative temperature is taken."""
+    with pytest.raises(SurveyError, match="height"):
+        STANDARD.at(height)

@@ -86,6 +86,15 @@ def test_a_wrong_integer_is_told(survey, tmp_path):
     assert told["look"] == [f"L1 of G03 (arc 2): as a real number 1.00 cycles from the held {words[3]}"] and len(told["integers"]) == 14
 
 
+def test_a_wrong_integer_is_told_beside_coordinates(survey, tmp_path):
+    """A mark that is 0.6 m off by one integer has the look that `adjust` has."""
+    assert b"\nlook: " not in run("coordinates", *survey).stdout
+    (tmp_path / "c").write_bytes(survey[0].read_bytes().replace(b"\nz1 0 0 0 ", b"\nz1 0 0 1 ", 1))
+    ran = run("coordinates", tmp_path / "c", *survey[1:])
+    assert ran.returncode == 1 and b"\nlook: IF12 of G11 (arc 2): as a real number 4.50 cycles from the held 1 and 0\n" in ran.stdout
+    assert len(json.loads(run("coordinates", tmp_path / "c", *survey[1:], "--json").stdout)["look"]) == 1
+
+
 def test_a_zenith_delay_of_a_quarter_is_noted(survey):
     ran = run("adjust", "--zenith", survey[0])
     assert ran.returncode == 0 and b"note: a zenith delay needs an hour or more" in ran.stdout and b"\nzenith_mm " in ran.stdout
@@ -115,7 +124,8 @@ def test_corrected_files(survey, tmp_path):
         comment, end = b"baseline-survey correct: troposphere".ljust(60) + b"COMMENT\n", b"".ljust(60) + b"END OF HEADER"
         made[-1].write_bytes(name.read_bytes().replace(end, comment + end, 1))
     ran = run("adjust", survey[0], *made)
-    assert ran.returncode == 0 and b"no troposphere" in ran.stdout
+    assert ran.returncode == 0 and b"\nmodel troposphere taken off by `correct`, sigma" in ran.stdout
+    assert b"\nmodel no troposphere, sigma" in run("adjust", *survey, "--no-troposphere").stdout
     assert ran.stdout.splitlines()[0] == run("adjust", survey[0], "--no-troposphere").stdout.splitlines()[0]
     refused(run("adjust", survey[0], made[0], survey[2]), "one of both files was made by `correct`", made[0].name)
 
@@ -146,7 +156,10 @@ def test_wrong_words(survey, tmp_path):
     refused(run("adjust"), "CERT")
     refused(run("adjust", survey[0], survey[1]), "ROVER is missing")
     refused(run("adjust", survey[0], "--sigma", "nan", "3"), "no number: nan")
-    refused(run("adjust", survey[0], "--sigma", "0", "0"), "standard deviations")
+    for least in ("0", "1e-200", "9e-4"):
+        refused(run("adjust", survey[0], "--sigma", least, "0"), "standard deviations")
+    refused(run("adjust", survey[0], "--zenith", "--zenith-sd", "1e-300"), "zenith delays")
+    refused(run("adjust", survey[0], "--zenith-per-km", "1e-300"), "each metre of height")
     refused(run("adjust", survey[0], "--combination", "wide"), "wide")
     refused(run("adjust", survey[0], "--comb", "both"), "--comb")
     refused(run("adjust", survey[0], "--blocks", "0"), "no number above 0")
@@ -157,6 +170,8 @@ def test_wrong_words(survey, tmp_path):
     refused(run("adjust", survey[0], "--pressure", "900", "--no-troposphere"), "exclude")
     refused(run("quality", survey[0], "--phase", "-1"), "not above 0")
     refused(run("coordinates", *survey, "--crs", "EPSG:1"), "EPSG:1")
+    refused(run("coordinates", *survey, "--crs", "EPSG:\udcff"), "EPSG:\\udcff", "aren't UTF-8")
+    assert len(run("coordinates", *survey, "--crs", "x" * 5000).stderr) < 600
     refused(run("coordinates", survey[0], survey[2], survey[1]), "exchanged")
     (tmp_path / "few.atx").write_bytes(b"     1.4            M".ljust(60) + b"ANTEX VERSION / SYST\n" + b"".ljust(60) + b"END OF HEADER\n")
     refused(run("adjust", *survey, "--atx", tmp_path / "few.atx"), "no antenna TRM29659.00 NONE", "few.atx")
@@ -220,6 +235,15 @@ def test_outputs_that_fail(survey):
     assert ran.returncode == 2
 
 
+def test_closed_outputs(survey, monkeypatch, capsysbinary):
+    """Python has None for a stream that a shell closed (`>&-`)."""
+    monkeypatch.setattr(sys, "stdout", None)
+    assert cli.main(["adjust", str(survey[0])]) == 2
+    assert capsysbinary.readouterr().err == b"baseline-survey: standard output: closed\n"
+    monkeypatch.setattr(sys, "stderr", None)
+    assert cli.main(["adjust", str(survey[0])]) == 2 and cli.main(["adjust", "none"]) == 2
+
+
 def test_a_missing_library_is_named(survey, tmp_path):
     (tmp_path / "numpy.py").write_text("raise ModuleNotFoundError(\"No module named 'numpy'\", name='numpy')")
     env = dict(os.environ, PYTHONPATH=f"{tmp_path}:{HERE}", PYTHONDONTWRITEBYTECODE="1")
@@ -233,6 +257,17 @@ def test_a_dateless_tag(tmp_path):
     (tmp_path / "c").write_text("\n".join(text))
     for word in ("adjust", "quality"):
         refused(run(word, tmp_path / "c"), "no date", str(tmp_path / "c"))
+
+
+def test_tags_that_fall(tmp_path):
+    """A forged order of the pairs: the time from first to last is that of the earliest and the latest, and `quality` has a note."""
+    text = made(pairs=4, noise_m=0.003).text.decode().split("\n")
+    tags = iter(sorted((int(line.split()[2]) for line in text if line.startswith("pair ")), reverse=True))
+    text = [" ".join([*line.split()[:2], str(next(tags)), *line.split()[3:]]) if line.startswith("pair ") else line for line in text]
+    (tmp_path / "c").write_text("\n".join(text))
+    ran = run("adjust", tmp_path / "c", "--no-troposphere")
+    assert ran.returncode == 0 and b"from 2005-04-02 00:00:00 to 2005-04-02 00:01:30 GPS time" in ran.stdout, ran
+    assert b"isn't later than the pair before it" in run("quality", tmp_path / "c").stdout
 
 
 def test_text():

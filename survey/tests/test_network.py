@@ -1,6 +1,7 @@
 """Networks: what is adjusted against truth and against a dense solution, sessions, loops, lists, exports."""
 import json
 import os
+import shlex
 import time
 from datetime import datetime, timedelta
 from xml.etree import ElementTree
@@ -8,6 +9,7 @@ from xml.etree import ElementTree
 import numpy as np
 import pytest
 from made import BASE
+from seeded import seeded
 from sessions import HOSTILE, session
 from test_cli import refused, run
 
@@ -167,6 +169,27 @@ def test_lists_that_are_none(text, part):
         lines.read_list(text, "L")
 
 
+@seeded(300)
+def test_a_list_is_read_as_by_shlex(dice):
+    """Quotes, backslashes, comments and line ends in any order: the words are those of shlex for the whole text, line by line."""
+    text = "".join(dice.choices("ab \n'\"\\#", k=dice.randint(0, 30)))
+    try:
+        told = [words for _, words in lines._spelled(text, "L")]
+    except SurveyError:
+        with pytest.raises(ValueError):
+            shlex.split(text, comments=True)
+        return
+    assert [word for words in told for word in words] == shlex.split(text, comments=True)
+
+
+def test_an_apostrophe_in_a_long_list():
+    """A quote that nothing closes is told in the time that it takes to read the list, not in the square of it."""
+    begin = time.process_time()
+    with pytest.raises(SurveyError, match="line 1: a quote isn't closed"):
+        lines.read_list("O'Brien B c.cert\n" + "A B c.cert\n" * 10_000, "L")
+    assert time.process_time() - begin < 5
+
+
 # ---- from certificates to exports
 
 
@@ -313,7 +336,6 @@ def test_hostile_station_names():
 
 
 def test_hostile_names_on_the_command_line(tmp_path):
-    import shlex
     for k, name in enumerate(HOSTILE):
         (tmp_path / f"{name.replace('/', '_')}.cert").write_bytes(session([100.0 + k, 2, 3], k, k + 1))
     (tmp_path / "LIST").write_text("".join(f"A {shlex.quote(name)} {shlex.quote(name.replace('/', '_') + '.cert')}\n" for name in HOSTILE),
@@ -348,6 +370,8 @@ def test_bad_input(triangle):
     (triangle / "AB.cert").write_bytes((triangle / "AB.cert").read_bytes().replace(b"\nfixed\n", b"\ndeclined unseparated\n"))
     refused(run("network", triangle / "LIST", *HOLD), "AB.cert", "declined unseparated")
     refused(run("network", triangle / "LIST", "--hold", "A", "1", "2", "x"), "--hold A")
+    refused(run("network", triangle / "LIST", "--hold", "A", "0", "0", "0"), "--hold A isn't on the Earth")
+    refused(run("network", triangle / "LIST", *HOLD, *HOLD), "--hold A: held twice")
     refused(run("network", triangle / "LIST", "--scale", "0"), "--scale")
     assert not (triangle / "x.xml").exists()
 

@@ -107,6 +107,10 @@ def test_what_to_keep_in_mind(files, no_pictures):
     corrected = fixed.replace(b"Linux 2.0.36|Pentium II|gcc -static|Linux|486/DX+           COMMENT",
                               f"{'baseline-survey correct: delays taken off':<60}COMMENT".encode())
     assert len([it for it in made((cert, base, corrected, nav)).caveats if "corrected" in it or "--no-troposphere" in it]) == 2
+    by_correct = head_changed(base, "COMMENT", "baseline-survey correct: delays taken off")
+    for one, told in ((base, "no troposphere taken off"), (by_correct, "troposphere taken off the files by `correct`")):
+        page = Page(report.html(made((cert, one, rover, nav), settings=Settings(troposphere=False))).decode())
+        assert told in page.text
     assert not any("ionosphere" in it for it in made(files, settings=Settings(combination="ionosphere-free")).caveats)
     less = cert.replace(b"ratio 2000", b"ratio 1500")
     assert any("A ratio of 1.5 was asked for" in it for it in made((less, base, rover, nav)).caveats)
@@ -153,13 +157,29 @@ def test_word_with_a_certificate(examples, tmp_path, monkeypatch, no_pictures):
     shutil.copy(examples / NAMES[0], tmp_path / "v.cert")
     names = [examples / name for name in NAMES[1:]]
     ran = run("report", tmp_path / "v.cert", *names, "--program", program)
-    assert ran.returncode == 0 and b"check certified" in ran.stdout and b"not run again" in (tmp_path / "v.html").read_bytes()
+    assert ran.returncode == 0 and b"check certified" in ran.stdout and b"\nfiles: the same bytes\n" in ran.stdout
     ran = run("report", tmp_path / "v.cert", *names, "--program", program, "--verify", "--output", tmp_path / "w.html", "--json")
     data = json.loads(ran.stdout)
     assert data["verified"] is True and data["check"] == "certified" and b"the same bytes" in (tmp_path / "w.html").read_bytes()
     (tmp_path / "v.cert").write_bytes((tmp_path / "v.cert").read_bytes().replace(b"move -2233", b"move -2333"))
-    ran = run("report", tmp_path / "v.cert", *names, "--program", program, "--verify")
-    assert ran.returncode == 1 and b"another text" in (tmp_path / "v.html").read_bytes()
+    for more in ((), ("--verify",)):
+        (tmp_path / "v.html").unlink()
+        ran = run("report", tmp_path / "v.cert", *names, "--program", program, *more)
+        assert ran.returncode == 1 and b"another text" in (tmp_path / "v.html").read_bytes() and b"\nfiles: `fix` gives another" in ran.stdout
+
+
+def test_the_originals_of_a_corrected_certificate(examples, program, tmp_path, no_pictures):
+    """Their headers are those of the corrected files. `fix` gives another text from them, so the page says that something is wrong."""
+    names = [examples / name for name in NAMES[1:]]
+    for name in names[:2]:
+        assert run("correct", name, names[2], "--output", tmp_path / name.name).returncode == 0
+    corrected = [tmp_path / name.name for name in names[:2]] + names[2:]
+    ran = run("report", tmp_path / "v", *corrected, "--program", program)
+    assert ran.returncode == 0 and b"taken off the files by `correct`" in (tmp_path / "v.html").read_bytes()
+    ran = run("report", tmp_path / "v.cert", *corrected, "--program", program)
+    assert ran.returncode == 0 and b"\nfiles: the same bytes\n" in ran.stdout
+    ran = run("report", tmp_path / "v.cert", *names, "--program", program)
+    assert ran.returncode == 1 and b"Something stands out" in (tmp_path / "v.html").read_bytes()
 
 
 def test_word_with_a_name(examples, tmp_path, no_pictures):
@@ -185,6 +205,8 @@ def test_word_writes_nothing_where_it_can_not(examples, tmp_path):
     refused(run("report", tmp_path / "none.cert", *names), "none.cert")
     refused(run("report", tmp_path / "n", names[0], names[1], tmp_path / "none", "--program", program), "none")
     refused(run("report", tmp_path / "n", *names, "--mask", "17.5"), "0 to 900")
+    for name in ("", f"{tmp_path}/", f"{tmp_path}/.", ".."):
+        refused(run("report", name, *names, "--program", stand_in(tmp_path / "p")), "the name of a certificate", name)
     assert sorted(it.name for it in tmp_path.iterdir()) == ["p", "q"]
 
 
@@ -196,17 +218,20 @@ def test_with_the_program(examples, program, tmp_path, no_pictures):
     refused(run("report", tmp_path / "no", *names, "--program", program, "--ratio", "15000"), "declined unseparated")
 
 
-def test_a_corrected_rover_with_a_wrong_height(files):
-    """The delays of a corrected file belong to its header's height: one that is off is told, one that is right isn't."""
-    from baseline_survey import rinex
+def test_corrected_files_with_a_wrong_height(files):
+    """The delays of a corrected file belong to the height that its COMMENT says, whatever its header was made to say later."""
+    from baseline_survey import geodesy
     cert, base, rover, nav = files
-    mark = made(files).adjustment.marks.rover_m
-    for rise, told in ((0.0, False), (20.0, True)):
-        place = mark * (1 + rise / 6_371_000)
-        comment = f"{'baseline-survey correct: x':<60}COMMENT\nrebased, was"
-        changed = rinex.rebase(rover, [f"{x:.4f}" for x in place]).replace(b"rebased, was", comment.encode())
-        caveats = made((cert, base, changed, nav), settings=Settings(troposphere=False)).caveats
-        assert any("m too high" in it for it in caveats) == told, caveats
+    marks = made(files).adjustment.marks
+    for which, mark in ((1, marks.base_m), (2, marks.rover_m)):
+        for rise, told in ((0.0, ""), (2.0, ""), (20.0, "20 m too high"), (-4.0, "4 m too low")):
+            comments = ("baseline-survey correct: x", f"at height {geodesy.geodetic(mark)[2] + rise:.1f} m; orbits: broadcast")
+            changed = list(files)
+            changed[which] = files[which].replace(
+                b" " * 60 + b"END OF HEADER", "".join(f"{it:<60}COMMENT\n" for it in comments).encode() + b" " * 60 + b"END OF HEADER", 1)
+            caveats = made(changed, settings=Settings(troposphere=False)).caveats
+            found = [it for it in caveats if "too high" in it or "too low" in it]
+            assert len(found) == bool(told) and all(told in it and it.startswith(("", "The base's", "The rover's")[which]) for it in found)
 
 
 def test_what_a_check_says_stands_out(files, no_pictures):
@@ -215,6 +240,12 @@ def test_what_a_check_says_stands_out(files, no_pictures):
                            (report.Verdicts("certified", False), True), (report.Verdicts(), False)):
         done = made(files, verdicts=verdicts)
         assert done.looks == told and ("Something stands out" in Page(report.html(done).decode()).text) == told
+
+
+def test_a_tag_without_a_date():
+    """One pair of a forged certificate, between others, has a tag past the year 9999."""
+    with pytest.raises(SurveyError, match="is no date"):
+        report.pictures._times([0, 2**63 - 1])
 
 
 def test_three_bands(tmp_path, no_pictures):

@@ -217,7 +217,8 @@ def test_cut_and_events(examples):
 
 @pytest.mark.parametrize("begin, end, part", [("00:10", "00:05", "before TO"), ("01:00", "02:00", "no epoch"), ("x", "00:05", "no time"),
                                              ("2005-02-30T00:00", "00:05", "no time"), ("00:61", "00:05", "no time"),
-                                             ("0:05", "00:10", "no time")])
+                                             ("0:05", "00:10", "no time"), ("00:00", "24:30", "no time"),
+                                             ("00:00", "24:00:01", "no time"), ("00:00", "24:00:00.1", "no time")])
 def test_cut_refuses(examples, begin, end, part):
     with pytest.raises(SurveyError, match=part):
         rinex.cut((examples / FILES[0]).read_bytes(), begin, end)
@@ -255,6 +256,28 @@ def test_words(examples, tmp_path):
                          (("rebase", "1", "2", "3", base), ["isn't on the Earth"])):
         refused(run(*words), *parts)
     assert sorted(it.name for it in tmp_path.iterdir()) == ["c"]
+
+
+def test_rebase_of_a_corrected_file(examples, tmp_path):
+    """The delays were taken off at one height: a position at another one is refused, also where the antenna is over the mark."""
+    place = np.array(SOME_PLACE)
+    for over in (0.0, 1.5):
+        data = (examples / FILES[0]).read_bytes().replace(b"        0.0000        0.0000        0.0000                  ANTENNA: DELTA",
+                                                          f"{over:14.4f}{0:14.4f}{0:14.4f}".encode().ljust(60) + b"ANTENNA: DELTA", 1)
+        (tmp_path / "c").write_bytes(rinex.correct(data, broadcast())[0])
+        for rise, told in ((-2.5, ""), (2.5, ""), (-20, "20 m over the new position"), (4, "4 m under the new position")):
+            words = [f"{x:.4f}" for x in place * (1 + rise / np.linalg.norm(place))]
+            ran = run("rebase", *words, tmp_path / "c")
+            assert ran.returncode == 0 if not told else refused(ran, told, "`rebase` the original file") is None
+
+
+def test_rebase_of_too_large_an_input(examples, monkeypatch):
+    """What is read from standard input has the limit of a file; the rest isn't dropped in silence."""
+    from baseline_survey import files
+    data = (examples / FILES[0]).read_bytes()
+    monkeypatch.setattr(files, "MOST_BYTES", len(data) - 1)
+    refused(run("rebase", *SOME_PLACE_WORDS, input=data), "standard input: file too large")
+    refused(run("rebase", *SOME_PLACE_WORDS, examples / FILES[0]), FILES[0], "file too large")
 
 
 def test_hostile_file_names(examples, tmp_path, monkeypatch, capfd):

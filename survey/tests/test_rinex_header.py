@@ -115,3 +115,9 @@ def test_numbers_round_trip(dice):
 
 def test_columns_past_the_end_are_blank():
     assert columns(b"abc", 2, 6) == b"bc   " and columns(b"", 1, 3) == b"   "
+
+
+def test_rinex_2_without_its_types():
+    """Such a file has no form: its epochs can't be counted. The line is that of END OF HEADER."""
+    with pytest.raises(HeaderError, match="line 2: no list of observation types"):
+        read_header(head(version="     2.11           OBSERVATION DATA    G", epochs=(" 05  4  2 00 00  0.0000000  0  0",)))

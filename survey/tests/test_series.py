@@ -283,11 +283,19 @@ def test_bad_input(folder, tmp_path):
     refused(series_of(tmp_path / "none"), "none", "No such file")
     (tmp_path / "L").write_text("a b c\n")
     refused(series_of(tmp_path / "L"), "line 1")
+    for zone in ("Z", "+05:45"):
+        (tmp_path / "L").write_text(f"sessions/20050402_0000.cert\n2005-04-02T08:00{zone} sessions/20050402_0800.cert\n")
+        refused(series_of(tmp_path / "L"), "line 2", "without a zone")
+    assert sorted(it.name for it in tmp_path.iterdir()) == ["L", "sessions"]
     refused(series_of(folder, "--picture", tmp_path / "p.gif"), ".png")
     refused(series_of(folder, "--since", "today"), "today")
+    refused(series_of(folder, "--reference", "4"), "5 fixes or more")
     series_of(folder)
     log = (folder / "series.tsv").read_bytes()
-    for bad in (log[:-1], log.replace(b"\t7\t", b"\tx\t"), log + b"one more\n", b"something else\n"):
+    for bad in (log[:-1], log.replace(b"\t7\t", b"\tx\t"), log + b"one more\n", b"something else\n",
+                re.sub(rb'"fixed"', b"5", log, 1), re.sub(rb'("fixed"\t)[^\t]+', rb"\1nan", log, 1),
+                re.sub(rb"(\n[^\t]{26})\t", rb"\1+05:45\t", log, 1)):
+        assert bad != log
         (folder / "series.tsv").write_bytes(bad)
         refused(series_of(folder), "series.tsv")
         assert (folder / "series.tsv").read_bytes() == bad

@@ -26,6 +26,7 @@ from ..coordinates import check_belongs
 from ..errors import SurveyError
 from ..geodesy import checked_place, geodetic
 from ..integers import RealInteger, real_integers
+from ..rinex import is_corrected
 from ..rinex_header import read_header
 from ..text import moment, number, numbers, table
 from ._output import named
@@ -59,7 +60,7 @@ def run(options: argparse.Namespace) -> Outcome:
     except SurveyError as why:
         raise named(why, cert.name) from None
     looks = [str(it) for it in integers if it.is_far]
-    lines = lines_of(done, parts) + integer_lines(integers) + [f"look: {it}" for it in looks]
+    lines = lines_of(done, parts, base is not None and is_corrected(base.comments)) + integer_lines(integers) + [f"look: {it}" for it in looks]
     return Outcome("\n".join(lines), {**data_of(done, parts), **integers_of(integers), "look": looks}, int(bool(looks)))
 
 
@@ -76,8 +77,8 @@ def integers_of(integers: Sequence[RealInteger]) -> dict[str, Any]:
                           "sd_cycles": it.sd} for it in integers]}
 
 
-def lines_of(done: Adjustment, parts: Optional[Blocks]) -> list[str]:
-    """The result for people: metres, millimetres, degrees."""
+def lines_of(done: Adjustment, parts: Optional[Blocks], corrected: bool) -> list[str]:
+    """The result for people: metres, millimetres, degrees. `corrected` says whether the files were made by `correct`."""
     ends = "ARP to ARP" if done.settings.base_antenna else "antenna to antenna"
     lines = [f"vector_m {numbers(done.vector_m, 4)} ({ends}, X Y Z)", f"sd_mm {numbers(1000 * done.sd_m, 2)} (formal)",
              *(f"covariance_mm2 {numbers(1e6 * row, 4)}" for row in done.covariance_m2),
@@ -94,7 +95,7 @@ def lines_of(done: Adjustment, parts: Optional[Blocks]) -> list[str]:
             lines.append("note: a zenith delay needs an hour or more; here it isn't to be told from a height")
         lines.append(f"zenith_mm {number(1000 * done.zenith_m, 1)} sd {number(1000 * done.zenith_sd_m, 1)} "
                      "(rover less base, beyond the model)")
-    lines += [f"combination {done.choice.combination} ({done.choice.why})", f"model {model_of(done.settings)}",
+    lines += [f"combination {done.choice.combination} ({done.choice.why})", f"model {model_of(done.settings, corrected)}",
               f"moved_enu_mm {numbers(1000 * done.moved_enu_m, 1)} (from the vector that `fix` prints)",
               *([CORRECTED] if done.settings.troposphere and not done.marks else []),
               f"left_out {done.left_out} of {len(done.residuals.factor)} phases",
@@ -104,9 +105,10 @@ def lines_of(done: Adjustment, parts: Optional[Blocks]) -> list[str]:
     return lines + table(head, [row_of(it) for it in done.statistics])
 
 
-def model_of(settings: Settings) -> str:
+def model_of(settings: Settings, corrected: bool) -> str:
     """What was adjusted and how, in words."""
-    air = "Saastamoinen and Niell" if settings.troposphere else "no troposphere"
+    none = "troposphere taken off by `correct`" if corrected else "no troposphere"
+    air = "Saastamoinen and Niell" if settings.troposphere else none
     sigma = f"sigma {1000 * settings.sigma_a_m:g} and {1000 * settings.sigma_b_m:g}/sin(elevation) mm"
     return f"{air}, {sigma}, {'robust' if settings.robust else 'not robust'}"
 

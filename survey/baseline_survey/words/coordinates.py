@@ -3,7 +3,7 @@
 The base's mark is where its header says (APPROX POSITION XYZ); the rover's follows by the adjusted vector and both antenna
 heights. So the coordinates are as good as those of the base's header, and in its frame: put known ones there with `rebase` first.
 Heights are over the ellipsoid, not over the sea. --crs adds a system of the same frame; one that needs a grid, another frame's motion
-or a transformation is refused.
+or a transformation is refused. Status 1 and a line `look` for each integer that `adjust` would name.
 """
 from __future__ import annotations
 
@@ -15,6 +15,7 @@ from ..certificate import read_fixed
 from ..cli import Outcome
 from ..coordinates import Coordinates, Mark, check_belongs, coordinates
 from ..geodesy import checked_place, geodetic
+from ..integers import real_integers
 from ..rinex_header import read_header
 from ..text import number, numbers, visible
 from .options import add_settings, settings_of
@@ -34,7 +35,9 @@ def run(options: argparse.Namespace) -> Outcome:
     height = geodetic(checked_place(cert.base_m, f"{cert.name}: the base"))[2]
     settings = settings_of(options, height, base, rover)
     done = coordinates(cert, base, rover, settings, options.crs)
-    return Outcome("\n".join(lines_of(done)), data_of(done))
+    looks = [str(it) for it in real_integers(cert, done.adjustment.settings) if it.is_far]
+    lines = lines_of(done) + [f"look: {it}" for it in looks]
+    return Outcome("\n".join(lines), {**data_of(done), "look": looks}, int(bool(looks)))
 
 
 def lines_of(done: Coordinates) -> list[str]:

@@ -30,7 +30,7 @@ from .. import exports, files, lines, network
 from ..adjust import Settings
 from ..cli import Outcome
 from ..errors import SurveyError
-from ..geodesy import axes_at, geodetic, rotated
+from ..geodesy import axes_at, checked_place, geodetic, rotated
 from ..loops import Loop, Session
 from ..rinex_header import Header
 from ..text import number, numbers, table, visible
@@ -52,7 +52,7 @@ def configure(parser: argparse.ArgumentParser) -> None:
 def run(options: argparse.Namespace) -> Outcome:
     if not (math.isfinite(options.scale) and 0 < options.scale <= 1000 and 0 <= options.plus <= 1000):
         raise SurveyError("--scale is above 0, --plus 0 or above, both at most 1000")
-    held = dict(_held(words) for words in options.hold)
+    held = _all_held(options.hold)
     entries = lines.read_list(files.read(options.list).decode("utf-8", "surrogateescape"), options.list)
     how = lines.Reading(os.path.dirname(options.list), MakeSettings(options), options.scale, options.plus / 1000)
     done = network.adjust(lines.observe_all(entries, how), held, full=options.sinex is not None)
@@ -78,6 +78,16 @@ class MakeSettings:
         if key not in self.known:
             self.known[key] = settings_of(self.options, height_m, base, rover)
         return self.known[key]
+
+
+def _all_held(given: list[list[str]]) -> dict[str, list[float]]:
+    """The held stations. SurveyError where one is held twice or isn't on the Earth."""
+    held: dict[str, list[float]] = {}
+    for name, place in map(_held, given):
+        if name in held:
+            raise SurveyError(f"--hold {name}: held twice")
+        held[name] = checked_place(place, f"--hold {name}").tolist()
+    return held
 
 
 def _held(words: list[str]) -> tuple[str, list[float]]:

@@ -10,7 +10,7 @@ from ..antenna import Antenna, find_antenna, read_antex
 from ..atmosphere import STANDARD, ZERO_CELSIUS_K, Weather
 from ..combination import BY_RULE, COMBINATIONS
 from ..errors import SurveyError
-from ..rinex import MARK
+from ..rinex import is_corrected
 from ..rinex_header import Header
 
 
@@ -66,10 +66,10 @@ def add_settings(parser: argparse.ArgumentParser, by_rule: bool = True) -> None:
 
 def settings_of(options: argparse.Namespace, base_height_m: float, base: Optional[Header], rover: Optional[Header]) -> Settings:
     """The settings that these options ask for. Off files that `correct` made no troposphere is taken again."""
-    is_corrected = {header.name: is_of_correct(header) for header in (base, rover) if header is not None}
-    if len(set(is_corrected.values())) == 2:
+    corrected = {header.name: is_corrected(header.comments) for header in (base, rover) if header is not None}
+    if len(set(corrected.values())) == 2:
         raise SurveyError("one of both files was made by `correct`, the other wasn't: "
-                          + ", ".join(name for name, it in is_corrected.items() if it))
+                          + ", ".join(name for name, it in corrected.items() if it))
     at_base = at_rover = None
     if options.atx is not None:
         if base is None or rover is None:
@@ -79,13 +79,8 @@ def settings_of(options: argparse.Namespace, base_height_m: float, base: Optiona
     return Settings(
         sigma_a_m=options.sigma[0] / 1000, sigma_b_m=options.sigma[1] / 1000, combination=options.combination,
         zenith=options.zenith, zenith_sd_m=options.zenith_sd / 1000, zenith_per_m=options.zenith_per_km / 1e6,
-        troposphere=not options.no_troposphere and not any(is_corrected.values()), robust=not options.no_robust,
+        troposphere=not options.no_troposphere and not any(corrected.values()), robust=not options.no_robust,
         weather=weather_of(options, base_height_m), base_antenna=at_base, rover_antenna=at_rover)
-
-
-def is_of_correct(header: Header) -> bool:
-    """Whether a file says that the troposphere was taken off it."""
-    return any(comment.startswith(MARK) for comment in header.comments)
 
 
 def _found(known: tuple[Antenna, ...], header: Header, name: str) -> Antenna:

@@ -4,9 +4,10 @@ in mind, and how to check.
     baseline-survey report vector.cert BASE ROVER NAV          makes vector.html
     baseline-survey report NAME BASE ROVER NAV --mask 300      runs `fix` and `check`: NAME.cert, NAME.log and NAME.html
 
-The first word is a certificate where it is a file, else a name. With --verify `fix` is run again for a certificate, and the
-page says whether it gives the same bytes. Nothing is written where `fix` declines or a file doesn't belong. Status 1 where
-something stands out in the observation.
+The first word is a certificate where it is a file, else a name. Where the program is found, `fix` is run again for a certificate,
+with the certificate's own ratio, budget, system and bands and the options given, and the page says whether it gives the same bytes.
+With --verify a program must be there. Nothing is written where `fix` declines or a file doesn't belong. Status 1 where something
+stands out in the observation, or where `fix` gives other bytes.
 """
 from __future__ import annotations
 
@@ -24,7 +25,12 @@ from ..errors import SurveyError
 from ..rinex_header import Header
 from ..text import number, numbers, visible
 from ._fix import add_fix, fix_options
+from ._output import named
 from .options import add_settings, count, settings_of
+
+
+OTHER_FILES = ("files: `fix` gives another text from these files: they aren't those of the certificate, or it was made with other "
+               "options, to be given here, or by another version")
 
 
 def configure(parser: argparse.ArgumentParser) -> None:
@@ -35,12 +41,14 @@ def configure(parser: argparse.ArgumentParser) -> None:
     parser.add_argument("--output", metavar="FILE", help="the page; default the certificate's name with .html")
     parser.add_argument("--title", default="", help="default the names of both stations")
     parser.add_argument("--blocks", type=count, metavar="N", help="the precision by blocks of N pairs; default about six blocks")
-    parser.add_argument("--verify", action="store_true", help="run `fix` again for a certificate")
+    parser.add_argument("--verify", action="store_true", help="refuse where `fix` can't be run again for a certificate")
     add_fix(parser)
     add_settings(parser)
 
 
 def run(options: argparse.Namespace) -> Outcome:
+    if os.path.basename(options.certificate) in ("", ".", ".."):
+        raise SurveyError(f"the name of a certificate or of a new one is expected: {options.certificate or 'it is empty'}")
     observed = (options.base, options.rover, options.navigation)
     is_certificate = os.path.exists(options.certificate) and not os.path.isdir(options.certificate)
     if not is_certificate and options.certificate.endswith(".cert"):
@@ -56,7 +64,10 @@ def run(options: argparse.Namespace) -> Outcome:
     page = options.output or (cert_name[:-5] if cert_name.endswith(".cert") else cert_name) + ".html"
     given = report.Input(cert, base, rover, navigation, (cert_name, *observed))
     made = report.build(given, verdicts, functools.partial(_settings, options), options.title, options.blocks)
-    page_bytes = report.html(made)
+    try:
+        page_bytes = report.html(made)
+    except SurveyError as why:
+        raise named(why, cert_name) from None
     if log is not None:
         files.replace(cert_name, cert)
         files.replace(options.certificate + ".log", log)
@@ -82,7 +93,8 @@ def _fixed(options: argparse.Namespace) -> tuple[bytes, bytes, report.Verdicts]:
 
 
 def _verdicts(options: argparse.Namespace, cert: bytes) -> report.Verdicts:
-    """What the program says of a certificate; where it isn't found, nothing, unless it was asked for."""
+    """What the program says of a certificate and of its files; where it isn't found, nothing, unless it was asked for. Pipes are
+    read already, so of them `fix` is run again only where that was asked for."""
     given = fix_options(options)
     try:
         found = program.find(options.program)
@@ -91,7 +103,7 @@ def _verdicts(options: argparse.Namespace, cert: bytes) -> report.Verdicts:
             raise
         return report.Verdicts()
     same, used = None, None
-    if options.verify or given:
+    if options.verify or given or all(map(os.path.isfile, (options.base, options.rover, options.navigation))):
         told = verify.verify(cert, options.certificate, options.base, options.rover, options.navigation, given, found)
         same, used = told.is_same, told.options
     return report.Verdicts(program.check(found, cert), same, used, _checksum(found))
@@ -117,7 +129,7 @@ def text_of(made: report.Report, page: str) -> list[str]:
            f"ratio asked {number(made.cert.ratio / 1000, 1)} reached {'beyond any' if reached is None else number(reached, 1)}"]
     out.append(f"check {visible(made.verdicts.check) or 'not run'}")
     if made.verdicts.verified is not None:
-        out.append("files: the same bytes" if made.verdicts.verified else "files: `fix` gives another text from these files")
+        out.append("files: the same bytes" if made.verdicts.verified else OTHER_FILES)
     out.insert(1, f"combination {made.adjustment.choice.combination} ({made.adjustment.choice.why})")
     if (bound := made.quality.second.greatest_bound_mm) is not None:
         out.append(f"bound_mm {number(bound, 2)}")

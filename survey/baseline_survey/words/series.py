@@ -44,7 +44,8 @@ def configure(parser: argparse.ArgumentParser) -> None:
     parser.add_argument("--program", metavar="FILE",
                         help="the built program, else the variable BASELINE, the repository's or that in PATH")
     limits = parser.add_argument_group("alarm")
-    limits.add_argument("--reference", type=count, default=24, metavar="N", help="the first N fixes are the reference; default 24")
+    limits.add_argument("--reference", type=reference, default=24, metavar="N",
+                        help=f"the first N fixes, {alarm.LEAST_FIXES} or more, are the reference; default 24")
     limits.add_argument("--sigmas", type=sigmas, default=4.0, metavar="K",
                         help="the limit in scaled standard deviations, of many fixes; 1 to 8, default 4")
     limits.add_argument("--window", type=count, default=12, metavar="N", help="fixes whose mean shows a creep; default 12")
@@ -58,12 +59,17 @@ def configure(parser: argparse.ArgumentParser) -> None:
 def time(word: str) -> datetime:
     """A time of an option: GPS time, without a zone."""
     try:
-        found = datetime.fromisoformat(word)
+        return series.gps_time(word)
     except ValueError:
-        found = None
-    if found is None or found.tzinfo:
-        raise argparse.ArgumentTypeError(f"{word}: a time as 2005-04-02T00:00 (GPS time) is expected")
-    return found
+        raise argparse.ArgumentTypeError(f"{word}: a time as 2005-04-02T00:00 (GPS time) is expected") from None
+
+
+def reference(word: str) -> int:
+    """How many fixes are the reference; with fewer than the least there would never be one, and so never an alarm of a movement."""
+    fixes = count(word)
+    if fixes < alarm.LEAST_FIXES:
+        raise argparse.ArgumentTypeError(f"{word}: a reference has {alarm.LEAST_FIXES} fixes or more")
+    return fixes
 
 
 def sigmas(word: str) -> float:
