@@ -291,6 +291,7 @@ def notes(cert: Certificate) -> List[str]:
     """In which ways a text isn't as `fix` and `track` write it: of each kind the first place, and how many more."""
     arcs, pairs = cert.arcs, cert.pairs
     rows = [(f"pair {pair.number} arc {row.arc}: ", row) for pair in pairs for row in pair.rows]
+    signals = " ".join(["".join(map(str, cert.bands)), *cert.codes])
     kinds = [
         list(misnamed(cert)),
         [f"arc {at} is out of order" for at in range(1, len(arcs))
@@ -300,7 +301,10 @@ def notes(cert: Certificate) -> List[str]:
         [f"pair {one.number} isn't later than the pair before it" for one, last in zip(pairs[1:], pairs) if one.tag <= last.tag],
         [place + "the direction's length isn't one" for place, row in rows if not is_direction(row)],
         [place + "RY is over 470" for place, row in rows if row.radius > 470],
-        [place + "R is over 32" for place, row in rows if max(row.direction_radius) > 32]]
+        [place + "R is over 32" for place, row in rows if max(row.direction_radius) > 32],
+        [f"arc {at} has satellite {arc.satellite}, which GPS hasn't" for at, arc in enumerate(arcs)
+         if cert.system == "G" and arc.satellite > 32],
+        [f"the signals {signals} aren't those of Galileo"] if cert.system == "E" and not re.match("15 [CX] ", signals) else []]
     return [kind[0] + (f" (and {len(kind) - 1} more)" if kind[1:] else "") for kind in kinds if kind]
 
 

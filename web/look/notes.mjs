@@ -9,6 +9,8 @@ import {abs} from '../decide/whole.mjs';
 
 /** The radii that `fix` and `track` never exceed (DEFINITIONS, sections 8 and 9). */
 const MOST_Y_RADIUS = 470n, MOST_RADIUS = 32n;
+/** The last satellite of GPS, and the sets of bands and letters of Galileo (FORMATS, "Observation files"). */
+const LAST_OF_GPS = 32, OF_GALILEO = /^15 [CX] /;
 /** The square of a direction's length one, in its unit of 2^-24. */
 const UNIT_SQUARE = 1n << 48n;
 
@@ -22,6 +24,7 @@ export const notesOf = cert => [
   oddRows(cert, row => !isDirection(row), 'the direction\'s length isn\'t one'),
   oddRows(cert, row => row.yRadius > MOST_Y_RADIUS, `RY is over ${MOST_Y_RADIUS}`),
   oddRows(cert, row => row.radii.some(radius => radius > MOST_RADIUS), `R is over ${MOST_RADIUS}`),
+  strangeSatellites(cert), strangeSignals(cert),
 ].flatMap(noteOf);
 
 /** @param {string[]} places */
@@ -59,6 +62,16 @@ const seenTwice = ({arcs, pairs}) => pairs.flatMap(({number, rows}) => {
   const satellites = new Set(rows.map(row => arcs[row.arc].satellite));
   return satellites.size < rows.length ? [`pair ${number} has a satellite twice`] : [];
 });
+
+/** @param {Certificate} cert */
+const strangeSatellites = ({system, arcs}) => arcs.flatMap(({satellite}, at) =>
+  (system === 'G' && satellite > LAST_OF_GPS ? [`arc ${at} has satellite ${satellite}, which GPS hasn't`] : []));
+
+/** @param {Certificate} cert */
+const strangeSignals = ({system, bands, codes}) => {
+  const signals = [bands, ...codes].join(' ');
+  return system === 'E' && !OF_GALILEO.test(signals) ? [`the signals ${signals} aren't those of Galileo`] : [];
+};
 
 /** @param {Certificate} cert */
 const standingTags = ({pairs}) => pairs.flatMap(({number, tag}, k) =>

@@ -59,7 +59,9 @@ sys.exit(got.returncode)
 
 
 def load_script(path: str) -> ModuleType:
-    """A script without a suffix, as a module."""
+    """A script without a suffix, as a module. It finds the modules beside it, as it does when it is called."""
+    if os.path.dirname(path) not in sys.path:
+        sys.path.append(os.path.dirname(path))
     loader = importlib.machinery.SourceFileLoader(os.path.basename(path), path)
     spec = importlib.util.spec_from_loader(loader.name, loader)
     module = importlib.util.module_from_spec(spec)
@@ -72,16 +74,18 @@ def printed(program: str, room: str, *words: str) -> bytes:
     return subprocess.run([program, *words], cwd=room, capture_output=True, check=False).stdout
 
 
-def keep_cases(program: str, folder: str) -> None:
-    """Runs the cases and keeps their texts."""
+def keep_cases(program: str, folder: str, files: tuple[str, ...] = ()) -> None:
+    """Runs the cases of these files, of all if none is named, and keeps their texts."""
     with tempfile.NamedTemporaryFile("w", suffix="-keep", delete=False) as file:
         file.write(KEEPER.format(folder=folder, program=program))
     os.chmod(file.name, os.stat(file.name).st_mode | stat.S_IXUSR)
     try:
-        subprocess.run([sys.executable, os.path.join(ROOT, "tools", "check_cases"), file.name], check=False,
-                       stdout=subprocess.DEVNULL)
+        subprocess.run([sys.executable, os.path.join(ROOT, "tools", "check_cases"), *files], check=False,
+                       stdout=subprocess.DEVNULL, env={**os.environ, "BASELINE": file.name})
     finally:
         os.unlink(file.name)
+    if not any(name.startswith("case-") for name in os.listdir(folder)):
+        sys.exit("make_texts.py: no text of a case was kept")
 
 
 def simulated(program: str, command: str) -> list[bytes]:

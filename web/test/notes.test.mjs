@@ -2,7 +2,7 @@ import assert from 'node:assert/strict';
 import {describe, it} from 'node:test';
 import {notesOf} from '../look/notes.mjs';
 import {readCertificate} from '../decide/certificate.mjs';
-import {example, forgeDatums, withChange} from './texts.mjs';
+import {example, forgeDatums, made, withChange} from './texts.mjs';
 
 const notes = (/** @type {string} */ text) => notesOf(readCertificate(text));
 
@@ -37,6 +37,14 @@ describe('notes', () => {
   it('a direction that is too long', () => assert.deepEqual(put('row 0 ', 7, '-9628951'),
     ['pair 0 arc 0: the direction\'s length isn\'t one']));
   it('and one within its box', () => assert.deepEqual(put('row 0 ', 7, '-9628852'), []));
+  it('a satellite that GPS hasn\'t', () => assert.ok(put('arc 28 ', 1, '33').includes('arc 6 has satellite 33, which GPS hasn\'t')));
+  it('signals that Galileo hasn\'t', () => assert.deepEqual(put('system ', 1, 'E'), ['the signals 12 C W aren\'t those of Galileo']));
+  it('those that it has', () => {
+    const text = made({pairs: 3, satellites: 9, bands: '15'});
+    assert.deepEqual(notes(text.replace('system G', 'system E')), []);
+    assert.deepEqual(notes(text.replace('system G', 'system E').replace('signals 15 C Q', 'signals 15 W Q')),
+      ['the signals 15 W Q aren\'t those of Galileo']);
+  });
   it('a radius of an observation', () => assert.deepEqual(put('row 0 ', 6, '471'), ['pair 0 arc 0: RY is over 470']));
   it('a radius of a direction', () => assert.deepEqual(put('row 0 ', 12, '33'), ['pair 0 arc 0: R is over 32']));
 });
