@@ -115,13 +115,13 @@ def reach() -> Numbers:
 
 def logged_gates() -> Numbers:
     """The minutes of the log's rows that README names."""
-    return [logged(it) for it in ("`BASELINE_BUILD=1 ./baseline zero examples/ROWS`", "`rt ci` after it", "the first call of",
+    return [logged(it) for it in ("a build of 65 crates", "`rt ci` after it", "the first call of",
                                   "two, of a busier host", "| a gate | two of four processors")]
 
 
 # A page, its words with a group for each number, and what gives the numbers; none, where they can't be had.
 COUNTED: list[tuple[str, str, Callable[[], Numbers]]] = [
-    ("README.md", r"took (\d+) minutes, `rt ci` after it (\d+):.* took (\d+) to (\d+) minutes, and (\d+) for a whole gate",
+    ("README.md", r"took (\d+) minutes, and on busy ones `rt ci` after it (\d+):.* took (\d+) to (\d+) minutes, and (\d+) for a whole gate",
      logged_gates),
     ("README.md", r"Of (\d+) sessions (\d+) were fixed, (\d+) wrongly",
      lambda: said("docs/GUIDE.md", r"(\d+) sessions, (\d+) fixed, (\d+) wrongly")),
