@@ -12,29 +12,29 @@ use Rattle.row_boxes.proofs.Boxes.{observed_code}
 use Rattle.row_boxes.proofs.prefits.observed_box.Goals as goal
 use Rattle.obs_rows.specs.declared.units.TheConstants.{SIGNALS}
 
-pub returns-in-L1_PHASE-clause-holds : goal.returns-in-L1_PHASE-clause-holds
-returns-in-L1_PHASE-clause-holds c =
+pub returns-in-0-clause-holds : goal.returns-in-0-clause-holds
+returns-in-0-clause-holds c =
     let size_allowed = c.requires.size in
     let box = c.l1_box in
     let low : (box.result.lo *ℤ pos 1000) ≤ℤ ((wavelength 0 *ℤ c.args.amount) *ℤ pos 32768) = omega (arith, ints, size_allowed, box.ensures.low.0, box.ensures.low.1) in
     let high : ((wavelength 0 *ℤ c.args.amount) *ℤ pos 32768) ≤ℤ (box.result.hi *ℤ pos 1000) = omega (arith, ints, size_allowed, box.ensures.high.0, box.ensures.high.1) in
-    subst (λ (n : ℕ). InBox iota_exponent box.result.lo box.result.hi (observed n c.args.amount)) (sym c.in-L1_PHASE.is) (low, high)
+    subst (λ (n : ℕ). InBox iota_exponent box.result.lo box.result.hi (observed n c.args.amount)) (sym c.in-0.is) (low, high)
 
-pub returns-in-L2_PHASE-clause-holds : goal.returns-in-L2_PHASE-clause-holds
-returns-in-L2_PHASE-clause-holds c =
+pub returns-in-1-clause-holds : goal.returns-in-1-clause-holds
+returns-in-1-clause-holds c =
     let size_allowed = c.requires.size in
     let box = c.l2_box in
     let low : (box.result.lo *ℤ pos 1000) ≤ℤ ((wavelength 1 *ℤ c.args.amount) *ℤ pos 32768) = omega (arith, ints, size_allowed, box.ensures.low.0, box.ensures.low.1) in
     let high : ((wavelength 1 *ℤ c.args.amount) *ℤ pos 32768) ≤ℤ (box.result.hi *ℤ pos 1000) = omega (arith, ints, size_allowed, box.ensures.high.0, box.ensures.high.1) in
-    subst (λ (n : ℕ). InBox iota_exponent box.result.lo box.result.hi (observed n c.args.amount)) (sym c.in-L2_PHASE.is) (low, high)
+    subst (λ (n : ℕ). InBox iota_exponent box.result.lo box.result.hi (observed n c.args.amount)) (sym c.in-1.is) (low, high)
 
-pub returns-in-L5_PHASE-clause-holds : goal.returns-in-L5_PHASE-clause-holds
-returns-in-L5_PHASE-clause-holds c =
+pub returns-in-4-clause-holds : goal.returns-in-4-clause-holds
+returns-in-4-clause-holds c =
     let size_allowed = c.requires.size in
     let box = c.l5_box in
     let low : (box.result.lo *ℤ pos 1000) ≤ℤ ((wavelength 4 *ℤ c.args.amount) *ℤ pos 32768) = omega (arith, ints, size_allowed, box.ensures.low.0, box.ensures.low.1) in
     let high : ((wavelength 4 *ℤ c.args.amount) *ℤ pos 32768) ≤ℤ (box.result.hi *ℤ pos 1000) = omega (arith, ints, size_allowed, box.ensures.high.0, box.ensures.high.1) in
-    subst (λ (n : ℕ). InBox iota_exponent box.result.lo box.result.hi (observed n c.args.amount)) (sym c.in-L5_PHASE.is) (low, high)
+    subst (λ (n : ℕ). InBox iota_exponent box.result.lo box.result.hi (observed n c.args.amount)) (sym c.in-4.is) (low, high)
 
 -- a signal that is none of the three phases
 code : (s : ℕ) → s < SIGNALS → (s ≡ 0 → ⊥) → (s ≡ 1 → ⊥) → (s ≡ 4 → ⊥) → IsTrue (not (is_phase s))

@@ -17,6 +17,9 @@ read_radius z least most = as_w64 z (omega (arith, ints, least, most))
 three_same : (a b c x y z : ℤ) → a ≡ x → b ≡ y → c ≡ z → ◌≡◌ {A = List ℤ} (a ∷ b ∷ c ∷ []) (x ∷ y ∷ z ∷ [])
 three_same a b c x y z first second third = rw (first, second, third) refl
 
+pub invariant_of-result-clause-y_in : goal.invariant_of-result-clause-y_in
+invariant_of-result-clause-y_in c = c.requires.y_in
+
 pub returns-clause-direction : goal.returns-clause-direction
 returns-clause-direction c =
     let directions : List Spread = c.args.direction.now in
