@@ -11,11 +11,13 @@ const byId = id => /** @type {HTMLElement} */ (document.getElementById(id));
 
 /** Seconds after which the page says that the text makes it long. */
 const LONG = 60;
+const UNREAD_WORDS = 'Nothing was decided. It may be a folder, or a file that was moved or changed after it was chosen.';
 const LONG_WORDS = '. A text may name a search of many minutes: stop it if you don\u2019t trust it';
 
 /** @type {Worker | null} */
 let worker = null;
 let began = 0;
+const TITLE = document.title;
 const input = /** @type {HTMLInputElement} */ (byId('file'));
 
 /**
@@ -34,15 +36,17 @@ function check(file) {
   stop();
   hold(file);
   byId('answer').replaceChildren();
+  document.title = TITLE;
   forgetPictures();
   worker = new Worker(address);
   began = Date.now();
   byId('busy').hidden = false;
   report('starting', 0, file);
   worker.onmessage = ({data}) => {
-    if (!data.view) return report(data.step, data.part, file);
+    if (data.step) return report(data.step, data.part, file);
     stop();
-    show(file, data);
+    if (data.isUnread) say('bad', 'This file can\u2019t be read', UNREAD_WORDS);
+    else show(file, data);
   };
   worker.onerror = event => {
     event.preventDefault();

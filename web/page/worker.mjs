@@ -8,8 +8,9 @@ import {viewOf} from './view.mjs';
 const BETWEEN = 80;
 
 /**
- * A report while it works, or the answer.
+ * A report while it works, that the file can't be read, or the answer.
  * @typedef {{step: string, part: number}} Report
+ * @typedef {{isUnread: true}} Unread
  * @typedef {{view: import('./view.mjs').View, sum: string, seconds: number}} Answer
  */
 
@@ -35,7 +36,8 @@ onmessage = async ({data}) => {
     last = Date.now();
     postMessage({step, part});
   };
-  const bytes = await file.slice(0, MOST_BYTES + 1).arrayBuffer();
+  const bytes = await file.slice(0, MOST_BYTES + 1).arrayBuffer().catch(() => null);
+  if (bytes === null) return postMessage({isUnread: true});
   // windows-1252 has one character for each byte, as Latin-1 has, and the same ones for all that a certificate holds
   const text = new TextDecoder('windows-1252').decode(bytes);
   const sum = text.length > MOST_BYTES ? '' : await sumOf(bytes), verdict = check(text, {progress});

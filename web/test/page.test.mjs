@@ -1,5 +1,5 @@
 import assert from 'node:assert/strict';
-import {mkdtempSync, readFileSync, rmSync, writeFileSync} from 'node:fs';
+import {mkdirSync, mkdtempSync, readFileSync, rmSync, writeFileSync} from 'node:fs';
 import {tmpdir} from 'node:os';
 import {join} from 'node:path';
 import {after, before, describe, it} from 'node:test';
@@ -143,6 +143,20 @@ describe('the page in a browser', {skip, timeout: 900_000}, () => {
       assert.notEqual(await page.value('document.title'), '1');
       isClean(page);
     }
+  });
+  it('a folder, and a file that went away', async () => {
+    const folder = join(room, 'folder'), gone = put('gone.cert', example());
+    mkdirSync(folder);
+    const {page, title, words} = await shown(folder, {how: 'drop'});
+    assert.equal(title, 'This file can\u2019t be read');
+    has(words, ['It may be a folder']);
+    await page.give(gone);
+    await page.until('document.title.startsWith("Certified")', 60);
+    rmSync(gone);
+    await page.value('file.dispatchEvent(new Event("change"))');
+    assert.equal(await page.verdict(), 'This file can\u2019t be read');
+    assert.equal(await page.value('document.title'), 'Check a Baseline certificate');
+    isClean(page);
   });
   it('a file that is too large', async () => {
     const {title, words} = await shown(put('large.cert', '\n'.repeat(67_108_865)));
