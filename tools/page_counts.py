@@ -24,19 +24,27 @@ def number(text: str) -> int | float:
     return float(text) if "." in text else int(text.replace(",", ""))
 
 
+def groups_of(path: str, words: str) -> tuple[str, ...]:
+    """The groups of the first place in a file that has these words."""
+    found = re.search(words, text_of(path), re.M)
+    if not found:
+        raise LookupError(f"{path} has nothing of the form {words}")
+    return found.groups()
+
+
 def said(path: str, words: str) -> Numbers:
     """The numbers of a sentence, by its words with a group for each."""
-    return [number(it) for it in re.search(words, text_of(path)).groups()]
+    return [number(it) for it in groups_of(path, words)]
 
 
 def rows_of(path: str, *names: str) -> int:
     """How many rows tables of Rust have, by the sizes in their types."""
-    return sum(int(re.search(rf"\b{it}: \[[^;]*; (\d+)\]", text_of(path))[1]) for it in names)
+    return sum(int(groups_of(path, rf"\b{it}: \[[^;]*; (\d+)\]")[0]) for it in names)
 
 
 def tables(path: str, mark: str) -> list[list[list[str]]]:
     """The tables between two marks, each as its rows of cells, the head first."""
-    part = re.search(rf"<!-- {mark}.*? -->(.*?)<!-- ", text_of(path), re.S)[1]
+    part, = groups_of(path, rf"<!-- {mark}.*? -->((?:.|\n)*?)<!-- ")
     found = [[line.strip("|").split("|") for line in table.splitlines()] for table in re.findall(r"(?:^\|.*\n)+", part, re.M)]
     return [[[cell.strip() for cell in row] for row in table if not row[0].strip().startswith("-")] for table in found]
 
@@ -53,7 +61,7 @@ def sums(rows: list[list[str]], columns: range) -> Numbers:
 
 def logged(row: str) -> int:
     """The first number of a cell after these words of a row in the log of times."""
-    return int(re.search(rf"{re.escape(row)}.*?\| (\d+)", text_of(TIMES))[1])
+    return int(groups_of(TIMES, rf"{re.escape(row)}.*?\| (\d+)")[0])
 
 
 def crates_above(name: str) -> int:
@@ -103,13 +111,13 @@ def least_library() -> Numbers:
 
 def reached() -> Numbers:
     """By how many times the next best integers of the example are as bad, at least, to tenths (docs/FORMATS.md, `values`)."""
-    _, _, next_best, best = (int(it) for it in re.search(r"^values (.*)$", text_of("examples/g2_quarter.cert"), re.M)[1].split())
+    _, _, next_best, best = (int(it) for it in groups_of("examples/g2_quarter.cert", r"^values (.*)$")[0].split())
     return [next_best * 10 // (64 * best) / 10]
 
 
 def reach() -> Numbers:
     """How many kilometres the page for browsers takes as usual by night and by day."""
-    night, day = re.search(r"USUAL_LENGTH = {night: ([\d_]+), day: ([\d_]+)}", text_of("web/page/usual.mjs")).groups()
+    night, day = groups_of("web/page/usual.mjs", r"USUAL_LENGTH = {night: ([\d_]+), day: ([\d_]+)}")
     return [int(it) // 1000 for it in (night, day)]
 
 
@@ -156,7 +164,12 @@ COUNTED: list[tuple[str, str, Callable[[], Numbers]]] = [
 def miscounted() -> Iterator[str]:
     """The sentences whose numbers aren't what they count, and those that are gone."""
     for page, words, count in COUNTED:
-        found, wanted = re.search(words, text_of(page)), count()
+        found = re.search(words, text_of(page))
+        try:
+            wanted = count()
+        except (LookupError, ValueError, OSError) as why:
+            yield f"{page}: what its numbers count isn't there: {why}"
+            continue
         if not found:
             yield f"{page}: no sentence has the words {words}"
         elif wanted and [number(it) for it in found.groups()] != wanted:
