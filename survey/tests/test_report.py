@@ -165,7 +165,8 @@ def test_word_with_a_certificate(examples, tmp_path, monkeypatch, no_pictures):
     for more in ((), ("--verify",)):
         (tmp_path / "v.html").unlink()
         ran = run("report", tmp_path / "v.cert", *names, "--program", program, *more)
-        assert ran.returncode == 1 and b"another text" in (tmp_path / "v.html").read_bytes() and b"\nfiles: `fix` gives another" in ran.stdout
+        assert ran.returncode == 1 and b"another text" in (tmp_path / "v.html").read_bytes()
+        assert b"\nfiles: `fix` gives another" in ran.stdout
 
 
 def test_the_originals_of_a_corrected_certificate(examples, program, tmp_path, no_pictures):

@@ -60,7 +60,8 @@ def run(options: argparse.Namespace) -> Outcome:
     except SurveyError as why:
         raise named(why, cert.name) from None
     looks = [str(it) for it in integers if it.is_far]
-    lines = lines_of(done, parts, base is not None and is_corrected(base.comments)) + integer_lines(integers) + [f"look: {it}" for it in looks]
+    corrected = base is not None and is_corrected(base.comments)
+    lines = lines_of(done, parts, corrected) + integer_lines(integers) + [f"look: {it}" for it in looks]
     return Outcome("\n".join(lines), {**data_of(done, parts), **integers_of(integers), "look": looks}, int(bool(looks)))
 
 
