@@ -271,8 +271,7 @@ def read_tail(lines, numbers, budget, integers):
 
 
 def misnamed(cert):
-    """The arcs that are called datum, or free, against the rule: in the order of first pair and satellite an arc is a datum
-    exactly where its first pair is after the last pair of every arc before it."""
+    """Arcs that are called datum, or free, against the rule: by first pair and satellite, a datum begins after all before it end."""
     reach = -1
     for at, arc in sorted(enumerate(cert.arcs), key=lambda it: (it[1].first, it[1].satellite)):
         if (arc.first > reach) != arc.is_datum:
@@ -289,22 +288,19 @@ def is_direction(row):
 
 def notes(cert: Certificate) -> List[str]:
     """In which ways a text isn't as `fix` and `track` write it: of each kind the first place, and how many more."""
-    arcs, pairs = cert.arcs, cert.pairs
+    arcs, pairs, system, signals = cert.arcs, cert.pairs, cert.system, " ".join(["".join(map(str, cert.bands)), *cert.codes])
     rows = [(f"pair {pair.number} arc {row.arc}: ", row) for pair in pairs for row in pair.rows]
-    signals = " ".join(["".join(map(str, cert.bands)), *cert.codes])
     kinds = [
         list(misnamed(cert)),
         [f"arc {at} is out of order" for at in range(1, len(arcs))
          if (arcs[at - 1].first, arcs[at - 1].satellite) >= (arcs[at].first, arcs[at].satellite)],
-        [f"pair {one.number} has a satellite twice" for one in pairs
-         if len({arcs[row.arc].satellite for row in one.rows}) < len(one.rows)],
+        [f"pair {it.number} has a satellite twice" for it in pairs if len({arcs[row.arc].satellite for row in it.rows}) < len(it.rows)],
         [f"pair {one.number} isn't later than the pair before it" for one, last in zip(pairs[1:], pairs) if one.tag <= last.tag],
         [place + "the direction's length isn't one" for place, row in rows if not is_direction(row)],
         [place + "RY is over 470" for place, row in rows if row.radius > 470],
         [place + "R is over 32" for place, row in rows if max(row.direction_radius) > 32],
-        [f"arc {at} has satellite {arc.satellite}, which GPS hasn't" for at, arc in enumerate(arcs)
-         if cert.system == "G" and arc.satellite > 32],
-        [f"the signals {signals} aren't those of Galileo"] if cert.system == "E" and not re.match("15 [CX] ", signals) else []]
+        [f"arc {at} has satellite {it.satellite}, which GPS hasn't" for at, it in enumerate(arcs) if system == "G" and it.satellite > 32],
+        [f"the signals {signals} aren't those of Galileo"] if system == "E" and not re.match("15 [CX] ", signals) else []]
     return [kind[0] + (f" (and {len(kind) - 1} more)" if kind[1:] else "") for kind in kinds if kind]
 
 
