@@ -63,7 +63,7 @@ fn fault_of(fault: PairFault) -> SessionFault
 }
 
 /// What a run of these files begins with, or why they are refused.
-pub fn begin(
+pub fn session_start(
     alloc: Global,
     base: &ObsFile,
     rover: &ObsFile,

@@ -10,7 +10,7 @@ use Rattle.job_answers.specs.Taking.{IsAnswer}
 use Rattle.rinex_nav.specs.NavForm.{IsNavFile, HasNavFile}
 use Rattle.rinex_nav.specs.NavRules.{nav_of}
 use Rattle.line_source.specs.Lines.{lines_of}
-use Rattle.line_source.specs.Reports.{Same}
+use Rattle.line_source.specs.Reports.{Unchanged}
 use Rattle.line_source.specs.Pieces.{IsTakenWhole}
 use Rattle.line_source.specs.Givens.{Given, GivesWhole, IsKnownFrom}
 use Rattle.line_source.specs.declared.transfer.TheConstants.{MAX_FILE}
@@ -120,7 +120,7 @@ pub at_third : (system : System) (text_of : List ℕ → Option (List ℕ)) (bas
 at_third system text_of base rover nav b r end is also stops = inr (inr (record { base_file = b; base_is = is; rover_file = r; rover_is = also; stops = stops }))
 
 -- ---- a refusal among the files
-pub read_along : (text_of later : List ℕ → Option (List ℕ)) (left : Unread) (name : List ℕ) → Same text_of later → IsReadToEnd later left name → IsReadToEnd text_of left name
+pub read_along : (text_of later : List ℕ → Option (List ℕ)) (left : Unread) (name : List ℕ) → Unchanged text_of later → IsReadToEnd later left name → IsReadToEnd text_of left name
 read_along text_of later left name same read = record {
   earlier = read.earlier;
   id = read.id;
@@ -130,7 +130,7 @@ read_along text_of later left name same read = record {
   met = read.met;
 }
 
-refused_along : (text_of later : List ℕ → Option (List ℕ)) (before : List Given) (left : Unread) (name : List ℕ) (end : Ending) → Same text_of later
+refused_along : (text_of later : List ℕ → Option (List ℕ)) (before : List Given) (left : Unread) (name : List ℕ) (end : Ending) → Unchanged text_of later
     → IsRefusedFile later before left name end → IsRefusedFile text_of before left name end
 refused_along text_of later before left name end same (inl refused) =
     inl (record { at = refused.at; end_is = refused.end_is; read = read_along text_of later left name same refused.read; text = refused.text; given = refused.given })
@@ -140,7 +140,7 @@ refused_along text_of later before left name end same (inr large) =
 
 -- the refusal of a file, after others were read, is that of one among all
 pub refused_at : (work : FileWork) (later : List ℕ → Option (List ℕ)) (names earlier : List (List ℕ)) (name : List ℕ) (rest : List (List ℕ)) (given : List Given) (end : Ending)
-    → names ≡ earlier ++ name ∷ rest → Same work.told later → AreGivenWhole earlier work.given given → IsRefusalOf later given work.left name end → IsRefusalAmong work names end
+    → names ≡ earlier ++ name ∷ rest → Unchanged work.told later → AreGivenWhole earlier work.given given → IsRefusalOf later given work.left name end → IsRefusalAmong work names end
 refused_at work later names earlier name rest given end among same whole refused = λ is. record {
   earlier = earlier;
   name = name;
@@ -151,8 +151,8 @@ refused_at work later names earlier name rest given end among same whole refused
   refused = refused_along work.told later given work.left name end same (refused is);
 }
 
-pub same_twice : (text_of later last : List ℕ → Option (List ℕ)) → Same text_of later → Same later last → Same text_of last
-same_twice text_of later last same again = λ name. again name ∙ same name
+pub unchanged_twice : (text_of later last : List ℕ → Option (List ℕ)) → Unchanged text_of later → Unchanged later last → Unchanged text_of last
+unchanged_twice text_of later last same again = λ name. again name ∙ same name
 
 -- the records of a file that was given
 pub nav_is : (system : System) (told : List ℕ → Option (List ℕ)) (name text : List ℕ) (before now : List Given) (r : Result Records JobStop) → IsTextOf told name text → GivesWhole name text before now

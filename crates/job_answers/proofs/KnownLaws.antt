@@ -6,7 +6,7 @@ use Rattle.std.specs.Str.{bytes_eq}
 use Rattle.std.proofs.lemmas.Slice.Eq.{bytes_eq-Decides}
 use Rattle.std.proofs.lemmas.List.{map-append}
 use Rattle.std.proofs.Math.Seq.{take-nil}
-use Rattle.line_source.specs.Reports.{Same}
+use Rattle.line_source.specs.Reports.{Unchanged}
 use Rattle.line_source.specs.Givens.{Given, given_of, names_given, GivesFirst, GivesWhole, GivesTooMany, AllGave, all_gave, given_under, or_else, known_text, IsKnownFrom}
 use Rattle.line_source.specs.declared.transfer.TheConstants.{MAX_FILE}
 use Rattle.job_answers.specs.Endings.{HasTooManyBytes, IsTextOf}
@@ -71,7 +71,7 @@ from_front known told before mid now later grows from name bytes is = elim (from
   | inr all ↦ inr (λ more at. front_gave name bytes more later (all (more ++ later) (grows ∙ ap (λ (l : List Given). l ++ later) at ∙ append_assoc before more later)))
 ]
 
-pub from_back : (known told later_told : List ℕ → Option (List ℕ)) (before mid now earlier : List Given) → Same told later_told → mid ≡ before ++ earlier
+pub from_back : (known told later_told : List ℕ → Option (List ℕ)) (before mid now earlier : List Given) → Unchanged told later_told → mid ≡ before ++ earlier
     → IsKnownFrom known told before now → IsKnownFrom known later_told mid now
 from_back known told later_told before mid now earlier same grown from name bytes is = elim (from name bytes is) [
   | inl told_so ↦ inl (same name ∙ told_so)

@@ -5,7 +5,7 @@ use Rattle.std.specs.declared.option.Option.{Option}
 use Rattle.line_source.specs.declared.Files.{Ghosts}
 use Rattle.line_source.specs.Causes.{Rose}
 use Rattle.line_source.specs.Openings.{names_of, Unread, unread, OpensIt, OpensFirst, IsReadToEnd}
-use Rattle.line_source.specs.Reports.{Same, Stays}
+use Rattle.line_source.specs.Reports.{Unchanged, StillHolds}
 use Rattle.line_source.specs.Givens.{Given, names_given, GivesFirst, known_text, IsKnownFrom}
 use Rattle.job_answers.specs.declared.output.JobOutput.{JobOutput}
 use Rattle.job_answers.specs.declared.stop.JobStop.{JobStop}
@@ -55,8 +55,8 @@ pub record UsesFile {F : Type 0} (files : Ghosts F) (name : List ℕ) (before af
   pub gives : GivesFirst (name ∷ []) (files.given before) (files.given after)
   pub opened : OpensFirst (name ∷ []) (files.openings before) (files.openings after)
   pub cause : files.faults before ≤ files.faults after
-  pub texts : Same (files.text_of before) (files.text_of after)
-  pub sure_names : Stays (files.is_sure_name before) (files.is_sure_name after)
+  pub texts : Unchanged (files.text_of before) (files.text_of after)
+  pub sure_names : StillHolds (files.is_sure_name before) (files.is_sure_name after)
 
 -- it opened the file, and read it to its end
 pub record ReadsWhole {F : Type 0} (files : Ghosts F) (name : List ℕ) (before after : F) : Type 0 where

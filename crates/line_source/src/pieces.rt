@@ -2,7 +2,7 @@
 ghost use Rattle.std.specs.Prelude.{◌≡◌, ◌≢◌, ◌+◌, ◌≤◌, ◌<◌, ◌++◌, ℕ, List, [], ◌∷◌, length, IfSome, OnOk, OnErr, IsErrOf, ⊤};
 ghost use Rattle.line_source.specs.Causes.{Rose};
 ghost use Rattle.line_source.specs.Openings.{OpensIt, OpensFirst, IsReadToEnd, unread};
-ghost use Rattle.line_source.specs.Reports.{Same, Stays};
+ghost use Rattle.line_source.specs.Reports.{Unchanged, StillHolds};
 ghost use Rattle.line_source.specs.Pieces.{IsTakenWhole};
 ghost use Rattle.line_source.specs.Givens.{GivesFirst, GivesTooMany};
 
@@ -63,8 +63,8 @@ pub fn load_into<F: Files, T: Taker>(
     ensures fault { IsErrOf result LoadFault.ReadFault →
         Rose (F.faults files.old) (F.faults files.new) }
     ensures sure { F.is_sure_name files.old name.now → result ≢ Err LoadFault.ReadFault }
-    ensures texts { Same (F.text_of files.old) (F.text_of files.new) }
-    ensures sure_names { Stays (F.is_sure_name files.old) (F.is_sure_name files.new) }
+    ensures texts { Unchanged (F.text_of files.old) (F.text_of files.new) }
+    ensures sure_names { StillHolds (F.is_sure_name files.old) (F.is_sure_name files.new) }
 {
     let id = match files.open_file(name) {
         Ok(id) => id,

@@ -7,7 +7,7 @@ ghost use Rattle.obs_rows.specs.ReceiverPoints.{IsReceiverPoint};
 ghost use Rattle.slip_arcs.specs.Linked.{IsCutOf};
 
 use eph_store::NavFile;
-use epoch_pair::begin;
+use epoch_pair::session_start;
 use gal_nav::read_gal_nav;
 use gal_obs::read_gal_obs;
 use obs_rows::{Arc, Options, are_arcs, is_system};
@@ -126,7 +126,7 @@ fn rounds_of(alloc: Global, texts: &Texts, options: &Options) -> Option<FileRoun
     ensures cut { IfSome result (λ r. IsCutOf r.screened.used r.kept) }
     ensures base_pseudoranges { IfSome result (λ r. AreBasePseudoranges r.screened.boxes r.position r.base_pseudoranges.items) }
 {
-    let Ok(begun) = begin(alloc, &texts.base, &texts.rover, options) else {
+    let Ok(begun) = session_start(alloc, &texts.base, &texts.rover, options) else {
         return None;
     };
     match screened(

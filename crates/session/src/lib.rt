@@ -24,7 +24,7 @@ mod runs;
 pub use answers::{RunAnswer, answer_of_rounds};
 pub use arcs::{ScreenedArcs, screened_arcs};
 pub use cert_data::{Answer, Cert, Outcome, RoundCounts, Stage, Tail};
-pub use epoch_pair::{Options, PairWhat, SessionFault, SessionStart, begin};
+pub use epoch_pair::{Options, PairWhat, SessionFault, SessionStart, session_start};
 pub use file_rounds::{FileRounds, FileRun};
 pub use outcomes::{have_delta, outcome_of_rounds};
 pub use runs::{RunStart, finish_run, process, screened, start_run};

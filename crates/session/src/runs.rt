@@ -14,7 +14,7 @@ ghost use Rattle.obs_rows.specs.declared.limits.TheConstants.{MOST_PAIRS};
 use crate::{FileRounds, FileRun, have_delta, outcome_of_rounds, screened_arcs};
 use cert_data::Outcome;
 use eph_store::NavFile;
-use epoch_pair::{Options, SessionFault, SessionStart, begin};
+use epoch_pair::{Options, SessionFault, SessionStart, session_start};
 use obs_store::ObsFile;
 use row_build::{KeptSights, base_pseudoranges};
 use std::alloc::{AllocError, Global};
@@ -71,7 +71,7 @@ pub fn start_run(
     ensures refused { IfErr result (IsSessionFault base.now rover.now options.now) }
     ensures start { IfOk result (IsRunStart base.now rover.now nav.now options.now) }
 {
-    let begun = begin(alloc, base, rover, options)?;
+    let begun = session_start(alloc, base, rover, options)?;
     let rounds = screened(alloc, base, rover, nav, &begun, options)?;
     let delta = have_delta(base, rover);
     Ok(RunStart {

@@ -3,7 +3,9 @@ use eph_store::NavFile;
 use gps_time::Tick;
 use obs_rows::is_bands_number;
 use obs_store::{Epoch, Epochs, ObsFile, ObsType, SLOTS, Satellites};
-use session::{Answer, Options, Outcome, PairWhat, SessionFault, SessionStart, begin, process};
+use session::{
+    Answer, Options, Outcome, PairWhat, SessionFault, SessionStart, process, session_start,
+};
 use std::alloc::{AllocError, Global};
 
 const ON_GROUND: Option<[i64; 3]> = Some([63_781_370_000, 0, 0]);
@@ -63,7 +65,7 @@ fn refusal(
 ) -> Result<Option<SessionFault>, AllocError> {
     let base = file_of(alloc, position, types, tags)?;
     let rover = file_of(alloc, None, &ALL, &[0, 300_000_000, 600_000_000])?;
-    Ok(begin(alloc, &base, &rover, &Options::defaults()).err())
+    Ok(session_start(alloc, &base, &rover, &Options::defaults()).err())
 }
 
 const NO_POSITION: Option<SessionFault> = Some(SessionFault::Refused(PairWhat::NoBasePosition));
@@ -131,7 +133,7 @@ fn letters_on(
     }
     let mut options = Options::defaults();
     options.bands = bands;
-    match begin(alloc, &base, &rover, &options) {
+    match session_start(alloc, &base, &rover, &options) {
         Ok(begun) => Ok(Ok([begun.signals.l1, begun.signals.l2, begun.signals.l5])),
         Err(fault) => Ok(Err(Some(fault))),
     }
@@ -182,7 +184,7 @@ fn begun_on(alloc: Global, tags: &[u64]) -> Result<Option<SessionStart>, AllocEr
     let mut options = Options::defaults();
     options.first = 1;
     options.step = 2;
-    Ok(begin(alloc, &base, &rover, &options).ok())
+    Ok(session_start(alloc, &base, &rover, &options).ok())
 }
 
 // Whether a run begins on the ground with five pairs, of which it takes the second and the fourth.

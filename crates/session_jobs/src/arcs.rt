@@ -1,6 +1,6 @@
 ghost use Rattle.session_jobs.specs.ArcJobs.{AnswersArcs};
 
-use epoch_pair::{SessionFault, begin};
+use epoch_pair::{SessionFault, session_start};
 use job_answers::{JobOutput, SessionCommand, SessionFiles, Status};
 use obs_rows::Options;
 use report_text::write_arcs;
@@ -20,7 +20,7 @@ impl SessionCommand for KeptArcs {
         files: SessionFiles,
         options: &Options,
     ) -> Result<JobOutput, SessionFault> {
-        let begun = begin(alloc, &files.base, &files.rover, options)?;
+        let begun = session_start(alloc, &files.base, &files.rover, options)?;
         let cut = screened_arcs(
             alloc,
             &files.base,

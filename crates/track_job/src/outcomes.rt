@@ -10,7 +10,7 @@ ghost use Rattle.track_rows.specs.Tracks.{IsTrackOf};
 ghost use Rattle.track_job.specs.TrackOutcomes.{IsTrackable, IsTrackAnswer, IsTrackOutcome};
 
 use crate::answers::{TrackAnswer, TrackOutcome};
-use epoch_pair::{Options, SessionFault, SessionStart, begin};
+use epoch_pair::{Options, SessionFault, SessionStart, session_start};
 use job_answers::SessionFiles;
 use obs_rows::Arc;
 use round_steps::{are_few, are_many, free_count};
@@ -115,7 +115,7 @@ pub(crate) fn track_outcome(
     ensures refused { IfErr result (IsSessionFault files.base files.rover options.now) }
     ensures outcome { IfOk result (IsTrackOutcome files.base files.rover files.nav options.now) }
 {
-    let begun = begin(alloc, &files.base, &files.rover, options)?;
+    let begun = session_start(alloc, &files.base, &files.rover, options)?;
     let cut = screened_arcs(
         alloc,
         &files.base,

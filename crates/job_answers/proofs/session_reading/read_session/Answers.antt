@@ -1,7 +1,7 @@
 use Rattle.std.proofs.Common.{inl, arith, refl, sym, append-nil, [], ◌∷◌}
 use Rattle.std.proofs.lemmas.Result.{err_from_is_err_and}
 use Rattle.job_answers.proofs.EndingLaws.{ends_weaker}
-use Rattle.job_answers.proofs.FileLaws.{obs_known, nav_known, at_rover, at_third, refused_at, same_twice, read_along}
+use Rattle.job_answers.proofs.FileLaws.{obs_known, nav_known, at_rover, at_third, refused_at, unchanged_twice, read_along}
 use Rattle.job_answers.specs.SessionFiles.{StopsAtObs, StopsAtFiles}
 use Rattle.line_source.specs.Givens.{known_text}
 use Rattle.job_answers.specs.Works.{file_work}
@@ -57,7 +57,7 @@ returns-in_err-records-clause-refused g c =
     rw (answered.1, answered.2)
     (ends_weaker stop _ _
     (λ end refused. refused_at work (g.F.Files.text_of two) (c.args.base.now ∷ c.args.rover.now ∷ c.args.nav.now ∷ []) (c.args.base.now ∷ c.args.rover.now ∷ []) c.args.nav.now [] (given two) end
-    refl (same_twice _ _ _ c.in_ok-base_file.ensures.uses.texts c.in_ok-rover_file.ensures.uses.texts)
+    refl (unchanged_twice _ _ _ c.in_ok-base_file.ensures.uses.texts c.in_ok-rover_file.ensures.uses.texts)
     (one_more_given (c.args.base.now ∷ []) c.args.rover.now r.text (given files) (given one) (given two) (one_given c.args.base.now b.text (given files) (given one) b.given) r.given) refused)
     c.in_err-records.ensures.refused)
 
@@ -210,7 +210,7 @@ returns-clause-whole g c =
       opened = one_more (c.args.base.now ∷ c.args.rover.now ∷ []) c.args.nav.now _ _ _
           (one_more (c.args.base.now ∷ []) c.args.rover.now _ _ _ (one_more [] c.args.base.now _ _ _ (none_opened _) c.in_ok-base_file.ensures.reads.opens) c.in_ok-rover_file.ensures.reads.opens)
           c.in_ok-records.ensures.reads.opens;
-      last = read_along _ _ _ c.args.nav.now (same_twice _ _ _ c.in_ok-base_file.ensures.uses.texts c.in_ok-rover_file.ensures.uses.texts) c.in_ok-records.ensures.reads.whole;
+      last = read_along _ _ _ c.args.nav.now (unchanged_twice _ _ _ c.in_ok-base_file.ensures.uses.texts c.in_ok-rover_file.ensures.uses.texts) c.in_ok-records.ensures.reads.whole;
       whole = one_more_given (c.args.base.now ∷ c.args.rover.now ∷ []) c.args.nav.now n.text (given files) (given two) (given three)
           (one_more_given (c.args.base.now ∷ []) c.args.rover.now r.text (given files) (given one) (given two) (one_given c.args.base.now b.text (given files) (given one) b.given) r.given) n.given;
     }

@@ -1,5 +1,5 @@
 use Rattle.std.proofs.Common.{◌≡◌, [], ◌∷◌, ◌++◌, ◌≤◌, ◌-◌}
-use Rattle.line_source.specs.Reports.{Same, Stays}
+use Rattle.line_source.specs.Reports.{Unchanged, StillHolds}
 use Rattle.line_source.proofs.Rests.{IsTakenSoFar}
 use Rattle.line_source.proofs.pieces.load_into.Given as goal
 use Rattle.line_source.specs.declared.transfer.TheConstants.{MAX_FILE}
@@ -11,8 +11,8 @@ invariant-pieces g l = record {
   opened : g.F.Files.openings l.files ≡ g.F.Files.openings l.fn.files ++ (l.name, l.id.0) ∷ [];
   later : g.F.Files.faults l.fn.files ≤ g.F.Files.faults l.files;
   sure : g.F.Files.is_sure_name l.fn.files l.name → g.F.Files.is_sure_id l.files l.id.0;
-  texts : Same (g.F.Files.text_of l.fn.files) (g.F.Files.text_of l.files);
-  sure_names : Stays (g.F.Files.is_sure_name l.fn.files) (g.F.Files.is_sure_name l.files);
+  texts : Unchanged (g.F.Files.text_of l.fn.files) (g.F.Files.text_of l.files);
+  sure_names : StillHolds (g.F.Files.is_sure_name l.fn.files) (g.F.Files.is_sure_name l.files);
 }
 
 abbrev pub decreases-pieces : goal.decreases-pieces

@@ -7,7 +7,7 @@ use Rattle.obs_rows.specs.declared.limits.TheConstants.{MOST_PAIRS}
 use Rattle.epoch_pair.specs.Beginnings.{HaveSignals}
 use Rattle.epoch_pair.proofs.Uses.{taken_all, taken_pairs}
 use Rattle.epoch_pair.proofs.BeginLaws.{refused_pair}
-use Rattle.epoch_pair.proofs.beginnings.begin.Goals as goal
+use Rattle.epoch_pair.proofs.beginnings.session_start.Goals as goal
 
 pub returns-in-Err-clause-refused : goal.returns-in-Err-clause-refused
 returns-in-Err-clause-refused c =
