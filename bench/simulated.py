@@ -38,12 +38,6 @@ class Bench:
         return apart(vector_of(ran.stderr), session.truth), "right" if right else "wrong"
 
 
-def add_program(parser):
-    """The option that names the program."""
-    parser.add_argument("--program", default=os.environ.get("BASELINE"), metavar="FILE",
-                        help="default: that of the variable BASELINE, else the one that `./baseline` would run")
-
-
 def add_sessions(parser):
     """How many sessions are made, by how many processes, and where what comes of them stays."""
     parser.add_argument("--results", metavar="FILE", help="where what comes of the sessions is kept, and gone on from")
@@ -52,9 +46,9 @@ def add_sessions(parser):
 
 
 def parsed(parser):
-    """The options, the program's as a whole path; the script ends where it isn't there."""
+    """The options, with the path of the program, that of BASELINE (tools/README.md); the script ends where it isn't there."""
     options = parser.parse_args()
-    options.program = find_program(options.program)
+    options.program = find_program()
     return options
 
 

@@ -394,7 +394,7 @@ def sum_of_fronts(fronts):
 State = NamedTuple("State", [("kept", list), ("factors", List[list]), ("map", List[list]), ("back", List[list])])
 
 
-def falls(factors, j):
+def reduced_row(factors, j):
     """The multiples that integer j + 1 takes of j, .., 0 in its factors, and what is left; None where a value gets too large."""
     left, multiples = list(factors[j + 1]), [0] * (j + 1)
     for i in range(j, -1, -1):
@@ -409,10 +409,10 @@ def turned(state, j):
     """The state after the turn at j; None where it isn't possible."""
     a, b, factor = state.kept[j], state.kept[j + 1], state.factors[j + 1][j]
     r = factor - 2**30 * nearest_div(factor, 2**30)
-    fallen = falls(state.factors, j) if 4 * (a * r**2 + 2**60 * b) < 3 * 2**60 * a else None
-    if fallen is None:
+    reduced = reduced_row(state.factors, j) if 4 * (a * r**2 + 2**60 * b) < 3 * 2**60 * a else None
+    if reduced is None:
         return None
-    multiples, left = fallen
+    multiples, left = reduced
     first = b + a * r**2 // 2**60
     between = nearest_div(a * r, first)
     seconds = [row[j] - nearest_div(r * row[j + 1], 2**30) for row in state.factors[j + 2:]]

@@ -1,23 +1,37 @@
-"""The program that a script of tools/ or bench/ runs."""
+#!/usr/bin/env python3
+"""The program that a script of tools/ or bench/ runs, by the rule of tools/README.md. As a script it prints the program's path."""
 from __future__ import annotations
 
 import os
+import shutil
 import subprocess
 import sys
 
 ROOT = os.path.dirname(os.path.dirname(os.path.realpath(__file__)))
+# What stands for the program that it would run.
+LAUNCHER = os.path.join(ROOT, "baseline")
 
 
-def find_program(named: str | None = None) -> str:
-    """The path of the named program, else of the one that `./baseline` would run without building one.
+def launched(errors: int | None = None) -> str | None:
+    """The path of the program that `./baseline` would run without building one. It says on standard error why there is none, or
+    where `errors` sends that."""
+    asked = subprocess.run([LAUNCHER], env={**os.environ, "BASELINE_PRINT": "1"}, stdout=subprocess.PIPE, stderr=errors, text=True)
+    return asked.stdout.removesuffix("\n") if asked.returncode == 0 else None
 
-    Where there is none, the script ends with status 1 and a line that says so.
-    """
-    if named is None:
-        asked = subprocess.run([f"{ROOT}/baseline"], env={**os.environ, "BASELINE_PRINT": "1"}, stdout=subprocess.PIPE, text=True)
-        if asked.returncode:
-            sys.exit(1)
-        named = asked.stdout.removesuffix("\n")
-    if not (os.path.isfile(named) and os.access(named, os.X_OK)):
-        sys.exit(f"{named} isn't there, or isn't executable")
-    return os.path.abspath(named)
+
+def named(name: str) -> str | None:
+    """The path of the program of this name: a path with a slash, or a command in PATH. The script ends where that can't be run."""
+    found = shutil.which(name)
+    if found is None:
+        sys.exit(f"BASELINE names {name}, which isn't there, or isn't executable")
+    return launched() if os.path.samefile(found, LAUNCHER) else os.path.abspath(found)
+
+
+def find_program() -> str:
+    """The path of the program. Where there is none, the script ends with status 1 and a line that says so."""
+    name = os.environ.get("BASELINE")
+    return (named(name) if name else launched()) or sys.exit(1)
+
+
+if __name__ == "__main__":
+    print(find_program())

@@ -6,15 +6,15 @@ use Rattle.std.specs.declared.option.Option.{Option}
 use Rattle.std.specs.Io.KnownBytes.{Appends}
 use Rattle.line_source.specs.Givens.{Given, given_of, names_given, given_under, known_text}
 use Rattle.job_answers.specs.declared.status.Status.{Status}
-use Rattle.job_answers.specs.declared.status.Status.TheVariants.{Done, Declined, Usage, Refused, ReadFault, WriteFault, NoMemory}
+use Rattle.job_answers.specs.declared.status.Status.TheVariants.{Done, Declined, Refused}
 use Rattle.job_answers.specs.Statuses.{number_of, IsVerdictStatus}
 use Rattle.job_answers.specs.Texts.{refusal_line, too_large_line}
 use Rattle.job_answers.specs.Endings.{Ending, ending}
 use Rattle.job_answers.specs.Delivered.{SinkChange, GainsUnlessFault}
 use Rattle.job_answers.specs.Works.{FileWork, RefusesOne, RefusesAll}
 use Rattle.command_words.specs.declared.jobs.Job.{Job}
-use Rattle.command_words.specs.Words.{file_words, IsJob}
-use Rattle.baseline_app.specs.Jobs.{JobEnds, IsLineOf}
+use Rattle.command_words.specs.Words.{IsJob}
+use Rattle.baseline_app.specs.Commands.{KnownTexts, Command, command_of}
 use Rattle.baseline_app.specs.Runs.{IsRun}
 use Rattle.baseline_app.specs.Calls.{AnswersByCalls, RefusesRead, RefusesLarge, RefusesLast, RefusesTogether, RefusesByCalls}
 use Rattle.baseline_app.proofs.Completes.{asked_ends}
@@ -27,11 +27,7 @@ ok_weaker (Err e) P Q weaker holds = tt
 pub small_verdict : (status : Status) (number : ℕ) → number ≡ number_of status → number < 2 → IsVerdictStatus status
 small_verdict Done number is small = tt
 small_verdict Declined number is small = tt
-small_verdict Usage number is small = absurd (omega arith)
-small_verdict Refused number is small = absurd (omega arith)
-small_verdict ReadFault number is small = absurd (omega arith)
-small_verdict WriteFault number is small = absurd (omega arith)
-small_verdict NoMemory number is small = absurd (omega arith)
+small_verdict status number is small = absurd (omega arith)
 
 drop_front : (xs ys : List Given) → drop (length xs) (xs ++ ys) ≡ ys
 drop_front [] ys = refl
@@ -44,7 +40,7 @@ given_alone given more now is = ap (λ (gs : List Given). given_under gs) (ap (�
 pub answers_by_calls : (words : List (List ℕ)) (work : FileWork) (job : Job) (status : Status) (number : ℕ) (out err : SinkChange) (taken taken_now told told_now : List ℕ)
     → work.text_of ≡ known_text (λ name. None) work.given work.left.given → out.old ≡ Some taken → out.new ≡ Some taken_now → err.old ≡ Some told → err.new ≡ Some told_now
     → IsRun words work status out err → IsJob words job → IsVerdictStatus status → number ≡ number_of status
-    → AnswersByCalls job number work.given work.left.given taken taken_now told told_now
+    → AnswersByCalls (command_of job) number work.given work.left.given taken taken_now told told_now
 answers_by_calls words work job status number out err taken taken_now told told_now untold old_is new_is err_old_is err_new_is run asked verdict number_is = elim (run.written) [
   | inl written ↦ elim (asked_ends job words work run.end asked run.answer) [
     | inl over ↦
@@ -57,7 +53,7 @@ answers_by_calls words work job status number out err taken taken_now told told_
           words = whole.names_are;
           ended = whole.ended;
           end = run.end;
-          ends = subst (λ (text_of : List ℕ → Option (List ℕ)). JobEnds job text_of run.end) text_is over.ends_so;
+          ends = subst (λ (text_of : KnownTexts). (command_of job).Ends text_of run.end) text_is over.ends_so;
           status = number_is ∙ ap number_of written.same;
           out_took = subst (λ (o : Option (List ℕ)). Appends (Some taken) o run.end.out) new_is (subst (λ (o : Option (List ℕ)). Appends o out.new run.end.out) old_is written.out_whole.whole);
           err_took = subst (λ (o : Option (List ℕ)). Appends (Some told) o run.end.err) err_new_is
@@ -71,21 +67,16 @@ answers_by_calls words work job status number out err taken taken_now told told_
 
 -- the number of a refusal
 pub third_refused : (status : Status) (number : ℕ) → number ≡ number_of status → number ≡ 3 → status ≡ Refused
-third_refused Done number is third = absurd (omega arith)
-third_refused Declined number is third = absurd (omega arith)
-third_refused Usage number is third = absurd (omega arith)
 third_refused Refused number is third = refl
-third_refused ReadFault number is third = absurd (omega arith)
-third_refused WriteFault number is third = absurd (omega arith)
-third_refused NoMemory number is third = absurd (omega arith)
+third_refused status number is third = absurd (omega arith)
 
 -- ---- a refusal
 -- what the calls gave and took of an ending with this line
-by_line : (work : FileWork) (job : Job) (end : Ending) (err : SinkChange) (taken taken_now : List ℕ) (more : List Given) (later : List (List ℕ)) (line : List ℕ)
-    → work.left.given ≡ work.given ++ more → file_words job ≡ names_given more ++ later → RefusesLast more line ⊎ RefusesTogether job more line → end ≡ ending Refused [] line
-    → work.text_of ≡ known_text (λ name. None) work.given work.left.given → JobEnds job work.text_of end → taken_now ≡ taken ++ end.out → GainsUnlessFault err end.err
-    → RefusesByCalls job work.given work.left.given taken taken_now err
-by_line work job end err taken taken_now more later line reads words refused end_is untold ends took gains =
+by_line : (work : FileWork) (command : Command) (end : Ending) (err : SinkChange) (taken taken_now : List ℕ) (more : List Given) (later : List (List ℕ)) (line : List ℕ)
+    → work.left.given ≡ work.given ++ more → command.file_words ≡ names_given more ++ later → RefusesLast more line ⊎ RefusesTogether command more line → end ≡ ending Refused [] line
+    → work.text_of ≡ known_text (λ name. None) work.given work.left.given → command.Ends work.text_of end → taken_now ≡ taken ++ end.out → GainsUnlessFault err end.err
+    → RefusesByCalls command work.given work.left.given taken taken_now err
+by_line work command end err taken taken_now more later line reads words refused end_is untold ends took gains =
     let text_is = untold ∙ given_alone work.given more work.left.given reads in
     record {
       more = more;
@@ -94,7 +85,7 @@ by_line work job end err taken taken_now more later line reads words refused end
       words = words;
       line = line;
       refused = refused;
-      ends = subst (λ (e : Ending). JobEnds job (given_under more) e) end_is (subst (λ (text_of : List ℕ → Option (List ℕ)). JobEnds job text_of end) text_is ends);
+      ends = subst (λ (e : Ending). command.Ends (given_under more) e) end_is (subst (λ (text_of : KnownTexts). command.Ends text_of end) text_is ends);
       out_took = took ∙ ap (λ (e : Ending). taken ++ e.out) end_is ∙ append-nil taken;
       err_took = subst (GainsUnlessFault err) (ap (λ (e : Ending). e.err) end_is) gains;
     }
@@ -107,41 +98,41 @@ words_given words earlier later name front g among front_is name_is =
     map-append (λ (h : Given). h.name) front (g ∷ []) ∙ ap (λ (ns : List (List ℕ)). ns ++ g.name ∷ []) front_is ∙ ap (λ (n : List ℕ). earlier ++ n ∷ []) name_is in
     among ∙ sym (ap (λ (ns : List (List ℕ)). ns ++ later) names_is ∙ append_assoc earlier (name ∷ []) later)
 
-by_last : (work : FileWork) (job : Job) (end : Ending) (err : SinkChange) (taken taken_now : List ℕ) (one : RefusesOne work (file_words job) end) (g : Given) (line : List ℕ)
+by_last : (work : FileWork) (command : Command) (end : Ending) (err : SinkChange) (taken taken_now : List ℕ) (one : RefusesOne work command.file_words end) (g : Given) (line : List ℕ)
     → work.left.given ≡ one.given ++ g ∷ [] → g.name ≡ one.name → RefusesRead g line ⊎ RefusesLarge g line → end ≡ ending Refused [] line
-    → work.text_of ≡ known_text (λ name. None) work.given work.left.given → JobEnds job work.text_of end → taken_now ≡ taken ++ end.out → GainsUnlessFault err end.err
-    → RefusesByCalls job work.given work.left.given taken taken_now err
-by_last work job end err taken taken_now one g line last_is name_is refused end_is untold ends took gains =
-    by_line work job end err taken taken_now (one.whole.more ++ g ∷ []) one.later line
+    → work.text_of ≡ known_text (λ name. None) work.given work.left.given → command.Ends work.text_of end → taken_now ≡ taken ++ end.out → GainsUnlessFault err end.err
+    → RefusesByCalls command work.given work.left.given taken taken_now err
+by_last work command end err taken taken_now one g line last_is name_is refused end_is untold ends took gains =
+    by_line work command end err taken taken_now (one.whole.more ++ g ∷ []) one.later line
     (last_is ∙ ap (λ (gs : List Given). gs ++ g ∷ []) one.whole.now_is ∙ append_assoc work.given one.whole.more (g ∷ []))
-    (words_given (file_words job) one.earlier one.later one.name one.whole.more g one.among one.whole.names_are name_is)
+    (words_given command.file_words one.earlier one.later one.name one.whole.more g one.among one.whole.names_are name_is)
     (inl (record { earlier = one.whole.more; last = g; more_is = refl; ended = one.whole.ended; refused = refused })) end_is untold ends took gains
 
-refusal_by_calls : (work : FileWork) (job : Job) (end : Ending) (err : SinkChange) (taken taken_now : List ℕ) → RefusesOne work (file_words job) end ⊎ RefusesAll work (file_words job) (IsLineOf job) end
-    → work.text_of ≡ known_text (λ name. None) work.given work.left.given → JobEnds job work.text_of end → taken_now ≡ taken ++ end.out → GainsUnlessFault err end.err
-    → RefusesByCalls job work.given work.left.given taken taken_now err
-refusal_by_calls work job end err taken taken_now (inl one) untold ends took gains = elim (one.refused) [
+refusal_by_calls : (work : FileWork) (command : Command) (end : Ending) (err : SinkChange) (taken taken_now : List ℕ) → RefusesOne work command.file_words end ⊎ RefusesAll work command.file_words command.IsLine end
+    → work.text_of ≡ known_text (λ name. None) work.given work.left.given → command.Ends work.text_of end → taken_now ≡ taken ++ end.out → GainsUnlessFault err end.err
+    → RefusesByCalls command work.given work.left.given taken taken_now err
+refusal_by_calls work command end err taken taken_now (inl one) untold ends took gains = elim (one.refused) [
   | inl read ↦
-      by_last work job end err taken taken_now one (given_of one.name read.given.id read.text true) (refusal_line one.name read.at) read.given.now_is refl
+      by_last work command end err taken taken_now one (given_of one.name read.given.id read.text true) (refusal_line one.name read.at) read.given.now_is refl
       (inl (record { at = read.at; line_is = refl; ended = refl })) read.end_is untold ends took gains
   | inr large ↦
-      by_last work job end err taken taken_now one (given_of one.name large.given.id large.given.bytes large.given.ended) (too_large_line one.name) large.given.now_is refl
+      by_last work command end err taken taken_now one (given_of one.name large.given.id large.given.bytes large.given.ended) (too_large_line one.name) large.given.now_is refl
       (inr (record { line_is = refl; many = large.given.many })) large.large.end_is untold ends took gains
 ]
-refusal_by_calls work job end err taken taken_now (inr all) untold ends took gains =
+refusal_by_calls work command end err taken taken_now (inr all) untold ends took gains =
     let whole = all.read.whole in
-    by_line work job end err taken taken_now whole.more [] all.line whole.now_is (sym whole.names_are ∙ sym (append-nil (names_given whole.more)))
+    by_line work command end err taken taken_now whole.more [] all.line whole.now_is (sym whole.names_are ∙ sym (append-nil (names_given whole.more)))
     (inr (record { is = all.is; words = whole.names_are; ended = whole.ended })) all.end_is untold ends took gains
 
 pub refuses_by_calls : (words : List (List ℕ)) (work : FileWork) (job : Job) (status : Status) (out err : SinkChange) (taken taken_now : List ℕ)
     → work.text_of ≡ known_text (λ name. None) work.given work.left.given → out.old ≡ Some taken → out.new ≡ Some taken_now
-    → IsRun words work status out err → IsJob words job → status ≡ Refused → RefusesByCalls job work.given work.left.given taken taken_now err
+    → IsRun words work status out err → IsJob words job → status ≡ Refused → RefusesByCalls (command_of job) work.given work.left.given taken taken_now err
 refuses_by_calls words work job status out err taken taken_now untold old_is new_is run asked refused = elim (run.written) [
   | inl written ↦ elim (asked_ends job words work run.end asked run.answer) [
     | inl over ↦
         let took : taken_now ≡ taken ++ run.end.out = subst (λ (o : Option (List ℕ)). Appends (Some taken) o run.end.out) new_is
         (subst (λ (o : Option (List ℕ)). Appends o out.new run.end.out) old_is written.out_whole.whole) in
-        refusal_by_calls work job run.end err taken taken_now (over.refused (sym written.same ∙ refused)) untold over.ends_so took written.err_gains
+        refusal_by_calls work (command_of job) run.end err taken taken_now (over.refused (sym written.same ∙ refused)) untold over.ends_so took written.err_gains
     | inr none ↦ absurd (cc (none, written.same, refused))
   ]
   | inr (inl by_out) ↦ absurd (cc (by_out.fault, refused))

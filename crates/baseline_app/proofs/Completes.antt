@@ -1,5 +1,5 @@
--- A job whose files are there and admitted ends with status 0 or 1, and the other statuses come with their causes.
-use Rattle.std.proofs.Common.{◌≡◌, ◌≢◌, ◌⊎◌, inl, inr, ℕ, List, Option, sym, ap, ◌∙◌, subst}
+-- What a run with status 0 or 1 says; that a job whose files are there and admitted ends with one; and the causes of other statuses.
+use Rattle.std.proofs.Common.{◌≡◌, ◌≢◌, ◌⊎◌, inl, inr, List, ℕ, sym, ap, ◌∙◌, subst}
 use Rattle.line_source.proofs.Faults.{stop_rose}
 use Rattle.line_source.specs.Causes.{Rose}
 use Rattle.job_answers.specs.declared.status.Status.{Status}
@@ -7,82 +7,46 @@ use Rattle.job_answers.specs.declared.status.Status.TheVariants.{Usage, ReadFaul
 use Rattle.job_answers.specs.Statuses.{IsVerdictStatus, IsJobStatus}
 use Rattle.job_answers.specs.Endings.{Ending}
 use Rattle.job_answers.specs.Delivered.{SinkChange}
-use Rattle.job_answers.specs.Works.{FileWork, EndsOver}
-use Rattle.job_answers.proofs.TextLaws.{text_status, text_verdict}
-use Rattle.job_answers.proofs.SessionLaws.{session_status, session_verdict}
-use Rattle.file_jobs.specs.Zero.{zero_job}
-use Rattle.file_jobs.specs.Listing.{list_job}
-use Rattle.file_jobs.specs.Orbits.{orbit_job}
-use Rattle.file_jobs.specs.CertJobs.{check_job, residuals_job}
-use Rattle.file_jobs.specs.Migrations.{migrate_job}
-use Rattle.session_jobs.specs.ArcJobs.{AnswersArcs}
-use Rattle.session_jobs.specs.FixJobs.{AnswersFix}
-use Rattle.track_job.specs.TrackJobs.{AnswersTrack}
-use Rattle.track_job.specs.CheckJobs.{check_track_job}
+use Rattle.job_answers.specs.Works.{FileWork}
 use Rattle.command_words.specs.declared.jobs.Job.{Job}
-use Rattle.command_words.specs.declared.jobs.Job.TheVariants as job
-use Rattle.command_words.specs.declared.sims.Part.{Part}
-use Rattle.command_words.specs.declared.sims.Part.TheVariants as part
-use Rattle.command_words.specs.Words.{file_words, IsJob}
+use Rattle.command_words.specs.Words.{IsJob}
 use Rattle.command_words.proofs.OneJob.{one_job}
-use Rattle.sim_jobs.proofs.SimSays.{sim_status, sim_verdict}
-use Rattle.sim_jobs.proofs.RunSays.{sim_run_status, sim_run_verdict}
-use Rattle.baseline_app.specs.Jobs.{PartEnds, JobEnds, IsLineOf, IsReadable, IsAnswer}
+use Rattle.baseline_app.specs.Commands.{command_of}
+use Rattle.baseline_app.specs.Jobs.{CommandEndsOver, IsAnswer}
 use Rattle.baseline_app.specs.Runs.{IsRun, IsComplete}
-
--- the parts of a simulated session
-pub part_verdict : (p : Part) (seed epochs sats bands system : ℕ) (end : Ending) → PartEnds p seed epochs sats bands system end → IsVerdictStatus end.status
-part_verdict (part.File file) seed epochs sats bands system end ends = sim_verdict file seed epochs sats bands system end ends
-part_verdict part.Run seed epochs sats bands system end ends = sim_run_verdict seed epochs sats bands system end ends
-
-part_status : (p : Part) (seed epochs sats bands system : ℕ) (end : Ending) → PartEnds p seed epochs sats bands system end → IsJobStatus end.status
-part_status (part.File file) seed epochs sats bands system end ends = sim_status file seed epochs sats bands system end ends
-part_status part.Run seed epochs sats bands system end ends = sim_run_status seed epochs sats bands system end ends
-
--- each command's own part
-readable_ends : (job : Job) (text_of : List ℕ → Option (List ℕ)) (end : Ending) → IsReadable job text_of → end.status ≢ ReadFault → JobEnds job text_of end → IsVerdictStatus end.status
-readable_ends (job.Zero rows) text_of end = text_verdict zero_job text_of rows end
-readable_ends (job.List obs) text_of end = text_verdict list_job text_of obs end
-readable_ends (job.Orbit nav system sat tick) text_of end = text_verdict (orbit_job system sat tick.0) text_of nav end
-readable_ends (job.Check cert) text_of end = text_verdict check_job text_of cert end
-readable_ends (job.Residuals cert) text_of end = text_verdict residuals_job text_of cert end
-readable_ends (job.Migrate cert) text_of end = text_verdict migrate_job text_of cert end
-readable_ends (job.Fix base rover nav options) text_of end = session_verdict AnswersFix text_of base rover nav options end
-readable_ends (job.Track base rover nav options) text_of end = session_verdict AnswersTrack text_of base rover nav options end
-readable_ends (job.CheckTrack cert) text_of end = text_verdict check_track_job text_of cert end
-readable_ends (job.Arcs base rover nav options) text_of end = session_verdict AnswersArcs text_of base rover nav options end
-readable_ends (job.Sim part seed epochs sats bands system) text_of end = λ readable no_fault ends. part_verdict part seed epochs sats bands system end ends
-
-job_status : (job : Job) (text_of : List ℕ → Option (List ℕ)) (end : Ending) → JobEnds job text_of end → IsJobStatus end.status
-job_status (job.Zero rows) text_of end = text_status zero_job text_of rows end
-job_status (job.List obs) text_of end = text_status list_job text_of obs end
-job_status (job.Orbit nav system sat tick) text_of end = text_status (orbit_job system sat tick.0) text_of nav end
-job_status (job.Check cert) text_of end = text_status check_job text_of cert end
-job_status (job.Residuals cert) text_of end = text_status residuals_job text_of cert end
-job_status (job.Migrate cert) text_of end = text_status migrate_job text_of cert end
-job_status (job.Fix base rover nav options) text_of end = session_status AnswersFix text_of base rover nav options end
-job_status (job.Track base rover nav options) text_of end = session_status AnswersTrack text_of base rover nav options end
-job_status (job.CheckTrack cert) text_of end = text_status check_track_job text_of cert end
-job_status (job.Arcs base rover nav options) text_of end = session_status AnswersArcs text_of base rover nav options end
-job_status (job.Sim part seed epochs sats bands system) text_of end = part_status part seed epochs sats bands system end
+use Rattle.baseline_app.proofs.CommandLaws.{lawful}
 
 -- the job that the words ask for ends so over its files, or memory is out
 pub asked_ends : (job : Job) (words : List (List ℕ)) (work : FileWork) (end : Ending) → IsJob words job → IsAnswer words work end
-    → EndsOver work (file_words job) (IsLineOf job) (JobEnds job work.text_of) end ⊎ (end.status ≡ NoMemory)
+    → CommandEndsOver work (command_of job) end ⊎ (end.status ≡ NoMemory)
 asked_ends job words work end asked (inl answer) =
-    inl (subst (λ (j : Job). EndsOver work (file_words j) (IsLineOf j) (JobEnds j work.text_of) end) (one_job words answer.job job answer.asked asked) answer.ends)
+    inl (subst (λ (j : Job). CommandEndsOver work (command_of j) end) (one_job words answer.job job answer.asked asked) answer.ends)
 asked_ends job words work end asked (inr (inl usage)) = absurd (usage.none job asked)
 asked_ends job words work end asked (inr (inr none)) = inr (ap (λ (e : Ending). e.status) none)
 
-answer_ends : (job : Job) (words : List (List ℕ)) (work : FileWork) (end : Ending) → IsJob words job → IsReadable job work.text_of → end.status ≢ ReadFault → IsAnswer words work end
-    → (end.status ≡ NoMemory) ⊎ (JobEnds job work.text_of end × IsVerdictStatus end.status)
+answer_ends : (job : Job) (words : List (List ℕ)) (work : FileWork) (end : Ending) → IsJob words job → (command_of job).IsReadable work.text_of → end.status ≢ ReadFault → IsAnswer words work end
+    → (end.status ≡ NoMemory) ⊎ ((command_of job).Ends work.text_of end × IsVerdictStatus end.status)
 answer_ends job words work end asked readable no_fault answer = elim (asked_ends job words work end asked answer) [
-  | inl over ↦ inr (over.ends_so, readable_ends job work.text_of end readable no_fault over.ends_so)
+  | inl over ↦ inr (over.ends_so, (lawful job).verdict work.text_of end readable no_fault over.ends_so)
   | inr none ↦ inl none
 ]
 
+-- a run with a verdict has an ending of the job, whose text for out was written
+pub run_says : (words : List (List ℕ)) (work : FileWork) (job : Job) (result : Status) (out err : SinkChange)
+    → IsRun words work result out err → IsJob words job → IsVerdictStatus result → (command_of job).Says work.text_of result out
+run_says words work job result out err run asked verdict = elim (run.written) [
+  | inl written ↦ elim (asked_ends job words work run.end asked run.answer) [
+    | inl over ↦
+        let said = (lawful job).says work.text_of run.end out over.ends_so (subst IsVerdictStatus written.same verdict) written.out_whole.whole in
+        subst (λ (s : Status). (command_of job).Says work.text_of s out) (sym written.same) said
+    | inr none ↦ absurd (subst IsVerdictStatus (written.same ∙ none) verdict)
+  ]
+  | inr (inl by_out) ↦ absurd (subst IsVerdictStatus by_out.fault verdict)
+  | inr (inr by_err) ↦ absurd (subst IsVerdictStatus by_err.fault verdict)
+]
+
 pub run_complete : (job : Job) (words : List (List ℕ)) (work : FileWork) (result : Status) (out err : SinkChange)
-    → IsRun words work result out err → IsJob words job → IsReadable job work.text_of → result ≢ ReadFault → IsComplete job work.text_of result out err
+    → IsRun words work result out err → IsJob words job → (command_of job).IsReadable work.text_of → result ≢ ReadFault → IsComplete (command_of job) work.text_of result out err
 run_complete job words work result out err run asked readable no_fault = elim (run.written) [
   | inl written ↦ elim (answer_ends job words work run.end asked readable (λ e. no_fault (written.same ∙ e)) run.answer) [
     | inl none ↦ inr (inl (written.same ∙ none))
@@ -104,7 +68,7 @@ pub run_usage : (words : List (List ℕ)) (work : FileWork) (result : Status) (o
     → result ≡ Usage → (job : Job) → IsJob words job → ⊥
 run_usage words work result out err run is job asked = elim (run.written) [
   | inl written ↦ elim (run.answer) [
-    | inl answer ↦ subst IsJobStatus (sym written.same ∙ is) (job_status answer.job work.text_of run.end answer.ends.ends_so)
+    | inl answer ↦ subst IsJobStatus (sym written.same ∙ is) ((lawful answer.job).status work.text_of run.end answer.ends.ends_so)
     | inr (inl usage) ↦ usage.none job asked
     | inr (inr none) ↦ let status_is = ap (λ (e : Ending). e.status) none in absurd (cc (status_is, written.same, is))
   ]
@@ -117,7 +81,7 @@ pub run_write : (words : List (List ℕ)) (work : FileWork) (result : Status) (o
     → result ≡ WriteFault → Rose out.before out.now ⊎ Rose err.before err.now
 run_write words work result out err run is = elim (run.written) [
   | inl written ↦ elim (run.answer) [
-    | inl answer ↦ absurd (subst IsJobStatus (sym written.same ∙ is) (job_status answer.job work.text_of run.end answer.ends.ends_so))
+    | inl answer ↦ absurd (subst IsJobStatus (sym written.same ∙ is) ((lawful answer.job).status work.text_of run.end answer.ends.ends_so))
     | inr (inl usage) ↦ let usage_status_is = ap (λ (e : Ending). e.status) usage.end_is in absurd (cc (usage_status_is, written.same, is))
     | inr (inr none) ↦ let status_is = ap (λ (e : Ending). e.status) none in absurd (cc (status_is, written.same, is))
   ]

@@ -13,51 +13,31 @@ use Rattle.job_answers.specs.Texts.{no_memory_line}
 use Rattle.job_answers.specs.Answers.{ending_of, IfEnded}
 use Rattle.job_answers.specs.Endings.{Ending, ending}
 use Rattle.job_answers.specs.Delivered.{SinkChange, IsDelivered}
-use Rattle.job_answers.specs.Works.{FileWork, AreAllRead, NamesFault, NoLine, EndsOver, IsDoneOver}
-use Rattle.job_answers.specs.TextJobs.{TextJob, TextEnds}
+use Rattle.job_answers.specs.Works.{FileWork, AreAllRead, NamesFault, NoLine}
+use Rattle.job_answers.specs.TextJobs.{TextJob}
 use Rattle.job_answers.proofs.EndingLaws.{ended_weaker, delivered_status}
 use Rattle.job_answers.proofs.WorkLaws.{none_opened, verdict_over}
 use Rattle.job_answers.proofs.KnownLaws.{none_given, no_more_given}
 use Rattle.command_words.specs.declared.jobs.Job.{Job}
 use Rattle.command_words.specs.declared.sims.Part.{Part}
-use Rattle.command_words.specs.Words.{file_words}
-use Rattle.baseline_app.specs.Jobs.{PartEnds, JobEnds, IsLineOf, AnswersJob, AnswersUsage, IsAnswer, end_of}
+use Rattle.baseline_app.specs.Commands.{Command, text_command, PartEnds, sim_command, command_of}
+use Rattle.baseline_app.specs.Jobs.{CommandEndsOver, IsCommandDone, AnswersJob, AnswersUsage, IsAnswer, end_of}
 use Rattle.baseline_app.specs.Runs.{IsRun, UsesFiles}
-use Rattle.baseline_app.proofs.Completes.{part_verdict}
+use Rattle.baseline_app.proofs.CommandLaws.{part_verdict}
 
 -- ---- jobs by their words
--- a job with one file, whose name the words give
-one_over : (work : FileWork) (names : List (List ℕ)) (IsLine : List ℕ → Type 0) (ends more : Ending → Type 0) (end : Ending) → (ends end → more end) → EndsOver work names NoLine ends end
-    → EndsOver work names IsLine more end
-one_over work names IsLine ends more end weaker over = record {
-  ends_so = weaker over.ends_so;
-  answered = over.answered;
-  refused = λ is. elim (over.refused is) [ inl file ↦ inl file | inr none ↦ absurd none.is ];
-  fault = over.fault;
-  named = over.named;
-}
-
-pub text_asked : (work : FileWork) (r : Result JobOutput JobStop) (text : TextJob) (name word : List ℕ) (job asked : Job) → job ≡ asked → name ≡ word → file_words asked ≡ word ∷ []
-    → ((end : Ending) → TextEnds text work.text_of word end → JobEnds asked work.text_of end) → IsDoneOver work (name ∷ []) NoLine (TextEnds text work.text_of name) r
-    → IsDoneOver work (file_words job) (IsLineOf job) (JobEnds job work.text_of) r
-text_asked work r text name word job asked is same words weaker done =
-    let at_word : IsDoneOver work (word ∷ []) NoLine (TextEnds text work.text_of word) r = subst (λ (n : List ℕ). IsDoneOver work (n ∷ []) NoLine (TextEnds text work.text_of n) r) same done in
-    let is_done : IsDoneOver work (word ∷ []) (IsLineOf asked) (JobEnds asked work.text_of) r = record {
-      opened = at_word.opened;
-      given = at_word.given;
-      ended = ended_weaker r _ _ (λ end over. one_over work (word ∷ []) (IsLineOf asked) (TextEnds text work.text_of word) (JobEnds asked work.text_of) end (weaker end) over) at_word.ended;
-    } in
-    subst (λ (j : Job). IsDoneOver work (file_words j) (IsLineOf j) (JobEnds j work.text_of) r) (sym is)
-    (subst (λ (ns : List (List ℕ)). IsDoneOver work ns (IsLineOf asked) (JobEnds asked work.text_of) r) (sym words) is_done)
+-- a command on one file, whose name the word gives
+pub at_word : (work : FileWork) (r : Result JobOutput JobStop) (text : TextJob) (name word : List ℕ) → name ≡ word
+    → IsCommandDone work (text_command text name) r → IsCommandDone work (text_command text word) r
+at_word work r text name word same done = subst (λ (n : List ℕ). IsCommandDone work (text_command text n) r) same done
 
 -- any job, which the words give
-pub job_asked : (work : FileWork) (r : Result JobOutput JobStop) (job asked : Job) → job ≡ asked → IsDoneOver work (file_words asked) (IsLineOf asked) (JobEnds asked work.text_of) r
-    → IsDoneOver work (file_words job) (IsLineOf job) (JobEnds job work.text_of) r
-job_asked work r job asked is done = subst (λ (j : Job). IsDoneOver work (file_words j) (IsLineOf j) (JobEnds j work.text_of) r) (sym is) done
+pub job_asked : (work : FileWork) (r : Result JobOutput JobStop) (job asked : Job) → job ≡ asked → IsCommandDone work (command_of asked) r → IsCommandDone work (command_of job) r
+job_asked work r job asked is done = subst (λ (j : Job). IsCommandDone work (command_of j) r) (sym is) done
 
 -- a part of a simulated session opens none
 pub part_done : (work : FileWork) (r : Result JobOutput JobStop) (part : Part) (seed epochs sats bands system : ℕ) → work.left.openings ≡ work.openings → work.left.given ≡ work.given
-    → IfEnded r (PartEnds part seed epochs sats bands system) → IsDoneOver work [] NoLine (PartEnds part seed epochs sats bands system) r
+    → IfEnded r (PartEnds part seed epochs sats bands system) → IsCommandDone work (sim_command part seed epochs sats bands system) r
 part_done work r part seed epochs sats bands system same unread ends =
     let read : AreAllRead work [] = record { opened = ap names_of same ∙ none_opened work.openings; last = tt; whole = none_given work.given work.left.given (unread ∙ sym (append-nil work.given)) } in
     record {
@@ -83,23 +63,23 @@ none_sure work names line fault all =
     found.4 (subst work.sure found.3 (all found.0 found.1 found.2))
 
 -- ---- what a run does with files
-files_over : (work : FileWork) (job : Job) (end : Ending) (result : Status) (out err : SinkChange) → OpensFirst (file_words job) work.openings work.left.openings
-    → GivesFirst (file_words job) work.given work.left.given → EndsOver work (file_words job) (IsLineOf job) (JobEnds job work.text_of) end → IsDelivered end result out err → UsesFiles work (file_words job) result
-files_over work job end result out err opens gives over written = record {
+files_over : (work : FileWork) (command : Command) (end : Ending) (result : Status) (out err : SinkChange) → OpensFirst command.file_words work.openings work.left.openings
+    → GivesFirst command.file_words work.given work.left.given → CommandEndsOver work command end → IsDelivered end result out err → UsesFiles work command.file_words result
+files_over work command end result out err opens gives over written = record {
   opened = opens;
   given = gives;
-  sure = λ all is. none_sure work (file_words job) end.err (over.named (delivered_status end result ReadFault out err written is (λ e. absurd (cc (e))))) all;
+  sure = λ all is. none_sure work command.file_words end.err (over.named (delivered_status end result ReadFault out err written is (λ e. absurd (cc (e))))) all;
 }
 
 -- out of memory names no file
 no_memory_status : (result status : Status) (out err : SinkChange) → IsDelivered (ending NoMemory [] no_memory_line) result out err → result ≡ status → status ≢ WriteFault → NoMemory ≡ status
 no_memory_status result status out err = delivered_status (ending NoMemory [] no_memory_line) result status out err
 
-pub files_used : (work : FileWork) (job : Job) (r : Result JobOutput JobStop) (result : Status) (out err : SinkChange) → IsDoneOver work (file_words job) (IsLineOf job) (JobEnds job work.text_of) r
-    → IsDelivered (end_of r) result out err → UsesFiles work (file_words job) result
-files_used work job (Ok a) result out err done written = files_over work job (ending_of a) result out err done.opened done.given done.ended written
-files_used work job (Err (stop.Ended a)) result out err done written = files_over work job (ending_of a) result out err done.opened done.given done.ended written
-files_used work job (Err stop.NoMemory) result out err done written = record {
+pub files_used : (work : FileWork) (command : Command) (r : Result JobOutput JobStop) (result : Status) (out err : SinkChange) → IsCommandDone work command r
+    → IsDelivered (end_of r) result out err → UsesFiles work command.file_words result
+files_used work command (Ok a) result out err done written = files_over work command (ending_of a) result out err done.opened done.given done.ended written
+files_used work command (Err (stop.Ended a)) result out err done written = files_over work command (ending_of a) result out err done.opened done.given done.ended written
+files_used work command (Err stop.NoMemory) result out err done written = record {
   opened = done.opened;
   given = done.given;
   sure = λ all is. let status_is = no_memory_status result ReadFault out err written is (λ e. absurd (cc (e))) in absurd (cc (status_is));

@@ -1,5 +1,5 @@
+pub mod CommandLaws
 pub mod Completes
-pub mod Says
 pub mod Files
 pub mod CallLaws
 pub mod Agreements

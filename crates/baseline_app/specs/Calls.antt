@@ -9,19 +9,17 @@ use Rattle.job_answers.specs.Texts.{refusal_line, too_large_line}
 use Rattle.job_answers.specs.Endings.{Ending, ending}
 use Rattle.job_answers.specs.Delivered.{SinkChange, GainsUnlessFault}
 use Rattle.job_answers.specs.Works.{AllEnded}
-use Rattle.command_words.specs.declared.jobs.Job.{Job}
-use Rattle.command_words.specs.Words.{file_words}
-use Rattle.baseline_app.specs.Jobs.{JobEnds, IsLineOf}
+use Rattle.baseline_app.specs.Commands.{Command}
 
--- An answer: the reads gave exactly the files under the job's words, in this order, each to its end; and the writes took exactly
--- the two texts that the job ends with on these bytes, with the status of this number.
-pub record AnswersByCalls (job : Job) (number : ℕ) (given given_now : List Given) (out out_now err err_now : List ℕ) : Type 0 where
+-- An answer: the reads gave exactly the files under the command's words, in this order, each to its end; and the writes took exactly
+-- the two texts that the command ends with on these bytes, with the status of this number.
+pub record AnswersByCalls (command : Command) (number : ℕ) (given given_now : List Given) (out out_now err err_now : List ℕ) : Type 0 where
   pub more : List Given
   pub reads : given_now ≡ given ++ more
-  pub words : names_given more ≡ file_words job
+  pub words : names_given more ≡ command.file_words
   pub ended : AllEnded more
   pub end : Ending
-  pub ends : JobEnds job (given_under more) end
+  pub ends : command.Ends (given_under more) end
   pub status : number ≡ number_of end.status
   pub out_took : out_now ≡ out ++ end.out
   pub err_took : err_now ≡ err ++ end.err
@@ -45,22 +43,22 @@ pub record RefusesLast (more : List Given) (line : List ℕ) : Type 0 where
   pub ended : AllEnded earlier
   pub refused : RefusesRead last line ⊎ RefusesLarge last line
 
--- the line is about all files of the job together, after each was read to its end
-pub record RefusesTogether (job : Job) (more : List Given) (line : List ℕ) : Type 0 where
-  pub is : IsLineOf job line
-  pub words : names_given more ≡ file_words job
+-- the line is about all files of the command together, after each was read to its end
+pub record RefusesTogether (command : Command) (more : List Given) (line : List ℕ) : Type 0 where
+  pub is : command.IsLine line
+  pub words : names_given more ≡ command.file_words
   pub ended : AllEnded more
 
--- A refusal: the reads gave files under a first part of the job's words, in this order, each to its end, but for a last one that is
--- too large. The line refuses the last of them, or all together, and on these bytes the job ends with it. The writes took nothing
+-- A refusal: the reads gave files under a first part of the command's words, in this order, each to its end, but for a last one that is
+-- too large. The line refuses the last of them, or all together, and on these bytes the command ends with it. The writes took nothing
 -- for out, and for err the line, or a first part of it before a write failed.
-pub record RefusesByCalls (job : Job) (given given_now : List Given) (out out_now : List ℕ) (err : SinkChange) : Type 0 where
+pub record RefusesByCalls (command : Command) (given given_now : List Given) (out out_now : List ℕ) (err : SinkChange) : Type 0 where
   pub more : List Given
   pub reads : given_now ≡ given ++ more
   pub later : List (List ℕ)
-  pub words : file_words job ≡ names_given more ++ later
+  pub words : command.file_words ≡ names_given more ++ later
   pub line : List ℕ
-  pub refused : RefusesLast more line ⊎ RefusesTogether job more line
-  pub ends : JobEnds job (given_under more) (ending Refused [] line)
+  pub refused : RefusesLast more line ⊎ RefusesTogether command more line
+  pub ends : command.Ends (given_under more) (ending Refused [] line)
   pub out_took : out_now ≡ out
   pub err_took : GainsUnlessFault err line

@@ -1,3 +1,4 @@
+pub mod Commands
 pub mod Jobs
 pub mod Runs
 pub mod Calls

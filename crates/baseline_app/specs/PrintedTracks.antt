@@ -20,29 +20,29 @@ use Rattle.track_text.specs.Lengths.{IsWholeTrackCert}
 use Rattle.vector_bound.specs.VectorBounds.{AreNear, IsInHundredths, move_units, hundredths_of_mm}
 use Rattle.vector_bound.specs.PairBounds.{KeepsPairNear, IsPairBound}
 
--- Each number that the definition gives to the pair's rows, the integers z and the pair's move m is one: for all data in the boxes of
+-- Each number that the definition gives to the pair's rows, the integers z and the pair's move is one: for all data in the boxes of
 -- these rows, the pair's least-squares baseline with the integers is within it of the move, in each coordinate
-pub record KeepsPairBounds (arcs : List Arc) (ss : List ℕ) (p : PairRows) (z m : List ℤ) : Type 0 where
-  pub units : (x : ℤ) → IsPairBound arcs ss p z m x → KeepsPairNear arcs ss p z m (move_units x)
-  pub hundredths : (x y : ℤ) → IsPairBound arcs ss p z m x → IsInHundredths x y → KeepsPairNear arcs ss p z m (hundredths_of_mm y)
+pub record KeepsPairBounds (arcs : List Arc) (signals : List ℕ) (p : PairRows) (z move : List ℤ) : Type 0 where
+  pub units : (x : ℤ) → IsPairBound arcs signals p z move x → KeepsPairNear arcs signals p z move (move_units x)
+  pub hundredths : (x y : ℤ) → IsPairBound arcs signals p z move x → IsInHundredths x y → KeepsPairNear arcs signals p z move (hundredths_of_mm y)
 
 -- of all lists of baselines, one for each pair, bs has the least sum of squares of the whole track with the integers z, of these data
-pub record AreLeastSquares (arcs : List Arc) (ss : List ℕ) (pairs : List PairRows) (z : List ℤ) (observed : List (List Observed)) (bs : List Baseline) : Type 0 where
+pub record AreLeastSquares (arcs : List Arc) (signals : List ℕ) (pairs : List PairRows) (z : List ℤ) (observed : List (List Observed)) (bs : List Baseline) : Type 0 where
   pub each : length bs ≡ length pairs
-  pub least : (cs : List Baseline) → length cs ≡ length pairs → track_sum (pair_sum arcs ss) pairs observed z bs ≤ʳ track_sum (pair_sum arcs ss) pairs observed z cs
+  pub least : (cs : List Baseline) → length cs ≡ length pairs → track_sum (pair_sum arcs signals) pairs observed z bs ≤ʳ track_sum (pair_sum arcs signals) pairs observed z cs
 
 -- each baseline is within each number that the definition gives to its pair of the pair's move
 abbrev pub AreWithinBounds : List Arc → List ℕ → List ℤ → List PairRows → List (List ℤ) → List Baseline → Type 0
-AreWithinBounds arcs ss z [] [] [] = Unit {0}
-AreWithinBounds arcs ss z (p ∷ ps) (m ∷ ms) (b ∷ bs) = ((x : ℤ) → IsPairBound arcs ss p z m x → AreNear (move_units x) b (moved m)) × AreWithinBounds arcs ss z ps ms bs
-AreWithinBounds arcs ss z _ _ _ = ⊥
+AreWithinBounds arcs signals z [] [] [] = Unit {0}
+AreWithinBounds arcs signals z (p ∷ ps) (move ∷ moves) (baseline ∷ baselines) = ((x : ℤ) → IsPairBound arcs signals p z move x → AreNear (move_units x) baseline (moved move)) × AreWithinBounds arcs signals z ps moves baselines
+AreWithinBounds arcs signals z _ _ _ = ⊥
 
 -- Each pair has its bounds, by its own rows. For all data in the boxes the least-squares baselines of the whole track, all pairs taken
 -- together with the integers held, are within them too
-pub record KeepsTrackBounds (arcs : List Arc) (ss : List ℕ) (pairs : List PairRows) (z : List ℤ) (moves : List (List ℤ)) : Type 0 where
-  pub each : AllZip (λ p m. KeepsPairBounds arcs ss p z m) pairs moves
-  pub together : (observed : List (List Observed)) → AllZip (IsPairData ss) pairs observed → (bs : List Baseline) → AreLeastSquares arcs ss pairs z observed bs →
-      AreWithinBounds arcs ss z pairs moves bs
+pub record KeepsTrackBounds (arcs : List Arc) (signals : List ℕ) (pairs : List PairRows) (z : List ℤ) (moves : List (List ℤ)) : Type 0 where
+  pub each : AllZip (λ p move. KeepsPairBounds arcs signals p z move) pairs moves
+  pub together : (observed : List (List Observed)) → AllZip (IsPairData signals) pairs observed → (bs : List Baseline) → AreLeastSquares arcs signals pairs z observed bs →
+      AreWithinBounds arcs signals z pairs moves bs
 
 -- the text says that the rows are fixed, and its moves are so near with its first integers
 abbrev pub AreNearLeastSquares : Track → TrackTail → Type 0

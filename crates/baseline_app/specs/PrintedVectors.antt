@@ -10,10 +10,10 @@ use Rattle.cert_text.specs.Lengths.{IsWhole}
 use Rattle.vector_bound.specs.VectorBounds.{KeepsSessionNear, IsSessionBound, IsInHundredths, move_units, hundredths_of_mm}
 
 -- Each number that the definition gives to these rows and numbers of a tail is one: for all data in the boxes, the least-squares
--- baseline with the integers z is within it of the move m, in each coordinate
-pub record KeepsItsBounds (s : Session) (h : ℕ) (z m : List ℤ) (top : ℤ) : Type 0 where
-  pub units : (x : ℤ) → IsSessionBound s h z m top x → KeepsSessionNear s z m (move_units x)
-  pub hundredths : (x y : ℤ) → IsSessionBound s h z m top x → IsInHundredths x y → KeepsSessionNear s z m (hundredths_of_mm y)
+-- baseline with the integers z is within it of the move, in each coordinate
+pub record KeepsItsBounds (s : Session) (h : ℕ) (z move : List ℤ) (top : ℤ) : Type 0 where
+  pub units : (x : ℤ) → IsSessionBound s h z move top x → KeepsSessionNear s z move (move_units x)
+  pub hundredths : (x y : ℤ) → IsSessionBound s h z move top x → IsInHundredths x y → KeepsSessionNear s z move (hundredths_of_mm y)
 
 -- the text says that the rows are fixed, and its move is so near with its first integers
 abbrev pub IsNearLeastSquares : Session → Tail → Type 0

@@ -22,7 +22,8 @@
 //!
 //! # Jobs
 //!
-//! What is said of each command is one clause (`output`, of `SaysOfJob`).
+//! What is said of each command is one clause (`output`): `Says` of the job's command, which `command_of` gives
+//! (specs/Commands.antt).
 //!
 //! | Command | Written with status 0 | Written with status 1 |
 //! |---|---|---|
@@ -46,13 +47,12 @@
 //!
 //! A command has a variant of `Job` with its words (crate command_words), and in a crate of commands a struct with one
 //! method: a `TextCommand` on one file, as `Orbit` of file_jobs, or a `SessionCommand` on the three of a session, as `Fix`
-//! of session_jobs, with what it answers in specs/. Here it has cases of `JobEnds`, `IsReadable` and `SaysOfJob`, and on
-//! three files of `IsLineOf` (specs/Jobs.antt), of the three lemmas over them (proofs/Completes.antt, proofs/Says.antt), and
-//! an arm in `do_job` with its answer. What is said of statuses, sinks, files, faults and completeness (specs/Runs.antt)
-//! stays as it is. In command_words: a variant of `CommandName` (`src/command_name.rt`) with its name and its options,
-//! specs/Words.antt, specs/Split.antt, an arm in `src/jobs.rt`, and cases in proofs/, above all in OneJob.antt, which tells
-//! each two jobs apart. Its usage line stands in job_answers (`src/stop.rt`, specs/Texts.antt), its words and texts in
-//! docs/FORMATS.md, docs/GUIDE.md and README.
+//! of session_jobs, with what it answers in specs/. Here it has a line in `command_of` (specs/Commands.antt) and in `lawful`
+//! (proofs/CommandLaws.antt), and an arm in `do_job` with its answer. What is said of statuses, sinks, files, faults and
+//! completeness (specs/Runs.antt) stays as it is. In command_words: a variant of `CommandName` (`src/command_name.rt`) with
+//! its name and its options, specs/Words.antt, specs/Split.antt, an arm in `src/jobs.rt`, and in proofs/ a line in
+//! CommandLaws.antt, in JobLaws.antt and in OneJob.antt, which says that two jobs of one command are one. Its usage line
+//! stands in job_answers (`src/stop.rt`, specs/Texts.antt), its words and texts in docs/FORMATS.md, docs/GUIDE.md and README.
 #![tactic(auto)]
 
 #[cfg(test)]

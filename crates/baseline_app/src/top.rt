@@ -1,14 +1,14 @@
 //! The program over any files and sinks.
-ghost use Rattle.std.specs.Prelude.{◌≡◌, ◌<◌, ◌⊎◌, [], ◌∷◌, All, IfOk, IsErr};
+ghost use Rattle.std.specs.Prelude.{◌≡◌, ◌<◌, ◌⊎◌, [], All, IfOk, IsErr};
 ghost use Rattle.line_source.specs.Causes.{Rose};
 ghost use Rattle.job_answers.specs.Statuses.{IsVerdictStatus};
 ghost use Rattle.job_answers.specs.Answers.{IfEnded};
 ghost use Rattle.job_answers.specs.Delivered.{sink_change, IsDelivered};
-ghost use Rattle.job_answers.specs.Works.{known_between, file_work, IsDoneOver};
+ghost use Rattle.job_answers.specs.Works.{known_between, file_work};
 ghost use Rattle.command_words.specs.declared.jobs.Job.{Job};
-ghost use Rattle.command_words.specs.Words.{texts_of, file_words, IsJob, IsInRange, IsSimInRange};
-ghost use Rattle.job_answers.specs.SessionJobs.{SessionEnds, IsPairLine};
-ghost use Rattle.baseline_app.specs.Jobs.{PartEnds, JobEnds, IsLineOf, IsReadable, SaysOfJob, AnswersJob, AnswersUsage, stop_end, end_of};
+ghost use Rattle.command_words.specs.Words.{texts_of, IsJob, IsInRange, IsSimInRange};
+ghost use Rattle.baseline_app.specs.Commands.{PartEnds, session_command, command_of};
+ghost use Rattle.baseline_app.specs.Jobs.{IsCommandDone, AnswersJob, AnswersUsage, stop_end, end_of};
 ghost use Rattle.baseline_app.specs.Calls.{AnswersByCalls, RefusesByCalls};
 ghost use Rattle.baseline_app.specs.Runs.{IsRun, UsesFiles, IsComplete, IsStarted, HasNoWords};
 
@@ -35,9 +35,8 @@ fn session_by_words<C: SessionCommand, F: Files>(
     nav: &Word,
     options: &Options,
 ) -> Result<JobOutput, JobStop>
-    ensures { IsDoneOver (file_work F.Files files.old files.new)
-        (base.now ∷ rover.now ∷ nav.now ∷ []) IsPairLine (SessionEnds C.answers
-        (known_between F.Files files.old files.new) base.now rover.now nav.now options.now) result }
+    ensures { IsCommandDone (file_work F.Files files.old files.new)
+        (session_command C.answers base.now rover.now nav.now options.now) result }
 {
     answer_session(
         alloc,
@@ -72,9 +71,8 @@ fn sim_part(
 // What the job ends with.
 fn do_job<F: Files>(alloc: Global, job: &Job, files: &mut F) -> Result<JobOutput, JobStop>
     requires { IsInRange job.now }
-    ensures done { IsDoneOver (file_work F.Files files.old files.new) (file_words job.now)
-        (IsLineOf job.now) (JobEnds job.now (known_between F.Files files.old files.new)) result }
-    ensures untouched { file_words job.now ≡ [] → files.new ≡ files.old }
+    ensures done { IsCommandDone (file_work F.Files files.old files.new) (command_of job.now) result }
+    ensures untouched { (command_of job.now).file_words ≡ [] → files.new ≡ files.old }
 {
     match job {
         Job::Zero { rows } => answer_file(alloc, files, &Claim, rows.as_str()),
@@ -130,10 +128,9 @@ fn answer_of<F: Files>(alloc: Global, words: &[String], files: &mut F) -> Result
     ensures answer { IfEnded result (λ end. AnswersJob (texts_of words.now)
         (file_work F.Files files.old files.new) end ⊎ AnswersUsage (texts_of words.now) end) }
     ensures done { (job : Job) → IsJob (texts_of words.now) job →
-        IsDoneOver (file_work F.Files files.old files.new) (file_words job) (IsLineOf job)
-        (JobEnds job (known_between F.Files files.old files.new)) result }
-    ensures untouched { ((job : Job) → IsJob (texts_of words.now) job → file_words job ≡ []) →
-        files.new ≡ files.old }
+        IsCommandDone (file_work F.Files files.old files.new) (command_of job) result }
+    ensures untouched { ((job : Job) → IsJob (texts_of words.now) job →
+        (command_of job).file_words ≡ []) → files.new ≡ files.old }
 {
     match read_words(alloc, words) {
         Ok(job) => do_job(alloc, &job, files),
@@ -179,12 +176,12 @@ pub fn start_on_host<R: std::rt::Files + Drop, O: Write + Drop, E: Write + Drop>
     err: &mut HostSink<E>,
 ) -> u8
     ensures answer { IfOk words (λ ws. (job : Job) → IsJob (texts_of ws.items) job → result < 2 →
-        AnswersByCalls job result (⟦<HostFiles<R> as Files>⟧.given files.old)
+        AnswersByCalls (command_of job) result (⟦<HostFiles<R> as Files>⟧.given files.old)
         (⟦<HostFiles<R> as Files>⟧.given files.new) (⟦<HostSink<O> as Sink>⟧.taken out.old)
         (⟦<HostSink<O> as Sink>⟧.taken out.new) (⟦<HostSink<E> as Sink>⟧.taken err.old)
         (⟦<HostSink<E> as Sink>⟧.taken err.new)) }
     ensures refusal { IfOk words (λ ws. (job : Job) → IsJob (texts_of ws.items) job → result ≡ 3 →
-        RefusesByCalls job (⟦<HostFiles<R> as Files>⟧.given files.old)
+        RefusesByCalls (command_of job) (⟦<HostFiles<R> as Files>⟧.given files.old)
         (⟦<HostFiles<R> as Files>⟧.given files.new) (⟦<HostSink<O> as Sink>⟧.taken out.old)
         (⟦<HostSink<O> as Sink>⟧.taken out.new)
         (sink_change ⟦<HostSink<E> as Sink>⟧ err.old err.new)) }
@@ -216,9 +213,9 @@ pub fn run<F: Files, O: Sink, E: Sink>(
     ensures run { IsRun (texts_of words.now) (file_work F.Files files.old files.new) result
         (sink_change O.Sink out.old out.new) (sink_change E.Sink err.old err.new) }
     ensures files { (job : Job) → IsJob (texts_of words.now) job →
-        UsesFiles (file_work F.Files files.old files.new) (file_words job) result }
-    ensures untouched { ((job : Job) → IsJob (texts_of words.now) job → file_words job ≡ []) →
-        files.new ≡ files.old }
+        UsesFiles (file_work F.Files files.old files.new) (command_of job).file_words result }
+    ensures untouched { ((job : Job) → IsJob (texts_of words.now) job →
+        (command_of job).file_words ≡ []) → files.new ≡ files.old }
     ensures read { result ≡ Status.ReadFault → Rose (F.faults files.old) (F.faults files.new) }
     ensures write { result ≡ Status.WriteFault →
         Rose (O.faults out.old) (O.faults out.new) ⊎ Rose (E.faults err.old) (E.faults err.new) }
@@ -226,13 +223,13 @@ pub fn run<F: Files, O: Sink, E: Sink>(
         (O.faults out.new ≡ O.faults out.old) × (E.faults err.new ≡ E.faults err.old) }
     ensures usage { result ≡ Status.Usage → (job : Job) → IsJob (texts_of words.now) job → ⊥ }
     ensures output { (job : Job) → IsJob (texts_of words.now) job → IsVerdictStatus result →
-        SaysOfJob job (known_between F.Files files.old files.new) result
+        (command_of job).Says (known_between F.Files files.old files.new) result
         (sink_change O.Sink out.old out.new) }
     ensures complete { (job : Job) → IsJob (texts_of words.now) job →
-        IsReadable job (known_between F.Files files.old files.new) →
-        All (F.is_sure_name files.old) (file_words job)
+        (command_of job).IsReadable (known_between F.Files files.old files.new) →
+        All (F.is_sure_name files.old) (command_of job).file_words
         ⊎ (Rose (F.faults files.old) (F.faults files.new) → ⊥) →
-        IsComplete job (known_between F.Files files.old files.new) result
+        IsComplete (command_of job) (known_between F.Files files.old files.new) result
         (sink_change O.Sink out.old out.new) (sink_change E.Sink err.old err.new) }
 {
     write_answer(alloc, words, files, out, err)
@@ -249,9 +246,9 @@ fn write_answer<F: Files, O: Sink, E: Sink>(
     ensures run { IsRun (texts_of words.now) (file_work F.Files files.old files.new) result
         (sink_change O.Sink out.old out.new) (sink_change E.Sink err.old err.new) }
     ensures files { (job : Job) → IsJob (texts_of words.now) job →
-        UsesFiles (file_work F.Files files.old files.new) (file_words job) result }
-    ensures untouched { ((job : Job) → IsJob (texts_of words.now) job → file_words job ≡ []) →
-        files.new ≡ files.old }
+        UsesFiles (file_work F.Files files.old files.new) (command_of job).file_words result }
+    ensures untouched { ((job : Job) → IsJob (texts_of words.now) job →
+        (command_of job).file_words ≡ []) → files.new ≡ files.old }
     ensures read { result ≡ Status.ReadFault → Rose (F.faults files.old) (F.faults files.new) }
 {
     let end = answer_of(alloc, words, files);

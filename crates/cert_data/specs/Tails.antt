@@ -19,9 +19,9 @@ abbrev pub IsMove : List ℤ → Type 0
 IsMove moved = All (IsBelow (2 ^ 46)) moved
 
 -- the ranges of two vectors, the values at them, and the upper sum
-pub record AreValues (ss : List ℕ) (arcs : List Arc) (h : ℕ) (best : TwoBest) (top : ℤ) : Type 0 where
+pub record AreValues (signals : List ℕ) (arcs : List Arc) (h : ℕ) (best : TwoBest) (top : ℤ) : Type 0 where
   pub h_to : h ≤ 127
-  pub size : best.size ≡ integer_count arcs ss
+  pub size : best.size ≡ integer_count arcs signals
   pub first_in : IsSmall best.first
   pub second_in : IsSmall best.second
   pub p1_in : IsBelow (2 ^ 126) best.p1
@@ -29,9 +29,9 @@ pub record AreValues (ss : List ℕ) (arcs : List Arc) (h : ℕ) (best : TwoBest
   pub top_in : IsBelow (2 ^ 126) top
 
 -- the ranges of a tail with vectors
-pub record AreVectors (ss : List ℕ) (arcs : List Arc) (h : ℕ) (moved : List ℤ) (best : TwoBest) (top : ℤ) : Type 0 where
+pub record AreVectors (signals : List ℕ) (arcs : List Arc) (h : ℕ) (moved : List ℤ) (best : TwoBest) (top : ℤ) : Type 0 where
   pub moved_in : IsMove moved
-  pub values : AreValues ss arcs h best top
+  pub values : AreValues signals arcs h best top
 
 pub record IsWeak (column : ℕ) (pivot : ℤ) : Type 0 where
   pub column_to : column < MOST_FACTORS
@@ -39,17 +39,17 @@ pub record IsWeak (column : ℕ) (pivot : ℤ) : Type 0 where
 
 -- a tail of a certificate of these signals, these arcs and this budget
 abbrev pub IsTailOf : List ℕ → List Arc → ℕ → Tail → Type 0
-IsTailOf ss arcs budget (Fixed h moved best top) = AreVectors ss arcs h moved best top
-IsTailOf ss arcs budget (Unseparated h moved best top) = AreVectors ss arcs h moved best top
-IsTailOf ss arcs budget (Weak column pivot) = IsWeak column pivot
-IsTailOf ss arcs budget (Overwidth place) = Unit {0}
-IsTailOf ss arcs budget (Unsettled entry) = IsBelow (2 ^ 46) entry
-IsTailOf ss arcs budget (Spent spent) = spent ≡ budget
+IsTailOf signals arcs budget (Fixed h moved best top) = AreVectors signals arcs h moved best top
+IsTailOf signals arcs budget (Unseparated h moved best top) = AreVectors signals arcs h moved best top
+IsTailOf signals arcs budget (Weak column pivot) = IsWeak column pivot
+IsTailOf signals arcs budget (Overwidth place) = Unit {0}
+IsTailOf signals arcs budget (Unsettled entry) = IsBelow (2 ^ 46) entry
+IsTailOf signals arcs budget (Spent spent) = spent ≡ budget
 
-pub IsTailOf-prop : (ss : List ℕ) (arcs : List Arc) (budget : ℕ) (tail : Tail) → IsProp (IsTailOf ss arcs budget tail)
-IsTailOf-prop ss arcs budget (Fixed h moved best top) = Prim.hlevel props
-IsTailOf-prop ss arcs budget (Unseparated h moved best top) = Prim.hlevel props
-IsTailOf-prop ss arcs budget (Weak column pivot) = Prim.hlevel props
-IsTailOf-prop ss arcs budget (Overwidth place) = Prim.hlevel props
-IsTailOf-prop ss arcs budget (Unsettled entry) = Prim.hlevel props
-IsTailOf-prop ss arcs budget (Spent spent) = Prim.hlevel props
+pub IsTailOf-prop : (signals : List ℕ) (arcs : List Arc) (budget : ℕ) (tail : Tail) → IsProp (IsTailOf signals arcs budget tail)
+IsTailOf-prop signals arcs budget (Fixed h moved best top) = Prim.hlevel props
+IsTailOf-prop signals arcs budget (Unseparated h moved best top) = Prim.hlevel props
+IsTailOf-prop signals arcs budget (Weak column pivot) = Prim.hlevel props
+IsTailOf-prop signals arcs budget (Overwidth place) = Prim.hlevel props
+IsTailOf-prop signals arcs budget (Unsettled entry) = Prim.hlevel props
+IsTailOf-prop signals arcs budget (Spent spent) = Prim.hlevel props

@@ -1,14 +1,14 @@
 -- What the lines of a tail give where they are spelled.
 use Rattle.std.proofs.Common.{◌≡◌, ◌^◌, ◌<◌, ◌≤◌, ℕ, ℤ, pos, Bool, true, false, List, [], ◌∷◌, length, codes, refl, ap, arith, ◌+◌, neg_ℤ, Ok, ◌∙◌, lit≤}
 use Rattle.obs_rows.specs.Ranges.{IsBelow}
-use Rattle.cert_lines.specs.Lines.{last_line, values_line, weak_line}
+use Rattle.cert_lines.specs.Lines.{decision_line, values_line, weak_line}
 use Rattle.cert_words.specs.Numbers.{IsIn, number_at, natural_within, within_range, IsBetween}
 use Rattle.rinex_head.specs.Places.{and_then}
 use Rattle.cert_words.specs.declared.numbers.Number.{Number}
 use Rattle.cert_words.proofs.NumberLaws.{placed, line_written}
 use Rattle.cert_words.proofs.RangeLaws.{within_holds, natural_holds}
 use Rattle.cert_lines.specs.declared.ranges.TheConstants.{PIVOTS, VALUE_LIMIT}
-use Rattle.cert_lines.specs.TailForms.{weak_pivot, weak_in, form_values, value_within, values_in, last_in}
+use Rattle.cert_lines.specs.TailForms.{weak_pivot, weak_in, form_values, value_within, values_in, decision_line_in}
 use Rattle.cert_lines.proofs.LineSpells.{HaveValues, placed_values, range_at, below_is}
 use Rattle.cert_lines.proofs.Sizes.{values_small, weak_small}
 
@@ -53,10 +53,10 @@ weak_spells words last column pivot few below to =
 
 -- ---- the last line
 
-pub last_read : (fixed : Bool) → last_in (last_line fixed) ≡ Ok fixed
-last_read true = refl
-last_read false = refl
+pub decision_read : (fixed : Bool) → decision_line_in (decision_line fixed) ≡ Ok fixed
+decision_read true = refl
+decision_read false = refl
 
-pub last_length : (fixed : Bool) → length (last_line fixed) ≤ 4096
-last_length true = lit≤ tt
-last_length false = lit≤ tt
+pub decision_length : (fixed : Bool) → length (decision_line fixed) ≤ 4096
+decision_length true = lit≤ tt
+decision_length false = lit≤ tt

@@ -38,7 +38,7 @@ kind_text datum = if datum then codes " datum" else codes " free"
 
 -- the line of an arc, with the shift of each phase among these signals
 abbrev pub arc_line : List ℕ → Arc → List ℕ
-arc_line ss a = codes "arc" ++ (behind_blanks (pos a.sat ∷ pos a.first ∷ pos a.last ∷ []) ++ (kind_text a.datum ++ behind_blanks (select (phase_bands ss) a.shift)))
+arc_line signals a = codes "arc" ++ (behind_blanks (pos a.sat ∷ pos a.first ∷ pos a.last ∷ []) ++ (kind_text a.datum ++ behind_blanks (select (phase_bands signals) a.shift)))
 
 -- the number of a pair, its tag, its group and how many rows follow
 abbrev pub pair_line : ℕ → ℕ → ℤ → ℕ → List ℕ
@@ -46,26 +46,26 @@ pair_line number tag group count = codes "pair" ++ behind_blanks (pos number ∷
 
 -- the numbers of a row, with the observation of each of these signals
 abbrev pub row_numbers : List ℕ → Row → List ℤ
-row_numbers ss r = pos r.arc ∷ (select ss r.y ++ (r.ry ∷ (r.u ++ r.ru)))
+row_numbers signals r = pos r.arc ∷ (select signals r.y ++ (r.ry ∷ (r.u ++ r.ru)))
 
 abbrev pub row_line : List ℕ → Row → List ℕ
-row_line ss r = codes "row" ++ behind_blanks (row_numbers ss r)
+row_line signals r = codes "row" ++ behind_blanks (row_numbers signals r)
 
 -- the lines of a pair and of its rows
 abbrev pub row_lines : List ℕ → List Row → List (List ℕ)
-row_lines ss [] = []
-row_lines ss (r ∷ rs) = row_line ss r ∷ row_lines ss rs
+row_lines signals [] = []
+row_lines signals (r ∷ rs) = row_line signals r ∷ row_lines signals rs
 
 abbrev pub pair_lines : List ℕ → PairRows → List (List ℕ)
-pair_lines ss p = pair_line p.number p.tag.0 p.group (length p.rows) ∷ row_lines ss p.rows
+pair_lines signals p = pair_line p.number p.tag.0 p.group (length p.rows) ∷ row_lines signals p.rows
 
 -- each arc on a line of its own
 abbrev pub arc_lines : List ℕ → List Arc → List (List ℕ)
-arc_lines ss [] = []
-arc_lines ss (a ∷ arcs) = arc_line ss a ∷ arc_lines ss arcs
+arc_lines signals [] = []
+arc_lines signals (a ∷ arcs) = arc_line signals a ∷ arc_lines signals arcs
 
 abbrev pub counted_arcs : List ℕ → List Arc → List (List ℕ)
-counted_arcs ss arcs = count_line (codes "arcs") (length arcs) ∷ arc_lines ss arcs
+counted_arcs signals arcs = count_line (codes "arcs") (length arcs) ∷ arc_lines signals arcs
 
 -- the values of the form and the upper sum
 abbrev pub values_line : ℕ → ℤ → ℤ → ℤ → List ℕ
@@ -80,5 +80,5 @@ abbrev pub named_line : List ℕ → List ℕ → List ℕ
 named_line words name = words ++ name
 
 -- the last line after two vectors
-abbrev pub last_line : Bool → List ℕ
-last_line fixed = if fixed then codes "fixed" else codes "declined unseparated"
+abbrev pub decision_line : Bool → List ℕ
+decision_line fixed = if fixed then codes "fixed" else codes "declined unseparated"

@@ -44,5 +44,5 @@ values_in line =
     and_then (value_within (number_at ns 3)) (λ top. Ok (form_values h p1 p2 top))))))
 
 -- whether the integers are fixed
-abbrev pub last_in : List ℕ → Result Bool Flaw
-last_in line = if bytes_eq line (codes "fixed") then Ok true else if bytes_eq line (codes "declined unseparated") then Ok false else flawed 1 BadLine
+abbrev pub decision_line_in : List ℕ → Result Bool Flaw
+decision_line_in line = if bytes_eq line (codes "fixed") then Ok true else if bytes_eq line (codes "declined unseparated") then Ok false else flawed 1 BadLine

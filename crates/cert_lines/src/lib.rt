@@ -1,7 +1,7 @@
 //! The lines of a certificate, each by itself: how it is spelled, and what it says where it stands in its place.
 //!
 //! A reader of a line (`count_in`, `triple_in`, `vector_in`, `system_in`, `signals_in`, `arc_in`, `pair_in`, `row_in`,
-//! `weak_in`, `values_in`, `last_in`) answers exactly what the form of that line gives in its place, or its first flaw
+//! `weak_in`, `values_in`, `decision_line_in`) answers exactly what the form of that line gives in its place, or its first flaw
 //! (`value`): `BadLine` at column 1 where the line isn't of the form, `BadRange` at the first number outside its range.
 //! Where it answers a value, the line is that value's spelling (`spelled`), with all ranges (`in_range`, `of_pair` and
 //! others). A writer (`push_arcs`, `push_pair_lines` and others) appends exactly the spelling, and fails only where it
@@ -29,7 +29,7 @@ pub use ranges::{
 };
 pub use signals::{signals_in, system_in};
 pub use tails::{
-    FormValues, WeakPivot, begins, last_in, name_in, push_last_line, push_named_line,
+    FormValues, WeakPivot, begins, decision_line_in, name_in, push_decision_line, push_named_line,
     push_values_line, push_weak_line, values_in, weak_in,
 };
 pub use version::Version;

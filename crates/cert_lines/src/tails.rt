@@ -2,8 +2,8 @@
 ghost use Rattle.std.specs.Prelude.{◌≡◌, ◌≤◌, ◌<◌, ◌^◌, ◌++◌, ◌∷◌, [], length, IfOk, MatchResult, Ok, Err, OnOk};
 ghost use Rattle.obs_rows.specs.Ranges.{IsBelow};
 ghost use Rattle.cert_words.specs.Spelling.{text_of_lines};
-ghost use Rattle.cert_lines.specs.Lines.{values_line, weak_line, named_line, last_line};
-ghost use Rattle.cert_lines.specs.TailForms.{begins, weak_in, name_in, value_within, values_in, last_in};
+ghost use Rattle.cert_lines.specs.Lines.{values_line, weak_line, named_line, decision_line};
+ghost use Rattle.cert_lines.specs.TailForms.{begins, weak_in, name_in, value_within, values_in, decision_line_in};
 
 use crate::ranges::{PIVOTS, VALUE_LIMIT};
 use cert_words::{BAD_LINE, Number, number_at, numbers_behind, push_number};
@@ -98,9 +98,9 @@ pub fn values_in(line: &[u8]) -> Result<FormValues, Flaw>
 }
 
 /// Whether the integers are fixed, by the last line after the vectors.
-pub fn last_in(line: &[u8]) -> Result<bool, Flaw>
-    ensures value { result ≡ last_in line.now }
-    ensures spelled { IfOk result (λ fixed. line.now ≡ last_line fixed) }
+pub fn decision_line_in(line: &[u8]) -> Result<bool, Flaw>
+    ensures value { result ≡ decision_line_in line.now }
+    ensures spelled { IfOk result (λ fixed. line.now ≡ decision_line fixed) }
 {
     if line == b"fixed".as_slice() {
         return Ok(true);
@@ -153,8 +153,8 @@ pub fn push_values_line(out: &mut Vec<u8>, values: FormValues) -> Result<(), All
     Ok(())
 }
 
-fn last_text(fixed: bool) -> &'static [u8]
-    ensures { result.now ≡ last_line fixed }
+fn decision_text(fixed: bool) -> &'static [u8]
+    ensures { result.now ≡ decision_line fixed }
 {
     if fixed {
         b"fixed"
@@ -164,10 +164,10 @@ fn last_text(fixed: bool) -> &'static [u8]
 }
 
 /// Appends the last line after two vectors.
-pub fn push_last_line(out: &mut Vec<u8>, fixed: bool) -> Result<(), AllocError>
-    ensures { OnOk result (out.new.items ≡ out.old.items ++ text_of_lines (last_line fixed ∷ [])) }
+pub fn push_decision_line(out: &mut Vec<u8>, fixed: bool) -> Result<(), AllocError>
+    ensures { OnOk result (out.new.items ≡ out.old.items ++ text_of_lines (decision_line fixed ∷ [])) }
 {
-    out.extend_from_slice(last_text(fixed))?;
+    out.extend_from_slice(decision_text(fixed))?;
     out.push(b'\n')?;
     Ok(())
 }

@@ -10,7 +10,7 @@ use Rattle.obs_rows.specs.declared.sessions.Session.{Session}
 use Rattle.obs_rows.specs.Signals.{fine_signals}
 use Rattle.int_search.specs.declared.answer.TwoBest.{TwoBest}
 use Rattle.cert_words.specs.Spelling.{behind_blanks, text_of_lines}
-use Rattle.cert_lines.specs.Lines.{row_line, row_lines, pair_lines, arc_line, arc_lines, last_line}
+use Rattle.cert_lines.specs.Lines.{row_line, row_lines, pair_lines, arc_line, arc_lines, decision_line}
 use Rattle.cert_lines.specs.declared.version.Version.TheVariants.{One}
 use Rattle.cert_data.specs.declared.tails.Tail.{Tail}
 use Rattle.cert_data.specs.declared.tails.Tail.TheVariants as now
@@ -76,9 +76,9 @@ vectors_spelled h moved b o top e few =
 
 tail_spelled : (t : Tail) (o : OldTail) → IsEndOf t o → HasFewEntries t → old_tail_lines o ≡ tail_lines t
 tail_spelled (now.Fixed h moved best top) o e few =
-    ap old_tail_lines e.1.1 ∙ ap (λ (lines : List (List ℕ)). lines ++ last_line true ∷ []) (vectors_spelled h moved best e.0 top e.1.0 few)
+    ap old_tail_lines e.1.1 ∙ ap (λ (lines : List (List ℕ)). lines ++ decision_line true ∷ []) (vectors_spelled h moved best e.0 top e.1.0 few)
 tail_spelled (now.Unseparated h moved best top) o e few =
-    ap old_tail_lines e.1.1 ∙ ap (λ (lines : List (List ℕ)). lines ++ last_line false ∷ []) (vectors_spelled h moved best e.0 top e.1.0 few)
+    ap old_tail_lines e.1.1 ∙ ap (λ (lines : List (List ℕ)). lines ++ decision_line false ∷ []) (vectors_spelled h moved best e.0 top e.1.0 few)
 tail_spelled (now.Weak column pivot) o e few = ap old_tail_lines e
 tail_spelled (now.Overwidth place) o e few = ap old_tail_lines e
 tail_spelled (now.Unsettled entry) o e few = ap old_tail_lines e

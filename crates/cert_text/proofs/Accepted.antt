@@ -43,9 +43,9 @@ use Rattle.cert_text.proofs.LineLaws.{arcs_taken, rows_taken}
 abbrev HasGroupOf : Version → PairRows → Type 0
 HasGroupOf version p = unsigned_abs p.group < group_limit version
 
-pairs_accepted : (f : Frame) (arcs : List Arc) (least : ℕ) (pairs : List PairRows) (rest : List (List ℕ)) → length f.ss ≤ SIGNALS → length arcs ≤ MOST_ARCS → All (HasItsArcs arcs) pairs
+pairs_accepted : (f : Frame) (arcs : List Arc) (least : ℕ) (pairs : List PairRows) (rest : List (List ℕ)) → length f.signals ≤ SIGNALS → length arcs ≤ MOST_ARCS → All (HasItsArcs arcs) pairs
     → All IsWholePair pairs → All (HasGroupOf f.version) pairs → RisesFrom (λ p. p.number) least pairs
-    → AreAccepted cert_rules (Tail f arcs) rest → AreAccepted cert_rules (before_pairs f arcs (length pairs) least) (all_pair_lines f.ss pairs ++ rest)
+    → AreAccepted cert_rules (Tail f arcs) rest → AreAccepted cert_rules (before_pairs f arcs (length pairs) least) (all_pair_lines f.signals pairs ++ rest)
 pairs_accepted f arcs least [] rest signals few has whole groups rising behind = behind
 pairs_accepted f arcs least (p ∷ pairs) rest signals few has whole groups rising behind =
     let own = All-head (HasItsArcs arcs) p pairs has in
@@ -54,17 +54,17 @@ pairs_accepted f arcs least (p ∷ pairs) rest signals few has whole groups risi
     let fewer : suc (length pairs) - 1 ≡ length pairs = omega arith in
     let numbers : List ℤ = pos p.number ∷ pos p.tag.0 ∷ p.group ∷ pos (length p.rows) ∷ [] in
     let line = pair_line p.number p.tag.0 p.group (length p.rows) in
-    let others = row_lines f.ss p.rows ++ (all_pair_lines f.ss pairs ++ rest) in
+    let others = row_lines f.signals p.rows ++ (all_pair_lines f.signals pairs ++ rest) in
     let reads : admit (NextPair f arcs (suc (length pairs)) least) line ≡ Ok (before_rows f arcs (length pairs) p.number (length p.rows) 0) =
     ap (λ a. and_then a (λ h. Ok (before_rows f arcs (suc (length pairs) - 1) h.number h.count 0)))
     (pair_spells f.version least p.number p.tag.0 (length p.rows) p.group rising.0 p.number_in p.tag_in group p.some_rows p.few_rows)
     ∙ ap (λ (n : ℕ). Ok (before_rows f arcs n p.number (length p.rows) 0)) fewer in
     let later = pairs_accepted f arcs (p.number + 1) pairs rest signals few (All-tail (HasItsArcs arcs) p pairs has) (All-tail IsWholePair p pairs whole)
     (All-tail (HasGroupOf f.version) p pairs groups) rising.1 behind in
-    let rows = rows_accepted cert_rules f.ss arcs p.number (λ (left least : ℕ). before_rows f arcs (length pairs) p.number left least) (before_pairs f arcs (length pairs) (p.number + 1)) 0 p.rows
-    (all_pair_lines f.ss pairs ++ rest) (rows_taken f arcs (length pairs) p.number) signals few own wide
+    let rows = rows_accepted cert_rules f.signals arcs p.number (λ (left least : ℕ). before_rows f arcs (length pairs) p.number left least) (before_pairs f arcs (length pairs) (p.number + 1)) 0 p.rows
+    (all_pair_lines f.signals pairs ++ rest) (rows_taken f arcs (length pairs) p.number) signals few own wide
     (rises (λ (r : Row). r.arc) 0 p.rows p.arcs_rise (λ d some. omega arith)) later in
-    let split : (pair_lines f.ss p ++ all_pair_lines f.ss pairs) ++ rest ≡ line ∷ others = append_assoc (pair_lines f.ss p) (all_pair_lines f.ss pairs) rest in
+    let split : (pair_lines f.signals p ++ all_pair_lines f.signals pairs) ++ rest ≡ line ∷ others = append_assoc (pair_lines f.signals p) (all_pair_lines f.signals pairs) rest in
     subst (AreAccepted cert_rules (NextPair f arcs (suc (length pairs)) least)) (sym split)
     (step cert_rules (NextPair f arcs (suc (length pairs)) least) (before_rows f arcs (length pairs) p.number (length p.rows) 0) line others
     (line_length (codes "pair") numbers (lit≤ tt) (lit≤ tt) (pair_small p)) reads rows)

@@ -158,7 +158,7 @@ part_of_head version h front behind are =
 
 record HeldArcs (f : Frame) (left : ℕ) (arcs : List Arc) (front : List (List ℕ)) : Type 0 where
   pub head : Head f.version
-  pub signals : f.ss ≡ signals_of_head head
+  pub signals : f.signals ≡ signals_of_head head
   pub begun : AreBegun f.version (signals_of_head head) left arcs
   pub are : front ≡ arcs_front head left arcs
 
@@ -174,7 +174,7 @@ Held (SystemLine budget) front = HeldHead Two front (λ h. three_lines h)
 Held (Base v budget) front = HeldHead v front (λ h. three_lines h ++ system_of h)
 Held (Point v budget) front = HeldHead v front (λ h. three_lines h ++ (system_of h ++ base_of h ∷ []))
 Held (Letters v budget) front = HeldHead v front (λ h. three_lines h ++ (system_of h ++ base_of h ∷ point_of h ∷ []))
-Held (ArcCount f) front = (h : Head f.version) × (f.ss ≡ signals_of_head h) × (front ≡ head_of h)
+Held (ArcCount f) front = (h : Head f.version) × (f.signals ≡ signals_of_head h) × (front ≡ head_of h)
 Held (NextArc f left arcs) front = (1 ≤ left) × HeldArcs f left arcs front
 Held (PairCount f arcs) front = HeldArcs f 0 arcs front
 Held other front = ⊥
@@ -267,7 +267,7 @@ arcs_next : (f : Frame) (left : ℕ) (arcs : List Arc) (front : List (List ℕ))
 arcs_next f zero arcs front held = (refl, held)
 arcs_next f (suc left) arcs front held = (refl, (omega arith, held))
 
-arc_step : (f : Frame) (left : ℕ) (arcs : List Arc) (front : List (List ℕ)) (line : List ℕ) (a : Arc) → 1 ≤ left → HeldArcs f left arcs front → arc_in f.version f.ss (free_count arcs) left line ≡ Ok a
+arc_step : (f : Frame) (left : ℕ) (arcs : List Arc) (front : List (List ℕ)) (line : List ℕ) (a : Arc) → 1 ≤ left → HeldArcs f left arcs front → arc_in f.version f.signals (free_count arcs) left line ≡ Ok a
     → HeldArcs f (left - 1) (arcs ++ a ∷ []) (front ++ line ∷ [])
 arc_step f left arcs front line a some held is =
     let held_head = held.head in
@@ -362,7 +362,7 @@ next_held (ArcCount f) next front line held other e =
       are = pushed front (head_of first_arc) line (count_line (codes "arcs") n) held.2 read.line_is ∙ ap (λ (k : ℕ). head_of first_arc ++ count_line (codes "arcs") k ∷ []) none;
     }))
 next_held (NextArc f left arcs) next front line held other e =
-    by_line f.version (front ++ line ∷ []) (arc_in f.version f.ss (free_count arcs) left line) (λ (a : Arc). before_arcs f (left - 1) (arcs ++ a ∷ [])) next e (λ a is.
+    by_line f.version (front ++ line ∷ []) (arc_in f.version f.signals (free_count arcs) left line) (λ (a : Arc). before_arcs f (left - 1) (arcs ++ a ∷ [])) next e (λ a is.
     arcs_next f (left - 1) (arcs ++ a ∷ []) (front ++ line ∷ []) (arc_step f left arcs front line a held.0 held.1 is))
 next_held (PairCount f arcs) next front line held other e =
     by_line f.version (front ++ line ∷ []) (count_in (codes "pairs") 1 MOST_PAIRS line) (λ n. before_pairs f arcs n 0) next e (λ n is.

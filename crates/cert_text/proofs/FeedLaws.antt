@@ -8,7 +8,7 @@ use Rattle.obs_rows.specs.Ranges.{IsSystem}
 use Rattle.obs_rows.specs.Pairs.{HasItsArcs}
 use Rattle.int_search.specs.declared.answer.TwoBest.{TwoBest}
 use Rattle.cert_words.proofs.TextLaws.{has_no_feed, AreLines, lines-append}
-use Rattle.cert_lines.specs.Lines.{vector_line, signals_line, pair_lines, last_line, counted_arcs}
+use Rattle.cert_lines.specs.Lines.{vector_line, signals_line, pair_lines, decision_line, counted_arcs}
 use Rattle.cert_lines.specs.declared.version.Version.{Version}
 use Rattle.cert_lines.specs.declared.version.Version.TheVariants.{One, Two}
 use Rattle.cert_lines.specs.Versions.{form_line}
@@ -64,8 +64,8 @@ vectors_feed ss arcs h moved best top are =
     (first, (second, (move, (values_feed h best.p1 best.p2 top values_hold.h_to values_hold.p1_in values_hold.p2_in values_hold.top_in, tt))))
 
 tail_feed : (ss : List ℕ) (arcs : List Arc) (budget : ℕ) (t : Tail) → budget ≤ MOST_BUDGET → IsTailOf ss arcs budget t → AreLines (tail_lines t)
-tail_feed ss arcs budget (Fixed h moved best top) few fits = lines-append (vectors_lines h moved best top) (last_line true ∷ []) (vectors_feed ss arcs h moved best top fits) (refl, tt)
-tail_feed ss arcs budget (Unseparated h moved best top) few fits = lines-append (vectors_lines h moved best top) (last_line false ∷ []) (vectors_feed ss arcs h moved best top fits) (refl, tt)
+tail_feed ss arcs budget (Fixed h moved best top) few fits = lines-append (vectors_lines h moved best top) (decision_line true ∷ []) (vectors_feed ss arcs h moved best top fits) (refl, tt)
+tail_feed ss arcs budget (Unseparated h moved best top) few fits = lines-append (vectors_lines h moved best top) (decision_line false ∷ []) (vectors_feed ss arcs h moved best top fits) (refl, tt)
 tail_feed ss arcs budget (Weak column pivot) few fits =
     (weak_feed (codes "declined weak fine") column pivot refl (omega (arith, fits.column_to)) fits.pivot_in, tt)
 tail_feed ss arcs budget (Overwidth place) few fits = (place_feed (codes "declined overwidth fine ") place refl, tt)

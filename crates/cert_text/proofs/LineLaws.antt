@@ -6,7 +6,7 @@ use Rattle.obs_rows.specs.Integers.{integer_count}
 use Rattle.obs_rows.specs.declared.limits.TheConstants.{MOST_PAIRS, MOST_RATIO, MOST_BUDGET}
 use Rattle.rinex_head.specs.Places.{and_then}
 use Rattle.cert_lines.specs.Forms.{count_in, vector_in, Letters as LettersOf, signals_in, signals_of, arc_in, pair_in, row_in}
-use Rattle.cert_lines.specs.TailForms.{begins, values_in, last_in}
+use Rattle.cert_lines.specs.TailForms.{begins, values_in, decision_line_in}
 use Rattle.cert_lines.specs.declared.ranges.TheConstants.{COORDINATES, ENTRIES, MOVES}
 use Rattle.cert_lines.specs.declared.version.Version.{Version}
 use Rattle.cert_lines.specs.Versions.{form_line}
@@ -42,7 +42,7 @@ letters_taken version budget = record { admits = λ line. refl; ends = refl }
 -- ---- where arcs, pairs and rows are expected
 
 pub arc_taken : (f : Frame) (left free : ℕ) (arcs : List Arc) → free ≡ free_count arcs → 1 ≤ left
-    → TakesLine cert_rules (before_arcs f left arcs) (arc_in f.version f.ss free left) (λ a. before_arcs f (left - 1) (arcs ++ a ∷ []))
+    → TakesLine cert_rules (before_arcs f left arcs) (arc_in f.version f.signals free left) (λ a. before_arcs f (left - 1) (arcs ++ a ∷ []))
 arc_taken f zero free arcs is some = absurd (omega arith)
 arc_taken f (suc left) free arcs is some = rw is (record { admits = λ line. refl; ends = refl })
 
@@ -52,15 +52,15 @@ pair_taken f arcs zero least some = absurd (omega arith)
 pair_taken f arcs (suc left) least some = record { admits = λ line. refl; ends = refl }
 
 pub row_taken : (f : Frame) (arcs : List Arc) (pairs number left least : ℕ) → 1 ≤ left
-    → TakesLine cert_rules (before_rows f arcs pairs number left least) (row_in f.ss arcs number least) (λ k. before_rows f arcs pairs number (left - 1) (k + 1))
+    → TakesLine cert_rules (before_rows f arcs pairs number left least) (row_in f.signals arcs number least) (λ k. before_rows f arcs pairs number (left - 1) (k + 1))
 row_taken f arcs pairs number zero least some = absurd (omega arith)
 row_taken f arcs pairs number (suc left) least some = record { admits = λ line. refl; ends = refl }
 
-pub arcs_taken : (f : Frame) → ArcsAreTaken cert_rules f.version f.ss (before_arcs f)
+pub arcs_taken : (f : Frame) → ArcsAreTaken cert_rules f.version f.signals (before_arcs f)
 arcs_taken f = record { takes = λ left arcs some. arc_taken f left (free_count arcs) arcs refl some }
 
 pub rows_taken : (f : Frame) (arcs : List Arc) (pairs number : ℕ)
-    → RowsAreTaken cert_rules f.ss arcs number (λ left least. before_rows f arcs pairs number left least) (before_pairs f arcs pairs (number + 1))
+    → RowsAreTaken cert_rules f.signals arcs number (λ left least. before_rows f arcs pairs number left least) (before_pairs f arcs pairs (number + 1))
 rows_taken f arcs pairs number = record { takes = λ left least some. row_taken f arcs pairs number left least some; ends = λ least. refl }
 
 -- ---- where the number of pairs is expected
@@ -79,12 +79,12 @@ move_taken = record { admits = λ line. refl; ends = refl }
 pub values_taken : TakesLine cert_rules Values values_in (λ v. Last)
 values_taken = record { admits = λ line. refl; ends = refl }
 
-pub last_taken : TakesLine cert_rules Last last_in (λ f. End)
-last_taken = record { admits = λ line. refl; ends = refl }
+pub decision_taken : TakesLine cert_rules Last decision_line_in (λ f. End)
+decision_taken = record { admits = λ line. refl; ends = refl }
 
 -- ---- the first line of a tail
 
-pub admits_vectors : (f : Frame) (n : ℕ) (arcs : List Arc) (line : List ℕ) → n ≡ integer_count arcs f.ss → begins (codes "z1") line ≡ true
+pub admits_vectors : (f : Frame) (n : ℕ) (arcs : List Arc) (line : List ℕ) → n ≡ integer_count arcs f.signals → begins (codes "z1") line ≡ true
     → admit (Tail f arcs) line ≡ and_then (vector_in (codes "z1") n ENTRIES line) (λ z. Ok (Second n))
 admits_vectors f n arcs line is starts = rw (starts, is) refl
 

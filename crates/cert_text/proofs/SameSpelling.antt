@@ -5,7 +5,7 @@ use Rattle.obs_rows.specs.declared.arcs.Arc.{Arc}
 use Rattle.obs_rows.specs.declared.pair_rows.PairRows.{PairRows}
 use Rattle.obs_rows.specs.Pairs.{HasItsArcs}
 use Rattle.int_search.specs.declared.answer.TwoBest.{TwoBest}
-use Rattle.cert_lines.specs.Lines.{row_lines, pair_lines, last_line, counted_arcs, pair_line, weak_line, system_line}
+use Rattle.cert_lines.specs.Lines.{row_lines, pair_lines, decision_line, counted_arcs, pair_line, weak_line, system_line}
 use Rattle.cert_lines.specs.declared.version.Version.{Version}
 use Rattle.cert_lines.specs.declared.version.Version.TheVariants.{One, Two}
 use Rattle.obs_rows.specs.Signals.{fine_signals, used_signals}
@@ -16,7 +16,7 @@ use Rattle.cert_data.specs.Tails.{AreVectors, IsTailOf, tail_of_vectors}
 use Rattle.cert_text.specs.Spelling.{system_lines, all_pair_lines, counted_pairs, vectors_lines, tail_lines, lines_of_cert, unsettled_line, spent_line, spelling_as}
 use Rattle.obs_rows.specs.Unused.{HasUsedShifts, HasUsedRows}
 use Rattle.obs_rows.specs.declared.limits.TheConstants.{MOST_BUDGET, MOST_ARCS}
-use Rattle.cert_lines.specs.TailForms.{last_in}
+use Rattle.cert_lines.specs.TailForms.{decision_line_in}
 use Rattle.cert_text.specs.TailForms.{declined_in}
 use Rattle.cert_text.specs.Lengths.{AreWholeVectors, IsWholeTail, IsWhole}
 use Rattle.line_source.specs.EndedLines.{ended_lines}
@@ -29,7 +29,7 @@ use Rattle.cert_text.proofs.TailSpells.{weak_read, place_line, place_read, unset
 use Rattle.cert_text.proofs.Accepted.{regrouped}
 use Rattle.cert_lines.proofs.SameStructs.{pair_same}
 use Rattle.cert_text.proofs.SameStructs.{session_same, certs_same}
-use Rattle.cert_lines.proofs.TailSpells.{last_read}
+use Rattle.cert_lines.proofs.TailSpells.{decision_read}
 use Rattle.cert_lines.proofs.SameLines.{cons_same, numbers_same, count_same, rows_same, counted_arcs_same, pair_line_same, signals_line_same, system_line_same}
 use Rattle.cert_text.proofs.SameVectors.{bests_same}
 
@@ -63,7 +63,7 @@ pairs_same l2 l5 arcs arcs' (p ∷ pairs) (q ∷ pairs') rest rest' few few' h h
 
 -- a tail of five lines, or of one
 data Shape (ss : List ℕ) (arcs : List Arc) (budget : ℕ) (t : Tail) : Type 0 where
-  vectors : (fixed : Bool) (h : ℕ) (moved : List ℤ) (best : TwoBest) (top : ℤ) → t ≡ tail_of_vectors fixed h moved best top → tail_lines t ≡ vectors_lines h moved best top ++ last_line fixed ∷ []
+  vectors : (fixed : Bool) (h : ℕ) (moved : List ℤ) (best : TwoBest) (top : ℤ) → t ≡ tail_of_vectors fixed h moved best top → tail_lines t ≡ vectors_lines h moved best top ++ decision_line fixed ∷ []
       → AreVectors ss arcs h moved best top → AreWholeVectors moved best → Shape ss arcs budget t
   single : (line : List ℕ) → tail_lines t ≡ line ∷ [] → declined_in Two budget line ≡ Ok t → Shape ss arcs budget t
 
@@ -90,8 +90,8 @@ vectors_same ss arcs h h' moved moved' best best' top top' last last' a b w w' e
 
 tails_same : (ss : List ℕ) (arcs : List Arc) (budget : ℕ) (t u : Tail) → Shape ss arcs budget t → Shape ss arcs budget u → tail_lines t ≡ tail_lines u → t ≡ u
 tails_same ss arcs budget t u (vectors f h m b x is lines are whole) (vectors f' h' m' b' x' is' lines' are' whole') e =
-    let parts = vectors_same ss arcs h h' m m' b b' x x' (last_line f) (last_line f') are are' whole whole' (sym lines ∙ e ∙ lines') in
-    let kinds : Ok f ≡ Ok f' = sym (last_read f) ∙ ap last_in parts.4 ∙ last_read f' in
+    let parts = vectors_same ss arcs h h' m m' b b' x x' (decision_line f) (decision_line f') are are' whole whole' (sym lines ∙ e ∙ lines') in
+    let kinds : Ok f ≡ Ok f' = sym (decision_read f) ∙ ap decision_line_in parts.4 ∙ decision_read f' in
     let kind : f ≡ f' = cc in
     is ∙ (λ i. tail_of_vectors (kind i) (parts.0 i) (parts.1 i) (parts.2 i) (parts.3 i)) ∙ sym is'
 tails_same ss arcs budget t u (vectors f h m b x is lines are whole) (single line one read) e = absurd (apart (cons_same _ _ _ _ (sym lines ∙ e ∙ one)).1)

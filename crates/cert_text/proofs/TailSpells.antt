@@ -8,7 +8,7 @@ use Rattle.integer_form.specs.declared.faults.Place.{Place}
 use Rattle.integer_form.specs.declared.faults.Place.TheVariants.{Y, Factor, Entry, Float, Point, Search, Sum}
 use Rattle.int_search.specs.declared.answer.TwoBest.{TwoBest}
 use Rattle.cert_words.proofs.NumberLaws.{AreSmall}
-use Rattle.cert_lines.specs.Lines.{vector_line, named_line, last_line, values_line, weak_line}
+use Rattle.cert_lines.specs.Lines.{vector_line, named_line, decision_line, values_line, weak_line}
 use Rattle.cert_lines.specs.declared.version.Version.{Version}
 use Rattle.cert_words.proofs.RangeLaws.{AreIn}
 use Rattle.cert_text.specs.Rules.{Tail, Frame, Second, Move, Values, Last, End, cert_rules, admit}
@@ -30,14 +30,14 @@ use Rattle.cert_text.specs.Editions.{IsColumnOf}
 use Rattle.cert_text.proofs.LineLaws.{admits_vectors, admits_declined}
 use Rattle.cert_lines.proofs.LineSpells.{line_length, count_spells, vector_spells, below_is, entries_in, moves_in}
 use Rattle.cert_text.proofs.Accepts.{step, AreAccepted, end_accepted}
-use Rattle.cert_lines.proofs.TailSpells.{values_spell, weak_spells, last_read, last_length}
+use Rattle.cert_lines.proofs.TailSpells.{values_spell, weak_spells, decision_read, decision_length}
 use Rattle.cert_text.proofs.PlaceLaws.{place_length}
 
 -- ---- tails
 
 -- the lines of a tail with vectors, and the last one
-vectors_accepted : (f : Frame) (arcs : List Arc) (h : ℕ) (moved : List ℤ) (best : TwoBest) (top : ℤ) (fixed : Bool) → AreVectors f.ss arcs h moved best top → AreWholeVectors moved best
-    → AreAccepted cert_rules (Tail f arcs) (vectors_lines h moved best top ++ last_line fixed ∷ [])
+vectors_accepted : (f : Frame) (arcs : List Arc) (h : ℕ) (moved : List ℤ) (best : TwoBest) (top : ℤ) (fixed : Bool) → AreVectors f.signals arcs h moved best top → AreWholeVectors moved best
+    → AreAccepted cert_rules (Tail f arcs) (vectors_lines h moved best top ++ decision_line fixed ∷ [])
 vectors_accepted f arcs h moved best top fixed are whole =
     let size = best.size in
     let best_values = are.values in
@@ -58,12 +58,12 @@ vectors_accepted f arcs h moved best top fixed are whole =
     let move : admit Move (vector_line (codes "move") moved) ≡ Ok Values = ap (λ (r : Result (List ℤ) Flaw). and_then r (λ m. Ok Values)) move_read in
     let values_read = values_spell h best.p1 best.p2 top best_values.h_to best_values.p1_in best_values.p2_in best_values.top_in in
     let values : admit Values (values_line h best.p1 best.p2 top) ≡ Ok Last = ap (λ r. and_then r (λ best_values. Ok Last)) values_read in
-    let final : admit Last (last_line fixed) ≡ Ok End = ap (λ (r : Result Bool Flaw). and_then r (λ f. Ok End)) (last_read fixed) in
+    let final : admit Last (decision_line fixed) ≡ Ok End = ap (λ (r : Result Bool Flaw). and_then r (λ f. Ok End)) (decision_read fixed) in
     step cert_rules (Tail f arcs) (Second size) _ _ (line_length (codes "z1") first (lit≤ tt) (omega (arith, first_long, best.size_to)) first_small) first_admitted
     (step cert_rules (Second size) Move _ _ (line_length (codes "z2") second (lit≤ tt) (omega (arith, second_long, best.size_to)) second_small) second_admitted
     (step cert_rules Move Values _ _ (line_length (codes "move") moved (lit≤ tt) (omega (arith, whole.move)) moves_small_enough) move
     (step cert_rules Values Last _ _ (line_length (codes "values") (pos h ∷ best.p1 ∷ best.p2 ∷ top ∷ []) (lit≤ tt) (lit≤ tt) values_small_enough) values
-    (step cert_rules Last End (last_line fixed) [] (last_length fixed) final (end_accepted cert_rules End refl)))))
+    (step cert_rules Last End (decision_line fixed) [] (decision_length fixed) final (end_accepted cert_rules End refl)))))
 
 -- ---- tails of one line
 
@@ -105,7 +105,7 @@ place_read version budget Point = refl
 place_read version budget Search = refl
 place_read version budget Sum = refl
 
-pub tail_accepted : (f : Frame) (arcs : List Arc) (t : CertTail) → f.budget ≤ MOST_BUDGET → IsTailOf f.ss arcs f.budget t → IsColumnOf f.version t → IsWholeTail t
+pub tail_accepted : (f : Frame) (arcs : List Arc) (t : CertTail) → f.budget ≤ MOST_BUDGET → IsTailOf f.signals arcs f.budget t → IsColumnOf f.version t → IsWholeTail t
     → AreAccepted cert_rules (Tail f arcs) (tail_lines t)
 tail_accepted f arcs (Fixed h moved best top) few fits column_to whole = vectors_accepted f arcs h moved best top true fits whole
 tail_accepted f arcs (Unseparated h moved best top) few fits column_to whole = vectors_accepted f arcs h moved best top false fits whole

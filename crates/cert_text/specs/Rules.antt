@@ -15,7 +15,7 @@ use Rattle.cert_lines.specs.declared.ranges.TheConstants.{COORDINATES, ENTRIES, 
 use Rattle.cert_lines.specs.declared.version.Version.{Version}
 use Rattle.cert_lines.specs.declared.version.Version.TheVariants.{One, Two}
 use Rattle.cert_lines.specs.Versions.{form_line}
-use Rattle.cert_lines.specs.TailForms.{begins, values_in, last_in}
+use Rattle.cert_lines.specs.TailForms.{begins, values_in, decision_line_in}
 use Rattle.cert_text.specs.LineParts.{word_in}
 use Rattle.cert_text.specs.TailForms.{declined_in}
 
@@ -23,10 +23,10 @@ use Rattle.cert_text.specs.TailForms.{declined_in}
 pub record Frame : Type 0 where
   pub version : Version
   pub budget : ℕ
-  pub ss : List ℕ
+  pub signals : List ℕ
 
 abbrev pub frame : Version → ℕ → List ℕ → Frame
-frame version budget ss = record { version = version; budget = budget; ss = ss }
+frame version budget signals = record { version = version; budget = budget; signals = signals }
 
 -- What may be expected: the lines of the head, with the budget from its line on; further arcs after these; the number
 -- of pairs; pairs, with numbers from a least one on; rows of a pair of a number before other
@@ -86,15 +86,15 @@ admit (Base v budget) line = and_then (vector_in (codes "base") 3 COORDINATES li
 admit (Point v budget) line = and_then (vector_in (codes "point") 3 COORDINATES line) (λ p. Ok (Letters v budget))
 admit (Letters v budget) line = and_then (signals_in v line) (λ s. Ok (ArcCount (frame v budget (signals_of s))))
 admit (ArcCount f) line = and_then (count_in (codes "arcs") 2 MOST_ARCS line) (λ n. Ok (before_arcs f n []))
-admit (NextArc f left arcs) line = and_then (arc_in f.version f.ss (free_count arcs) left line) (λ a. Ok (before_arcs f (left - 1) (arcs ++ a ∷ [])))
+admit (NextArc f left arcs) line = and_then (arc_in f.version f.signals (free_count arcs) left line) (λ a. Ok (before_arcs f (left - 1) (arcs ++ a ∷ [])))
 admit (PairCount f arcs) line = and_then (count_in (codes "pairs") 1 MOST_PAIRS line) (λ n. Ok (before_pairs f arcs n 0))
 admit (NextPair f arcs left least) line = and_then (pair_in f.version least line) (λ p. Ok (before_rows f arcs (left - 1) p.number p.count 0))
-admit (NextRow f arcs pairs number left least) line = and_then (row_in f.ss arcs number least line) (λ k. Ok (before_rows f arcs pairs number (left - 1) (k + 1)))
-admit (Tail f arcs) line = admit_tail f (integer_count arcs f.ss) line
+admit (NextRow f arcs pairs number left least) line = and_then (row_in f.signals arcs number least line) (λ k. Ok (before_rows f arcs pairs number (left - 1) (k + 1)))
+admit (Tail f arcs) line = admit_tail f (integer_count arcs f.signals) line
 admit (Second integers) line = and_then (vector_in (codes "z2") integers ENTRIES line) (λ z. Ok Move)
 admit Move line = and_then (vector_in (codes "move") 3 MOVES line) (λ m. Ok Values)
 admit Values line = and_then (values_in line) (λ v. Ok Last)
-admit Last line = and_then (last_in line) (λ f. Ok End)
+admit Last line = and_then (decision_line_in line) (λ f. Ok End)
 admit End line = flawed 1 BadLine
 
 -- the text may end after its tail alone

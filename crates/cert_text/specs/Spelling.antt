@@ -13,7 +13,7 @@ use Rattle.cert_lines.specs.declared.version.Version.{Version}
 use Rattle.cert_lines.specs.declared.version.Version.TheVariants.{One, Two}
 use Rattle.cert_lines.specs.Versions.{form_line}
 use Rattle.cert_words.specs.Spelling.{text_of_lines}
-use Rattle.cert_lines.specs.Lines.{count_line, vector_line, system_line, signals_line, counted_arcs, pair_lines, values_line, weak_line, named_line, last_line}
+use Rattle.cert_lines.specs.Lines.{count_line, vector_line, system_line, signals_line, counted_arcs, pair_lines, values_line, weak_line, named_line, decision_line}
 
 -- the line of the system, of which the first version knew nothing
 abbrev pub system_lines : Version → ℕ → List (List ℕ)
@@ -28,11 +28,11 @@ head_lines version ratio budget system base point signals =
 
 -- each pair with its rows
 abbrev pub all_pair_lines : List ℕ → List PairRows → List (List ℕ)
-all_pair_lines ss [] = []
-all_pair_lines ss (p ∷ pairs) = pair_lines ss p ++ all_pair_lines ss pairs
+all_pair_lines signals [] = []
+all_pair_lines signals (p ∷ pairs) = pair_lines signals p ++ all_pair_lines signals pairs
 
 abbrev pub counted_pairs : List ℕ → List PairRows → List (List ℕ)
-counted_pairs ss pairs = count_line (codes "pairs") (length pairs) ∷ all_pair_lines ss pairs
+counted_pairs signals pairs = count_line (codes "pairs") (length pairs) ∷ all_pair_lines signals pairs
 
 -- the two integer vectors, the move, and the values
 abbrev pub vectors_lines : ℕ → List ℤ → TwoBest → ℤ → List (List ℕ)
@@ -47,8 +47,8 @@ abbrev pub spent_line : ℕ → List ℕ
 spent_line budget = count_line (codes "declined spent") budget
 
 abbrev pub tail_lines : Tail → List (List ℕ)
-tail_lines (Fixed h moved best top) = vectors_lines h moved best top ++ last_line true ∷ []
-tail_lines (Unseparated h moved best top) = vectors_lines h moved best top ++ last_line false ∷ []
+tail_lines (Fixed h moved best top) = vectors_lines h moved best top ++ decision_line true ∷ []
+tail_lines (Unseparated h moved best top) = vectors_lines h moved best top ++ decision_line false ∷ []
 tail_lines (Weak column pivot) = weak_line (codes "declined weak fine") column pivot ∷ []
 tail_lines (Overwidth place) = named_line (codes "declined overwidth fine ") (name_of_place place) ∷ []
 tail_lines (Unsettled entry) = unsettled_line entry ∷ []

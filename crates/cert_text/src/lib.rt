@@ -44,7 +44,7 @@ pub use cert_lines::Version;
 pub use laws::{cert_flaw_law, one_spelling_law};
 pub use line_grammar::Grammar;
 pub use lines::{
-    next_count, next_last, next_letters, next_pair_head, next_system, next_triple, next_values,
+    next_count, next_decision, next_letters, next_pair_head, next_system, next_triple, next_values,
     next_word,
 };
 pub use reader::{read_as, read_cert};

@@ -5,19 +5,19 @@ ghost use Rattle.obs_rows.specs.Ranges.{IsBelow, IsSystem};
 ghost use Rattle.obs_rows.specs.declared.limits.TheConstants.{MOST_PAIRS, MOST_SATELLITES};
 ghost use Rattle.rinex_head.specs.LineRules.{ReadsFree};
 ghost use Rattle.cert_words.specs.Numbers.{IsIn};
-ghost use Rattle.cert_lines.specs.Lines.{count_line, vector_line, system_line, signals_line, pair_line, values_line, last_line};
+ghost use Rattle.cert_lines.specs.Lines.{count_line, vector_line, system_line, signals_line, pair_line, values_line, decision_line};
 ghost use Rattle.cert_lines.specs.Versions.{group_limit};
 ghost use Rattle.cert_lines.specs.declared.pairs.PairHead.{PairHead};
 ghost use Rattle.cert_lines.specs.Forms.{count_in, vector_in, system_in, Letters, letters, signals_in, pair_in};
-ghost use Rattle.cert_lines.specs.TailForms.{values_in, last_in};
+ghost use Rattle.cert_lines.specs.TailForms.{values_in, decision_line_in};
 ghost use Rattle.cert_lines.specs.declared.tails.FormValues.{FormValues};
 ghost use Rattle.cert_lines.specs.declared.version.Version.TheVariants.{One};
 ghost use Rattle.cert_text.specs.LineParts.{word_in, TakesLine};
 
 use crate::Grammar;
 use cert_lines::{
-    FormValues, PairHead, Version, count_in, last_in, pair_in, signals_in, system_in, triple_in,
-    values_in,
+    FormValues, PairHead, Version, count_in, decision_line_in, pair_in, signals_in, system_in,
+    triple_in, values_in,
 };
 use cert_words::{BAD_LINE, Range};
 use line_source::Lines;
@@ -149,13 +149,13 @@ pub fn next_values<G: Grammar>(lines: &mut Lines<'_>) -> Result<FormValues, At>
 }
 
 /// The last line after two vectors: whether the integers are fixed.
-pub fn next_last<G: Grammar>(lines: &mut Lines<'_>) -> Result<bool, At>
-    ensures reads { (s : G.State) (next : Bool → G.State) → TakesLine G.rules s last_in next →
+pub fn next_decision<G: Grammar>(lines: &mut Lines<'_>) -> Result<bool, At>
+    ensures reads { (s : G.State) (next : Bool → G.State) → TakesLine G.rules s decision_line_in next →
         ReadsFree G.rules lines.old lines.new s next result }
-    ensures took { IfOk result (λ fixed. lines.old.left ≡ last_line fixed ∷ lines.new.left) }
+    ensures took { IfOk result (λ fixed. lines.old.left ≡ decision_line fixed ∷ lines.new.left) }
 {
     let line = next_line(lines, What::BadLine)?;
-    match last_in(line.bytes) {
+    match decision_line_in(line.bytes) {
         Ok(fixed) => Ok(fixed),
         Err(flaw) => Err(flaw.at(line.number)),
     }

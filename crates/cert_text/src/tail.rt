@@ -15,7 +15,7 @@ ghost use Rattle.cert_text.specs.Rules.{cert_rules, frame, Tail as TailStart, Se
 
 use crate::grammar::CertText;
 use crate::tail_lines::declined_in;
-use crate::{integers_in, next_integers, next_last, next_triple, next_values};
+use crate::{integers_in, next_decision, next_integers, next_triple, next_values};
 use cert_data::{Tail, TwoBest};
 use cert_lines::{MOVES, Version, begins};
 use line_source::Lines;
@@ -42,7 +42,7 @@ fn read_vectors(
     let second = next_integers::<CertText>(lines, b"z2", count)?;
     let moved = next_triple::<CertText>(lines, b"move", &MOVES)?;
     let values = next_values::<CertText>(lines)?;
-    let fixed = next_last::<CertText>(lines)?;
+    let fixed = next_decision::<CertText>(lines)?;
     let best = TwoBest {
         first,
         second,

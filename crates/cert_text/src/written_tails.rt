@@ -1,13 +1,13 @@
 //! The tail of a certificate, written.
 ghost use Rattle.std.specs.Prelude.{◌≡◌, ◌++◌, ◌∷◌, [], OnOk};
 ghost use Rattle.cert_words.specs.Spelling.{text_of_lines};
-ghost use Rattle.cert_lines.specs.Lines.{last_line};
+ghost use Rattle.cert_lines.specs.Lines.{decision_line};
 ghost use Rattle.cert_text.specs.Lengths.{AreWholeVectors, IsWholeTail};
 ghost use Rattle.cert_text.specs.Spelling.{vectors_lines, unsettled_line, tail_lines};
 
 use cert_data::{Tail, TwoBest, name_of_place};
 use cert_lines::{
-    FormValues, push_count_line, push_last_line, push_named_line, push_values_line,
+    FormValues, push_count_line, push_decision_line, push_named_line, push_values_line,
     push_vector_line, push_weak_line,
 };
 use std::alloc::AllocError;
@@ -22,7 +22,7 @@ fn push_vectors(
     fixed: bool,
 ) -> Result<(), AllocError>
     ensures text { OnOk result (out.new.items ≡ out.old.items
-        ++ text_of_lines (vectors_lines h moved.now best.now top ++ last_line fixed ∷ [])) }
+        ++ text_of_lines (vectors_lines h moved.now best.now top ++ decision_line fixed ∷ [])) }
     ensures whole { OnOk result (AreWholeVectors moved.now best.now) }
 {
     push_vector_line(out, b"z1", &best.first[..best.size])?;
@@ -35,7 +35,7 @@ fn push_vectors(
         top,
     };
     push_values_line(out, values)?;
-    push_last_line(out, fixed)
+    push_decision_line(out, fixed)
 }
 
 fn push_unsettled_line(out: &mut Vec<u8>, entry: i64) -> Result<(), AllocError>

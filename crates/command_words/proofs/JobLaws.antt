@@ -14,7 +14,7 @@ use Rattle.command_words.proofs.SplitLaws.{Adds, AreKnown, passes, Knows, Found,
 use Rattle.command_words.proofs.OtherLaws.{first_of_sim, none_behind}
 use Rattle.command_words.specs.declared.command_name.CommandName.TheVariants as command_name
 use Rattle.command_words.specs.declared.settings.Setting.{Setting}
-use Rattle.command_words.specs.declared.settings.Setting.TheVariants.{Ratio, Budget, Mask, Gap, Jump, Arc, Step, First, Count, Bands, System}
+use Rattle.command_words.specs.declared.settings.Setting.TheVariants.{Ratio, Budget, Bands, System}
 use Rattle.command_words.specs.declared.settings.Given.{Given}
 use Rattle.command_words.specs.declared.jobs.Job.{Job}
 use Rattle.command_words.specs.declared.jobs.Job.TheVariants as job
@@ -160,16 +160,7 @@ plain_in_table name words command plain given found long asked = subst (λ (c : 
 
 among_all : (s : Setting) → is_among (name_of s) (map name_of all_settings) ≡ true
 among_all Ratio = refl
-among_all Budget = refl
-among_all Mask = refl
-among_all Gap = refl
-among_all Jump = refl
-among_all Arc = refl
-among_all Step = refl
-among_all First = refl
-among_all Count = refl
-among_all Bands = refl
-among_all System = refl
+among_all s = refl
 
 any_known : (given : List Given) → AreKnown (map name_of all_settings) given
 any_known [] = tt
@@ -185,15 +176,7 @@ one_known : (s : Setting) (n : ℕ) (given : List Given) → numbers_for Ratio (
     → numbers_for Budget (record { setting = s; number = n } ∷ given) ≡ [] → IsPairs s given
 one_known Ratio n given h also = absurd (cc h)
 one_known Budget n given h also = absurd (cc also)
-one_known Mask n given h also = record { among = refl; no_ratio = h; no_budget = also }
-one_known Gap n given h also = record { among = refl; no_ratio = h; no_budget = also }
-one_known Jump n given h also = record { among = refl; no_ratio = h; no_budget = also }
-one_known Arc n given h also = record { among = refl; no_ratio = h; no_budget = also }
-one_known Step n given h also = record { among = refl; no_ratio = h; no_budget = also }
-one_known First n given h also = record { among = refl; no_ratio = h; no_budget = also }
-one_known Count n given h also = record { among = refl; no_ratio = h; no_budget = also }
-one_known Bands n given h also = record { among = refl; no_ratio = h; no_budget = also }
-one_known System n given h also = record { among = refl; no_ratio = h; no_budget = also }
+one_known s n given h also = record { among = refl; no_ratio = h; no_budget = also }
 
 pairs_known : (given : List Given) → numbers_for Ratio given ≡ [] → numbers_for Budget given ≡ [] → AreKnown (map name_of pair_settings) given
 pairs_known [] h also = tt
@@ -204,15 +187,7 @@ pairs_known (g ∷ given) h also =
 among_signals : (s : Setting) → is_of_sim s ≡ true → is_among (name_of s) (map name_of signal_settings) ≡ true
 among_signals Bands own = refl
 among_signals System own = refl
-among_signals Ratio own = absurd (true≢false (sym own))
-among_signals Budget own = absurd (true≢false (sym own))
-among_signals Mask own = absurd (true≢false (sym own))
-among_signals Gap own = absurd (true≢false (sym own))
-among_signals Jump own = absurd (true≢false (sym own))
-among_signals Arc own = absurd (true≢false (sym own))
-among_signals Step own = absurd (true≢false (sym own))
-among_signals First own = absurd (true≢false (sym own))
-among_signals Count own = absurd (true≢false (sym own))
+among_signals s own = absurd (true≢false (sym own))
 
 signals_known : (given : List Given) → HasNoOthers given → AreKnown (map name_of signal_settings) given
 signals_known [] none = tt

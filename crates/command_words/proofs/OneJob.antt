@@ -12,7 +12,7 @@ use Rattle.command_words.specs.declared.jobs.Job.{Job}
 use Rattle.command_words.specs.declared.jobs.Job.TheVariants as job
 use Rattle.command_words.specs.Numbers.{IsNumber, IsSatellite}
 use Rattle.command_words.specs.Parts.{AreParted}
-use Rattle.command_words.specs.Words.{name_of_command, name_of_part, sim_with, IsPlainJob, IsOrbitJob, IsSim, IsSimJob, IsRunJob, IsArcsJob, IsJobOf, IsJob, IsInRange}
+use Rattle.command_words.specs.Words.{name_of_command, name_of_part, sim_with, IsOrbitJob, IsSim, IsSimJob, IsJobOf, IsJob, IsInRange}
 use Rattle.obs_rows.specs.declared.options.Options.{Options}
 use Rattle.obs_rows.specs.Defaults.{numbers_of}
 use Rattle.obs_rows.proofs.OneOptions.{one_options}
@@ -27,25 +27,18 @@ use Rattle.command_words.proofs.SettingLaws.{one_number, one_system, one_satelli
 use Rattle.command_words.proofs.PartLaws.{one_parting}
 use Rattle.command_words.proofs.CommandLaws.{one_command, it_is}
 
-one_plain : (name : List ℕ) (ws vs : List (List ℕ)) (c : List ℕ) (p : List (List ℕ)) (g : List Given) → IsPlainJob name ws c p g → IsPlainJob name vs c p g → ws ≡ vs
-one_plain name ws vs c p g first second = sym first.plain_are ∙ second.plain_are
-
-one_file : (name a b : List ℕ) (c : List ℕ) (p : List (List ℕ)) (g : List Given) → IsPlainJob name (a ∷ []) c p g → IsPlainJob name (b ∷ []) c p g → a ≡ b
-one_file name a b c p g first second = ap (λ (ws : List (List ℕ)). get_or ws 0 []) (one_plain name (a ∷ []) (b ∷ []) c p g first second)
-
+-- ---- two jobs of one command, by the same words
 one_orbit : (nav nav' : List ℕ) (system system' sat sat' : ℕ) (tick tick' : Tick) (c : List ℕ) (p : List (List ℕ)) (g : List Given)
     → IsOrbitJob nav system sat tick.0 c p g → IsOrbitJob nav' system' sat' tick'.0 c p g
     → job.Orbit nav system sat tick ≡ job.Orbit nav' system' sat' tick'
 one_orbit nav nav' system system' sat sat' tick tick' c p g first second =
-    let words = one_plain (name_of_command command_name.Orbit) _ _ c p g first.asked second.asked in
-    let same_nav : nav ≡ nav' = ap (λ (ws : List (List ℕ)). get_or ws 0 []) words in
-    let same_sat_word : first.sat_word ≡ second.sat_word = ap (λ (ws : List (List ℕ)). get_or ws 1 []) words in
-    let same_tick_word : first.tick_word ≡ second.tick_word = ap (λ (ws : List (List ℕ)). get_or ws 2 []) words in
-    let also : IsSatellite first.sat_word system' sat' = subst (λ (w : List ℕ). IsSatellite w system' sat') (sym same_sat_word) second.satellite in
-    let same_system : system ≡ system' = one_system first.sat_word system system' sat sat' first.satellite also in
-    let same_sat : sat ≡ sat' = one_satellite first.sat_word system system' sat sat' first.satellite also in
-    let same_number : tick.0 ≡ tick'.0 = one_number first.tick_word tick.0 tick'.0 first.number (subst (λ (w : List ℕ). IsNumber w tick'.0) (sym same_tick_word) second.number) in
-    let same_tick : tick ≡ tick' = ap (λ (n : ℕ). let tick : Tick = record { 0 = n } in tick) same_number in
+    let words = sym second.asked.plain_are ∙ first.asked.plain_are in
+    let same_nav : nav' ≡ nav = ap (λ (ws : List (List ℕ)). get_or ws 0 []) words in
+    let satellite : IsSatellite first.sat_word system' sat' = subst (λ (ws : List (List ℕ)). IsSatellite (get_or ws 1 []) system' sat') words second.satellite in
+    let number : IsNumber first.tick_word tick'.0 = subst (λ (ws : List (List ℕ)). IsNumber (get_or ws 2 []) tick'.0) words second.number in
+    let same_system : system ≡ system' = one_system first.sat_word system system' sat sat' first.satellite satellite in
+    let same_sat : sat ≡ sat' = one_satellite first.sat_word system system' sat sat' first.satellite satellite in
+    let same_tick : tick ≡ tick' = ap (λ (n : ℕ). let tick : Tick = record { 0 = n } in tick) (one_number first.tick_word tick.0 tick'.0 first.number number) in
     cc (same_nav, same_system, same_sat, same_tick)
 
 -- the parts of a session have four names, of which two begin with one letter
@@ -70,18 +63,21 @@ one_signals given k l b c first second =
     subst (λ (n : ℕ). IsChosenBy (numbers_for Bands given) (AreBandsOf n) (default_bands n) c) (sym system) second.bands_are in
     (system, one_choice (numbers_for Bands given) (AreBandsOf k) (default_bands k) b c first.bands_are also)
 
+-- what four words ask for, the same four ask for
+at_words : (part seed epochs sats part' seed' epochs' sats' : List ℕ) (s : Sim) → part ∷ seed ∷ epochs ∷ sats ∷ [] ≡ part' ∷ seed' ∷ epochs' ∷ sats' ∷ []
+    → IsSim part seed epochs sats s → IsSim part' seed' epochs' sats' s
+at_words part seed epochs sats part' seed' epochs' sats' s same is =
+    subst (λ (ws : List (List ℕ)). IsSim (get_or ws 0 []) (get_or ws 1 []) (get_or ws 2 []) (get_or ws 3 []) s) same is
+
 one_sim : (s r : Sim) (c : List ℕ) (p : List (List ℕ)) (g : List Given) → IsSimJob s c p g → IsSimJob r c p g
     → job.Sim s.part s.seed s.epochs s.sats s.bands s.system ≡ job.Sim r.part r.seed r.epochs r.sats r.bands r.system
 one_sim s r c p g first second =
-    let words = sym first.plain_are ∙ second.plain_are in
-    let part_word : first.part_word ≡ second.part_word = ap (λ (ws : List (List ℕ)). get_or ws 0 []) words in
-    let seed_word : first.seed_word ≡ second.seed_word = ap (λ (ws : List (List ℕ)). get_or ws 1 []) words in
-    let epochs_word : first.epochs_word ≡ second.epochs_word = ap (λ (ws : List (List ℕ)). get_or ws 2 []) words in
-    let sats_word : first.sats_word ≡ second.sats_word = ap (λ (ws : List (List ℕ)). get_or ws 3 []) words in
-    let same_part : s.part ≡ r.part = one_part s.part r.part (sym first.is.part ∙ part_word ∙ second.is.part) in
-    let seed : s.seed ≡ r.seed = one_number first.seed_word s.seed r.seed first.is.seed.number (subst (λ (w : List ℕ). IsNumber w r.seed) (sym seed_word) second.is.seed.number) in
-    let epochs : s.epochs ≡ r.epochs = one_number first.epochs_word s.epochs r.epochs first.is.epochs.number (subst (λ (w : List ℕ). IsNumber w r.epochs) (sym epochs_word) second.is.epochs.number) in
-    let sats : s.sats ≡ r.sats = one_number first.sats_word s.sats r.sats first.is.sats.number (subst (λ (w : List ℕ). IsNumber w r.sats) (sym sats_word) second.is.sats.number) in
+    let also = at_words second.part_word second.seed_word second.epochs_word second.sats_word first.part_word first.seed_word first.epochs_word first.sats_word r
+    (sym second.plain_are ∙ first.plain_are) second.is in
+    let same_part : s.part ≡ r.part = one_part s.part r.part (sym first.is.part ∙ also.part) in
+    let seed : s.seed ≡ r.seed = one_number first.seed_word s.seed r.seed first.is.seed.number also.seed.number in
+    let epochs : s.epochs ≡ r.epochs = one_number first.epochs_word s.epochs r.epochs first.is.epochs.number also.epochs.number in
+    let sats : s.sats ≡ r.sats = one_number first.sats_word s.sats r.sats first.is.sats.number also.sats.number in
     let signals = one_signals g s.system r.system s.bands r.bands first.choice.choice second.choice.choice in
     cc (same_part, seed, epochs, sats, signals.0, signals.1)
 
@@ -103,199 +99,30 @@ one_of_options given o p first second =
     let same : numbers_of o ≡ numbers_of p = cc (ratio, budget, mask, gap, jump, arc, step, first_pair, count, signals.0, signals.1) in
     one_options o p same
 
-one_arcs : (base rover nav base' rover' nav' : List ℕ) (o p : Options) (c : List ℕ) (w : List (List ℕ)) (g : List Given)
-    → IsArcsJob base rover nav o c w g → IsArcsJob base' rover' nav' p c w g → job.Arcs base rover nav o ≡ job.Arcs base' rover' nav' p
-one_arcs base rover nav base' rover' nav' o p c w g first second =
-    let words = sym first.plain_are ∙ second.plain_are in
-    let same_base : base ≡ base' = ap (λ (ws : List (List ℕ)). get_or ws 0 []) words in
-    let same_rover : rover ≡ rover' = ap (λ (ws : List (List ℕ)). get_or ws 1 []) words in
-    let same_nav : nav ≡ nav' = ap (λ (ws : List (List ℕ)). get_or ws 2 []) words in
-    let same : o ≡ p = one_of_options g o p first.options.options second.options.options in
-    cc (same_base, same_rover, same_nav, same)
-
--- the words of a command with three files and any options
-pub record IsSameRun (base rover nav base' rover' nav' : List ℕ) (o p : Options) : Type 0 where
-  pub same_base : base ≡ base'
-  pub same_rover : rover ≡ rover'
-  pub same_nav : nav ≡ nav'
-  pub same : o ≡ p
-
-one_run : (name base rover nav base' rover' nav' : List ℕ) (o p : Options) (c : List ℕ) (w : List (List ℕ)) (g : List Given)
-    → IsRunJob name base rover nav o c w g → IsRunJob name base' rover' nav' p c w g
-    → IsSameRun base rover nav base' rover' nav' o p
-one_run name base rover nav base' rover' nav' o p c w g first second =
-    let words = sym first.plain_are ∙ second.plain_are in
-    record {
-      same_base = ap (λ (ws : List (List ℕ)). get_or ws 0 []) words;
-      same_rover = ap (λ (ws : List (List ℕ)). get_or ws 1 []) words;
-      same_nav = ap (λ (ws : List (List ℕ)). get_or ws 2 []) words;
-      same = one_of_options g o p first.options second.options;
-    }
-
-one_fix : (base rover nav base' rover' nav' : List ℕ) (o p : Options) → IsSameRun base rover nav base' rover' nav' o p → job.Fix base rover nav o ≡ job.Fix base' rover' nav' p
-one_fix base rover nav base' rover' nav' o p run = cc (run.same_base, run.same_rover, run.same_nav, run.same)
-
-one_track : (base rover nav base' rover' nav' : List ℕ) (o p : Options) → IsSameRun base rover nav base' rover' nav' o p → job.Track base rover nav o ≡ job.Track base' rover' nav' p
-one_track base rover nav base' rover' nav' o p run = cc (run.same_base, run.same_rover, run.same_nav, run.same)
+-- jobs of a command with three files
+one_session : (make : List ℕ → List ℕ → List ℕ → Options → Job) (base rover nav base' rover' nav' : List ℕ) (o p : Options) (w : List (List ℕ)) (g : List Given)
+    → w ≡ base ∷ rover ∷ nav ∷ [] → w ≡ base' ∷ rover' ∷ nav' ∷ [] → AreOptions g o → AreOptions g p → make base rover nav o ≡ make base' rover' nav' p
+one_session make base rover nav base' rover' nav' o p w g first second of_first of_second =
+    let same : o ≡ p = one_of_options g o p of_first of_second in
+    cc (first, second, same)
 
 one_of : (c : List ℕ) (p : List (List ℕ)) (g : List Given) (a b : Job) → IsJobOf c p g a → IsJobOf c p g b → a ≡ b
-one_of c p g (job.Zero rows) (job.Zero rows') first second = ap (λ (r : List ℕ). job.Zero r) (one_file (name_of_command command_name.Zero) rows rows' c p g first second)
-one_of c p g (job.List obs) (job.List obs') first second = ap (λ (r : List ℕ). job.List r) (one_file (name_of_command command_name.List) obs obs' c p g first second)
+one_of c p g (job.Zero rows) (job.Zero rows') first second = cc (first.plain_are, second.plain_are)
+one_of c p g (job.List obs) (job.List obs') first second = cc (first.plain_are, second.plain_are)
+one_of c p g (job.Check cert) (job.Check cert') first second = cc (first.plain_are, second.plain_are)
+one_of c p g (job.Residuals cert) (job.Residuals cert') first second = cc (first.plain_are, second.plain_are)
+one_of c p g (job.Migrate cert) (job.Migrate cert') first second = cc (first.plain_are, second.plain_are)
+one_of c p g (job.CheckTrack cert) (job.CheckTrack cert') first second = cc (first.plain_are, second.plain_are)
+one_of c p g (job.Fix base rover nav o) (job.Fix base' rover' nav' o') first second =
+    one_session (λ b r n o. job.Fix b r n o) base rover nav base' rover' nav' o o' p g first.plain_are second.plain_are first.options second.options
+one_of c p g (job.Track base rover nav o) (job.Track base' rover' nav' o') first second =
+    one_session (λ b r n o. job.Track b r n o) base rover nav base' rover' nav' o o' p g first.plain_are second.plain_are first.options second.options
+one_of c p g (job.Arcs base rover nav o) (job.Arcs base' rover' nav' o') first second =
+    one_session (λ b r n o. job.Arcs b r n o) base rover nav base' rover' nav' o o' p g first.plain_are second.plain_are first.options.options second.options.options
 one_of c p g (job.Orbit nav system sat tick) (job.Orbit nav' system' sat' tick') first second = one_orbit nav nav' system system' sat sat' tick tick' c p g first second
-one_of c p g (job.Check cert) (job.Check cert') first second = ap (λ (r : List ℕ). job.Check r) (one_file (name_of_command command_name.Check) cert cert' c p g first second)
-one_of c p g (job.Residuals cert) (job.Residuals cert') first second = ap (λ (r : List ℕ). job.Residuals r) (one_file (name_of_command command_name.Residuals) cert cert' c p g first second)
-one_of c p g (job.Migrate cert) (job.Migrate cert') first second = ap (λ (r : List ℕ). job.Migrate r) (one_file (name_of_command command_name.Migrate) cert cert' c p g first second)
-one_of c p g (job.Fix base rover nav options) (job.Fix base' rover' nav' options') first second =
-    one_fix base rover nav base' rover' nav' options options' (one_run (name_of_command command_name.Fix) base rover nav base' rover' nav' options options' c p g first second)
-one_of c p g (job.Arcs base rover nav options) (job.Arcs base' rover' nav' options') first second = one_arcs base rover nav base' rover' nav' options options' c p g first second
 one_of c p g (job.Sim part seed epochs sats bands system) (job.Sim part' seed' epochs' sats' bands' system') first second =
     one_sim (sim_with part seed epochs sats bands system) (sim_with part' seed' epochs' sats' bands' system') c p g first second
-one_of c p g (job.Track base rover nav options) (job.Track base' rover' nav' options') first second =
-    one_track base rover nav base' rover' nav' options options' (one_run (name_of_command command_name.Track) base rover nav base' rover' nav' options options' c p g first second)
-one_of c p g (job.CheckTrack cert) (job.CheckTrack cert') first second = ap (λ (r : List ℕ). job.CheckTrack r) (one_file (name_of_command command_name.CheckTrack) cert cert' c p g first second)
-one_of c p g (job.Zero rows) (job.List obs') first second = absurd (cc (one_command c p g (job.Zero rows) (job.List obs') first second))
-one_of c p g (job.Zero rows) (job.Orbit nav' system' sat' tick') first second = absurd (cc (one_command c p g (job.Zero rows) (job.Orbit nav' system' sat' tick') first second))
-one_of c p g (job.Zero rows) (job.Check cert') first second = absurd (cc (one_command c p g (job.Zero rows) (job.Check cert') first second))
-one_of c p g (job.Zero rows) (job.Residuals cert') first second = absurd (cc (one_command c p g (job.Zero rows) (job.Residuals cert') first second))
-one_of c p g (job.Zero rows) (job.Migrate cert') first second = absurd (cc (one_command c p g (job.Zero rows) (job.Migrate cert') first second))
-one_of c p g (job.Zero rows) (job.Fix base' rover' nav' options') first second = absurd (cc (one_command c p g (job.Zero rows) (job.Fix base' rover' nav' options') first second))
-one_of c p g (job.Zero rows) (job.Arcs base' rover' nav' options') first second = absurd (cc (one_command c p g (job.Zero rows) (job.Arcs base' rover' nav' options') first second))
-one_of c p g (job.Zero rows) (job.Sim part' seed' epochs' sats' bands' system') first second =
-    absurd (cc (one_command c p g (job.Zero rows) (job.Sim part' seed' epochs' sats' bands' system') first second))
-one_of c p g (job.Zero rows) (job.Track base' rover' nav' options') first second = absurd (cc (one_command c p g (job.Zero rows) (job.Track base' rover' nav' options') first second))
-one_of c p g (job.Zero rows) (job.CheckTrack cert') first second = absurd (cc (one_command c p g (job.Zero rows) (job.CheckTrack cert') first second))
-one_of c p g (job.List obs) (job.Zero rows') first second = absurd (cc (one_command c p g (job.List obs) (job.Zero rows') first second))
-one_of c p g (job.List obs) (job.Orbit nav' system' sat' tick') first second = absurd (cc (one_command c p g (job.List obs) (job.Orbit nav' system' sat' tick') first second))
-one_of c p g (job.List obs) (job.Check cert') first second = absurd (cc (one_command c p g (job.List obs) (job.Check cert') first second))
-one_of c p g (job.List obs) (job.Residuals cert') first second = absurd (cc (one_command c p g (job.List obs) (job.Residuals cert') first second))
-one_of c p g (job.List obs) (job.Migrate cert') first second = absurd (cc (one_command c p g (job.List obs) (job.Migrate cert') first second))
-one_of c p g (job.List obs) (job.Fix base' rover' nav' options') first second = absurd (cc (one_command c p g (job.List obs) (job.Fix base' rover' nav' options') first second))
-one_of c p g (job.List obs) (job.Arcs base' rover' nav' options') first second = absurd (cc (one_command c p g (job.List obs) (job.Arcs base' rover' nav' options') first second))
-one_of c p g (job.List obs) (job.Sim part' seed' epochs' sats' bands' system') first second =
-    absurd (cc (one_command c p g (job.List obs) (job.Sim part' seed' epochs' sats' bands' system') first second))
-one_of c p g (job.List obs) (job.Track base' rover' nav' options') first second = absurd (cc (one_command c p g (job.List obs) (job.Track base' rover' nav' options') first second))
-one_of c p g (job.List obs) (job.CheckTrack cert') first second = absurd (cc (one_command c p g (job.List obs) (job.CheckTrack cert') first second))
-one_of c p g (job.Orbit nav system sat tick) (job.Zero rows') first second = absurd (cc (one_command c p g (job.Orbit nav system sat tick) (job.Zero rows') first second))
-one_of c p g (job.Orbit nav system sat tick) (job.List obs') first second = absurd (cc (one_command c p g (job.Orbit nav system sat tick) (job.List obs') first second))
-one_of c p g (job.Orbit nav system sat tick) (job.Check cert') first second = absurd (cc (one_command c p g (job.Orbit nav system sat tick) (job.Check cert') first second))
-one_of c p g (job.Orbit nav system sat tick) (job.Residuals cert') first second = absurd (cc (one_command c p g (job.Orbit nav system sat tick) (job.Residuals cert') first second))
-one_of c p g (job.Orbit nav system sat tick) (job.Migrate cert') first second = absurd (cc (one_command c p g (job.Orbit nav system sat tick) (job.Migrate cert') first second))
-one_of c p g (job.Orbit nav system sat tick) (job.Fix base' rover' nav' options') first second =
-    absurd (cc (one_command c p g (job.Orbit nav system sat tick) (job.Fix base' rover' nav' options') first second))
-one_of c p g (job.Orbit nav system sat tick) (job.Arcs base' rover' nav' options') first second =
-    absurd (cc (one_command c p g (job.Orbit nav system sat tick) (job.Arcs base' rover' nav' options') first second))
-one_of c p g (job.Orbit nav system sat tick) (job.Sim part' seed' epochs' sats' bands' system') first second =
-    absurd (cc (one_command c p g (job.Orbit nav system sat tick) (job.Sim part' seed' epochs' sats' bands' system') first second))
-one_of c p g (job.Orbit nav system sat tick) (job.Track base' rover' nav' options') first second =
-    absurd (cc (one_command c p g (job.Orbit nav system sat tick) (job.Track base' rover' nav' options') first second))
-one_of c p g (job.Orbit nav system sat tick) (job.CheckTrack cert') first second = absurd (cc (one_command c p g (job.Orbit nav system sat tick) (job.CheckTrack cert') first second))
-one_of c p g (job.Check cert) (job.Zero rows') first second = absurd (cc (one_command c p g (job.Check cert) (job.Zero rows') first second))
-one_of c p g (job.Check cert) (job.List obs') first second = absurd (cc (one_command c p g (job.Check cert) (job.List obs') first second))
-one_of c p g (job.Check cert) (job.Orbit nav' system' sat' tick') first second = absurd (cc (one_command c p g (job.Check cert) (job.Orbit nav' system' sat' tick') first second))
-one_of c p g (job.Check cert) (job.Residuals cert') first second = absurd (cc (one_command c p g (job.Check cert) (job.Residuals cert') first second))
-one_of c p g (job.Check cert) (job.Migrate cert') first second = absurd (cc (one_command c p g (job.Check cert) (job.Migrate cert') first second))
-one_of c p g (job.Check cert) (job.Fix base' rover' nav' options') first second = absurd (cc (one_command c p g (job.Check cert) (job.Fix base' rover' nav' options') first second))
-one_of c p g (job.Check cert) (job.Arcs base' rover' nav' options') first second = absurd (cc (one_command c p g (job.Check cert) (job.Arcs base' rover' nav' options') first second))
-one_of c p g (job.Check cert) (job.Sim part' seed' epochs' sats' bands' system') first second =
-    absurd (cc (one_command c p g (job.Check cert) (job.Sim part' seed' epochs' sats' bands' system') first second))
-one_of c p g (job.Check cert) (job.Track base' rover' nav' options') first second = absurd (cc (one_command c p g (job.Check cert) (job.Track base' rover' nav' options') first second))
-one_of c p g (job.Check cert) (job.CheckTrack cert') first second = absurd (cc (one_command c p g (job.Check cert) (job.CheckTrack cert') first second))
-one_of c p g (job.Residuals cert) (job.Zero rows') first second = absurd (cc (one_command c p g (job.Residuals cert) (job.Zero rows') first second))
-one_of c p g (job.Residuals cert) (job.List obs') first second = absurd (cc (one_command c p g (job.Residuals cert) (job.List obs') first second))
-one_of c p g (job.Residuals cert) (job.Orbit nav' system' sat' tick') first second = absurd (cc (one_command c p g (job.Residuals cert) (job.Orbit nav' system' sat' tick') first second))
-one_of c p g (job.Residuals cert) (job.Check cert') first second = absurd (cc (one_command c p g (job.Residuals cert) (job.Check cert') first second))
-one_of c p g (job.Residuals cert) (job.Migrate cert') first second = absurd (cc (one_command c p g (job.Residuals cert) (job.Migrate cert') first second))
-one_of c p g (job.Residuals cert) (job.Fix base' rover' nav' options') first second = absurd (cc (one_command c p g (job.Residuals cert) (job.Fix base' rover' nav' options') first second))
-one_of c p g (job.Residuals cert) (job.Arcs base' rover' nav' options') first second = absurd (cc (one_command c p g (job.Residuals cert) (job.Arcs base' rover' nav' options') first second))
-one_of c p g (job.Residuals cert) (job.Sim part' seed' epochs' sats' bands' system') first second =
-    absurd (cc (one_command c p g (job.Residuals cert) (job.Sim part' seed' epochs' sats' bands' system') first second))
-one_of c p g (job.Residuals cert) (job.Track base' rover' nav' options') first second = absurd (cc (one_command c p g (job.Residuals cert) (job.Track base' rover' nav' options') first second))
-one_of c p g (job.Residuals cert) (job.CheckTrack cert') first second = absurd (cc (one_command c p g (job.Residuals cert) (job.CheckTrack cert') first second))
-one_of c p g (job.Migrate cert) (job.Zero rows') first second = absurd (cc (one_command c p g (job.Migrate cert) (job.Zero rows') first second))
-one_of c p g (job.Migrate cert) (job.List obs') first second = absurd (cc (one_command c p g (job.Migrate cert) (job.List obs') first second))
-one_of c p g (job.Migrate cert) (job.Orbit nav' system' sat' tick') first second = absurd (cc (one_command c p g (job.Migrate cert) (job.Orbit nav' system' sat' tick') first second))
-one_of c p g (job.Migrate cert) (job.Check cert') first second = absurd (cc (one_command c p g (job.Migrate cert) (job.Check cert') first second))
-one_of c p g (job.Migrate cert) (job.Residuals cert') first second = absurd (cc (one_command c p g (job.Migrate cert) (job.Residuals cert') first second))
-one_of c p g (job.Migrate cert) (job.Fix base' rover' nav' options') first second = absurd (cc (one_command c p g (job.Migrate cert) (job.Fix base' rover' nav' options') first second))
-one_of c p g (job.Migrate cert) (job.Arcs base' rover' nav' options') first second = absurd (cc (one_command c p g (job.Migrate cert) (job.Arcs base' rover' nav' options') first second))
-one_of c p g (job.Migrate cert) (job.Sim part' seed' epochs' sats' bands' system') first second =
-    absurd (cc (one_command c p g (job.Migrate cert) (job.Sim part' seed' epochs' sats' bands' system') first second))
-one_of c p g (job.Migrate cert) (job.Track base' rover' nav' options') first second = absurd (cc (one_command c p g (job.Migrate cert) (job.Track base' rover' nav' options') first second))
-one_of c p g (job.Migrate cert) (job.CheckTrack cert') first second = absurd (cc (one_command c p g (job.Migrate cert) (job.CheckTrack cert') first second))
-one_of c p g (job.Fix base rover nav options) (job.Zero rows') first second = absurd (cc (one_command c p g (job.Fix base rover nav options) (job.Zero rows') first second))
-one_of c p g (job.Fix base rover nav options) (job.List obs') first second = absurd (cc (one_command c p g (job.Fix base rover nav options) (job.List obs') first second))
-one_of c p g (job.Fix base rover nav options) (job.Orbit nav' system' sat' tick') first second =
-    absurd (cc (one_command c p g (job.Fix base rover nav options) (job.Orbit nav' system' sat' tick') first second))
-one_of c p g (job.Fix base rover nav options) (job.Check cert') first second = absurd (cc (one_command c p g (job.Fix base rover nav options) (job.Check cert') first second))
-one_of c p g (job.Fix base rover nav options) (job.Residuals cert') first second = absurd (cc (one_command c p g (job.Fix base rover nav options) (job.Residuals cert') first second))
-one_of c p g (job.Fix base rover nav options) (job.Migrate cert') first second = absurd (cc (one_command c p g (job.Fix base rover nav options) (job.Migrate cert') first second))
-one_of c p g (job.Fix base rover nav options) (job.Arcs base' rover' nav' options') first second =
-    absurd (cc (one_command c p g (job.Fix base rover nav options) (job.Arcs base' rover' nav' options') first second))
-one_of c p g (job.Fix base rover nav options) (job.Sim part' seed' epochs' sats' bands' system') first second =
-    absurd (cc (one_command c p g (job.Fix base rover nav options) (job.Sim part' seed' epochs' sats' bands' system') first second))
-one_of c p g (job.Fix base rover nav options) (job.Track base' rover' nav' options') first second =
-    absurd (cc (one_command c p g (job.Fix base rover nav options) (job.Track base' rover' nav' options') first second))
-one_of c p g (job.Fix base rover nav options) (job.CheckTrack cert') first second = absurd (cc (one_command c p g (job.Fix base rover nav options) (job.CheckTrack cert') first second))
-one_of c p g (job.Arcs base rover nav options) (job.Zero rows') first second = absurd (cc (one_command c p g (job.Arcs base rover nav options) (job.Zero rows') first second))
-one_of c p g (job.Arcs base rover nav options) (job.List obs') first second = absurd (cc (one_command c p g (job.Arcs base rover nav options) (job.List obs') first second))
-one_of c p g (job.Arcs base rover nav options) (job.Orbit nav' system' sat' tick') first second =
-    absurd (cc (one_command c p g (job.Arcs base rover nav options) (job.Orbit nav' system' sat' tick') first second))
-one_of c p g (job.Arcs base rover nav options) (job.Check cert') first second = absurd (cc (one_command c p g (job.Arcs base rover nav options) (job.Check cert') first second))
-one_of c p g (job.Arcs base rover nav options) (job.Residuals cert') first second = absurd (cc (one_command c p g (job.Arcs base rover nav options) (job.Residuals cert') first second))
-one_of c p g (job.Arcs base rover nav options) (job.Migrate cert') first second = absurd (cc (one_command c p g (job.Arcs base rover nav options) (job.Migrate cert') first second))
-one_of c p g (job.Arcs base rover nav options) (job.Fix base' rover' nav' options') first second =
-    absurd (cc (one_command c p g (job.Arcs base rover nav options) (job.Fix base' rover' nav' options') first second))
-one_of c p g (job.Arcs base rover nav options) (job.Sim part' seed' epochs' sats' bands' system') first second =
-    absurd (cc (one_command c p g (job.Arcs base rover nav options) (job.Sim part' seed' epochs' sats' bands' system') first second))
-one_of c p g (job.Arcs base rover nav options) (job.Track base' rover' nav' options') first second =
-    absurd (cc (one_command c p g (job.Arcs base rover nav options) (job.Track base' rover' nav' options') first second))
-one_of c p g (job.Arcs base rover nav options) (job.CheckTrack cert') first second = absurd (cc (one_command c p g (job.Arcs base rover nav options) (job.CheckTrack cert') first second))
-one_of c p g (job.Sim part seed epochs sats bands system) (job.Zero rows') first second =
-    absurd (cc (one_command c p g (job.Sim part seed epochs sats bands system) (job.Zero rows') first second))
-one_of c p g (job.Sim part seed epochs sats bands system) (job.List obs') first second =
-    absurd (cc (one_command c p g (job.Sim part seed epochs sats bands system) (job.List obs') first second))
-one_of c p g (job.Sim part seed epochs sats bands system) (job.Orbit nav' system' sat' tick') first second =
-    absurd (cc (one_command c p g (job.Sim part seed epochs sats bands system) (job.Orbit nav' system' sat' tick') first second))
-one_of c p g (job.Sim part seed epochs sats bands system) (job.Check cert') first second =
-    absurd (cc (one_command c p g (job.Sim part seed epochs sats bands system) (job.Check cert') first second))
-one_of c p g (job.Sim part seed epochs sats bands system) (job.Residuals cert') first second =
-    absurd (cc (one_command c p g (job.Sim part seed epochs sats bands system) (job.Residuals cert') first second))
-one_of c p g (job.Sim part seed epochs sats bands system) (job.Migrate cert') first second =
-    absurd (cc (one_command c p g (job.Sim part seed epochs sats bands system) (job.Migrate cert') first second))
-one_of c p g (job.Sim part seed epochs sats bands system) (job.Fix base' rover' nav' options') first second =
-    absurd (cc (one_command c p g (job.Sim part seed epochs sats bands system) (job.Fix base' rover' nav' options') first second))
-one_of c p g (job.Sim part seed epochs sats bands system) (job.Arcs base' rover' nav' options') first second =
-    absurd (cc (one_command c p g (job.Sim part seed epochs sats bands system) (job.Arcs base' rover' nav' options') first second))
-one_of c p g (job.Sim part seed epochs sats bands system) (job.Track base' rover' nav' options') first second =
-    absurd (cc (one_command c p g (job.Sim part seed epochs sats bands system) (job.Track base' rover' nav' options') first second))
-one_of c p g (job.Sim part seed epochs sats bands system) (job.CheckTrack cert') first second =
-    absurd (cc (one_command c p g (job.Sim part seed epochs sats bands system) (job.CheckTrack cert') first second))
-one_of c p g (job.Track base rover nav options) (job.Zero rows') first second = absurd (cc (one_command c p g (job.Track base rover nav options) (job.Zero rows') first second))
-one_of c p g (job.Track base rover nav options) (job.List obs') first second = absurd (cc (one_command c p g (job.Track base rover nav options) (job.List obs') first second))
-one_of c p g (job.Track base rover nav options) (job.Orbit nav' system' sat' tick') first second =
-    absurd (cc (one_command c p g (job.Track base rover nav options) (job.Orbit nav' system' sat' tick') first second))
-one_of c p g (job.Track base rover nav options) (job.Check cert') first second = absurd (cc (one_command c p g (job.Track base rover nav options) (job.Check cert') first second))
-one_of c p g (job.Track base rover nav options) (job.Residuals cert') first second = absurd (cc (one_command c p g (job.Track base rover nav options) (job.Residuals cert') first second))
-one_of c p g (job.Track base rover nav options) (job.Migrate cert') first second = absurd (cc (one_command c p g (job.Track base rover nav options) (job.Migrate cert') first second))
-one_of c p g (job.Track base rover nav options) (job.Fix base' rover' nav' options') first second =
-    absurd (cc (one_command c p g (job.Track base rover nav options) (job.Fix base' rover' nav' options') first second))
-one_of c p g (job.Track base rover nav options) (job.Arcs base' rover' nav' options') first second =
-    absurd (cc (one_command c p g (job.Track base rover nav options) (job.Arcs base' rover' nav' options') first second))
-one_of c p g (job.Track base rover nav options) (job.Sim part' seed' epochs' sats' bands' system') first second =
-    absurd (cc (one_command c p g (job.Track base rover nav options) (job.Sim part' seed' epochs' sats' bands' system') first second))
-one_of c p g (job.Track base rover nav options) (job.CheckTrack cert') first second = absurd (cc (one_command c p g (job.Track base rover nav options) (job.CheckTrack cert') first second))
-one_of c p g (job.CheckTrack cert) (job.Zero rows') first second = absurd (cc (one_command c p g (job.CheckTrack cert) (job.Zero rows') first second))
-one_of c p g (job.CheckTrack cert) (job.List obs') first second = absurd (cc (one_command c p g (job.CheckTrack cert) (job.List obs') first second))
-one_of c p g (job.CheckTrack cert) (job.Orbit nav' system' sat' tick') first second = absurd (cc (one_command c p g (job.CheckTrack cert) (job.Orbit nav' system' sat' tick') first second))
-one_of c p g (job.CheckTrack cert) (job.Check cert') first second = absurd (cc (one_command c p g (job.CheckTrack cert) (job.Check cert') first second))
-one_of c p g (job.CheckTrack cert) (job.Residuals cert') first second = absurd (cc (one_command c p g (job.CheckTrack cert) (job.Residuals cert') first second))
-one_of c p g (job.CheckTrack cert) (job.Migrate cert') first second = absurd (cc (one_command c p g (job.CheckTrack cert) (job.Migrate cert') first second))
-one_of c p g (job.CheckTrack cert) (job.Fix base' rover' nav' options') first second = absurd (cc (one_command c p g (job.CheckTrack cert) (job.Fix base' rover' nav' options') first second))
-one_of c p g (job.CheckTrack cert) (job.Arcs base' rover' nav' options') first second = absurd (cc (one_command c p g (job.CheckTrack cert) (job.Arcs base' rover' nav' options') first second))
-one_of c p g (job.CheckTrack cert) (job.Sim part' seed' epochs' sats' bands' system') first second =
-    absurd (cc (one_command c p g (job.CheckTrack cert) (job.Sim part' seed' epochs' sats' bands' system') first second))
-one_of c p g (job.CheckTrack cert) (job.Track base' rover' nav' options') first second =
-    absurd (cc (one_command c p g (job.CheckTrack cert) (job.Track base' rover' nav' options') first second))
+one_of c p g a b first second = absurd (cc (one_command c p g a b first second))
 
 -- the words have one command, and one list of words after it
 pub same_behind : (words : List (List ℕ)) (a b : Job) (first : IsJob words a) (second : IsJob words b) → second.behind ≡ first.behind
@@ -319,47 +146,20 @@ pub no_satellite : (plain : List (List ℕ)) (given : List Given) (sat : List �
 no_satellite plain given sat place none (job.Orbit nav system number tick) asked =
     let same : sat ≡ asked.sat_word = subst (λ (ws : List (List ℕ)). sat ≡ get_or ws 1 sat) asked.asked.plain_are place in
     none system number (subst (λ (w : List ℕ). IsSatellite w system number) (sym same) asked.satellite)
-no_satellite plain given sat place none (job.Zero rows) asked = absurd (cc (it_is command_name.Orbit plain given (job.Zero rows) asked))
-no_satellite plain given sat place none (job.List obs) asked = absurd (cc (it_is command_name.Orbit plain given (job.List obs) asked))
-no_satellite plain given sat place none (job.Check cert) asked = absurd (cc (it_is command_name.Orbit plain given (job.Check cert) asked))
-no_satellite plain given sat place none (job.Residuals cert) asked = absurd (cc (it_is command_name.Orbit plain given (job.Residuals cert) asked))
-no_satellite plain given sat place none (job.Migrate cert) asked = absurd (cc (it_is command_name.Orbit plain given (job.Migrate cert) asked))
-no_satellite plain given sat place none (job.Fix base rover nav options) asked = absurd (cc (it_is command_name.Orbit plain given (job.Fix base rover nav options) asked))
-no_satellite plain given sat place none (job.Arcs base rover nav options) asked = absurd (cc (it_is command_name.Orbit plain given (job.Arcs base rover nav options) asked))
-no_satellite plain given sat place none (job.Track base rover nav options) asked = absurd (cc (it_is command_name.Orbit plain given (job.Track base rover nav options) asked))
-no_satellite plain given sat place none (job.CheckTrack cert) asked = absurd (cc (it_is command_name.Orbit plain given (job.CheckTrack cert) asked))
-no_satellite plain given sat place none (job.Sim part seed epochs sats bands system) asked = absurd (cc (it_is command_name.Orbit plain given (job.Sim part seed epochs sats bands system) asked))
+no_satellite plain given sat place none other asked = absurd (cc (it_is command_name.Orbit plain given other asked))
 
 -- a job of `sim` is that of a simulated session
-pub sim_asked : (plain : List (List ℕ)) (given : List Given) (job : Job) → IsJobOf (name_of_command command_name.Sim) plain given job → (s : Sim) × IsSimJob s (name_of_command command_name.Sim) plain given
+sim_asked : (plain : List (List ℕ)) (given : List Given) (job : Job) → IsJobOf (name_of_command command_name.Sim) plain given job → (s : Sim) × IsSimJob s (name_of_command command_name.Sim) plain given
 sim_asked plain given (job.Sim part seed epochs sats bands system) asked = (sim_with part seed epochs sats bands system, asked)
-sim_asked plain given (job.Zero rows) asked = absurd (cc (it_is command_name.Sim plain given (job.Zero rows) asked))
-sim_asked plain given (job.List obs) asked = absurd (cc (it_is command_name.Sim plain given (job.List obs) asked))
-sim_asked plain given (job.Orbit nav system sat tick) asked = absurd (cc (it_is command_name.Sim plain given (job.Orbit nav system sat tick) asked))
-sim_asked plain given (job.Check cert) asked = absurd (cc (it_is command_name.Sim plain given (job.Check cert) asked))
-sim_asked plain given (job.Residuals cert) asked = absurd (cc (it_is command_name.Sim plain given (job.Residuals cert) asked))
-sim_asked plain given (job.Migrate cert) asked = absurd (cc (it_is command_name.Sim plain given (job.Migrate cert) asked))
-sim_asked plain given (job.Fix base rover nav options) asked = absurd (cc (it_is command_name.Sim plain given (job.Fix base rover nav options) asked))
-sim_asked plain given (job.Arcs base rover nav options) asked = absurd (cc (it_is command_name.Sim plain given (job.Arcs base rover nav options) asked))
-sim_asked plain given (job.Track base rover nav options) asked = absurd (cc (it_is command_name.Sim plain given (job.Track base rover nav options) asked))
-sim_asked plain given (job.CheckTrack cert) asked = absurd (cc (it_is command_name.Sim plain given (job.CheckTrack cert) asked))
+sim_asked plain given other asked = absurd (cc (it_is command_name.Sim plain given other asked))
 
 -- and there is none where its four words aren't those of such a session
 pub no_sim : (part seed epochs sats : List ℕ) (given : List Given) → ((s : Sim) → IsSim part seed epochs sats s → ⊥) → (job : Job)
     → IsJobOf (name_of_command command_name.Sim) (part ∷ seed ∷ epochs ∷ sats ∷ []) given job → ⊥
 no_sim part seed epochs sats given none job asked =
     let simulated = sim_asked (part ∷ seed ∷ epochs ∷ sats ∷ []) given job asked in
-    let sim : Sim = simulated.0 in
-    let is_simulated = simulated.1 in
-    let words = sym is_simulated.plain_are in
-    let first : is_simulated.part_word ≡ part = ap (λ (ws : List (List ℕ)). get_or ws 0 []) words in
-    let second : is_simulated.seed_word ≡ seed = ap (λ (ws : List (List ℕ)). get_or ws 1 []) words in
-    let third : is_simulated.epochs_word ≡ epochs = ap (λ (ws : List (List ℕ)). get_or ws 2 []) words in
-    let fourth : is_simulated.sats_word ≡ sats = ap (λ (ws : List (List ℕ)). get_or ws 3 []) words in
-    none sim (subst (λ (w : List ℕ). IsSim w seed epochs sats sim) first
-    (subst (λ (w : List ℕ). IsSim is_simulated.part_word w epochs sats sim) second
-    (subst (λ (w : List ℕ). IsSim is_simulated.part_word is_simulated.seed_word w sats sim) third
-    (subst (λ (w : List ℕ). IsSim is_simulated.part_word is_simulated.seed_word is_simulated.epochs_word w sim) fourth is_simulated.is))))
+    let found = simulated.1 in
+    none simulated.0 (at_words found.part_word found.seed_word found.epochs_word found.sats_word part seed epochs sats simulated.0 (sym found.plain_are) found.is)
 
 -- ---- ranges
 
@@ -384,12 +184,4 @@ in_range command plain given (job.Sim part seed epochs sats bands system) asked 
     let signals = signals_in_range given system bands asked.choice.choice in
     record { epochs_to = asked.is.epochs.to; sats_to = asked.is.sats.to; of_system = signals.0; on_bands = signals.1 }
 in_range command plain given (job.Orbit nav system sat tick) asked = asked.satellite.system
-in_range command plain given (job.Zero rows) asked = tt
-in_range command plain given (job.List obs) asked = tt
-in_range command plain given (job.Check cert) asked = tt
-in_range command plain given (job.Residuals cert) asked = tt
-in_range command plain given (job.Migrate cert) asked = tt
-in_range command plain given (job.Fix base rover nav options) asked = tt
-in_range command plain given (job.Arcs base rover nav options) asked = tt
-in_range command plain given (job.Track base rover nav options) asked = tt
-in_range command plain given (job.CheckTrack cert) asked = tt
+in_range command plain given other asked = tt

@@ -2,36 +2,18 @@
 use Rattle.std.proofs.Common.{◌≡◌, ℕ, ◌+◌, ◌-◌, ◌*◌, List, [], ◌∷◌, ◌++◌, drop, Some, refl, sym, ap, subst, ◌∙◌}
 use Rattle.std.proofs.lemmas.Option.{same_Some}
 use Rattle.command_words.specs.declared.settings.Setting.{Setting}
-use Rattle.command_words.specs.declared.settings.Setting.TheVariants.{Ratio, Budget, Mask, Gap, Jump, Arc, Step, First, Count, Bands, System}
+use Rattle.command_words.specs.declared.settings.Setting.TheVariants.{Ratio, System}
 use Rattle.command_words.specs.Numbers.{IsNumber, IsLetter, IsSatellite}
 use Rattle.command_words.specs.Settings.{name_of, setting_of, IsValue, IsChosenBy}
 
 -- what begins with a setting's name is of that setting
 pub begins_with_name : (s : Setting) (text : List ℕ) → setting_of (name_of s ++ text) ≡ Some s
 begins_with_name Ratio text = refl
-begins_with_name Budget text = refl
-begins_with_name Mask text = refl
-begins_with_name Gap text = refl
-begins_with_name Jump text = refl
-begins_with_name Arc text = refl
-begins_with_name Step text = refl
-begins_with_name First text = refl
-begins_with_name Count text = refl
-begins_with_name Bands text = refl
-begins_with_name System text = refl
+begins_with_name s text = refl
 
 pub is_name : (s : Setting) → setting_of (name_of s) ≡ Some s
 is_name Ratio = refl
-is_name Budget = refl
-is_name Mask = refl
-is_name Gap = refl
-is_name Jump = refl
-is_name Arc = refl
-is_name Step = refl
-is_name First = refl
-is_name Count = refl
-is_name Bands = refl
-is_name System = refl
+is_name s = refl
 
 -- two settings whose names begin one text are one
 pub one_name : (text : List ℕ) (s r : Setting) → setting_of text ≡ Some s → setting_of text ≡ Some r → s ≡ r
@@ -40,16 +22,7 @@ one_name text s r first second = same_Some s r (sym first ∙ second)
 -- no name is another with more after it
 pub no_longer_name : (s : Setting) (digits : List ℕ) → name_of s ≡ name_of s ++ 61 ∷ digits → ⊥
 no_longer_name Ratio digits h = absurd (cc h)
-no_longer_name Budget digits h = absurd (cc h)
-no_longer_name Mask digits h = absurd (cc h)
-no_longer_name Gap digits h = absurd (cc h)
-no_longer_name Jump digits h = absurd (cc h)
-no_longer_name Arc digits h = absurd (cc h)
-no_longer_name Step digits h = absurd (cc h)
-no_longer_name First digits h = absurd (cc h)
-no_longer_name Count digits h = absurd (cc h)
-no_longer_name Bands digits h = absurd (cc h)
-no_longer_name System digits h = absurd (cc h)
+no_longer_name s digits h = absurd (cc h)
 
 -- only one text stands after a first part
 pub same_behind : (front xs ys : List ℕ) → front ++ xs ≡ front ++ ys → xs ≡ ys
@@ -65,16 +38,7 @@ one_letter word m n first second = cc (first.word_is, second.word_is)
 -- a word sets a setting to one number
 pub one_value : (s : Setting) (word : List ℕ) (m n : ℕ) → IsValue s word m → IsValue s word n → m ≡ n
 one_value System word m n first second = one_letter word m n first second
-one_value Ratio word m n first second = one_number word m n first second
-one_value Budget word m n first second = one_number word m n first second
-one_value Mask word m n first second = one_number word m n first second
-one_value Gap word m n first second = one_number word m n first second
-one_value Jump word m n first second = one_number word m n first second
-one_value Arc word m n first second = one_number word m n first second
-one_value Step word m n first second = one_number word m n first second
-one_value First word m n first second = one_number word m n first second
-one_value Count word m n first second = one_number word m n first second
-one_value Bands word m n first second = one_number word m n first second
+one_value s word m n first second = one_number word m n first second
 
 pub one_system : (word : List ℕ) (k l m n : ℕ) → IsSatellite word k m → IsSatellite word l n → k ≡ l
 one_system word k l m n first second = cc (first.word_is, second.word_is)

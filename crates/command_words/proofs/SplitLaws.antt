@@ -27,68 +27,23 @@ use Rattle.command_words.proofs.SettingLaws.{is_name, one_name}
 
 names_apart : (s : Setting) → (bytes_eq word_id (name_of s) ≡ false) × (bytes_eq (name_of s) word_id ≡ false)
 names_apart Ratio = (refl, refl)
-names_apart Budget = (refl, refl)
-names_apart Mask = (refl, refl)
-names_apart Gap = (refl, refl)
-names_apart Jump = (refl, refl)
-names_apart Arc = (refl, refl)
-names_apart Step = (refl, refl)
-names_apart First = (refl, refl)
-names_apart Count = (refl, refl)
-names_apart Bands = (refl, refl)
-names_apart System = (refl, refl)
+names_apart s = (refl, refl)
 
 pub named_word : (s : Setting) → (bytes_eq (45 ∷ 45 ∷ name_of s) (45 ∷ 45 ∷ []) ≡ false) × (long_of (45 ∷ 45 ∷ name_of s) ≡ Some (name_of s, None))
 named_word Ratio = (refl, refl)
-named_word Budget = (refl, refl)
-named_word Mask = (refl, refl)
-named_word Gap = (refl, refl)
-named_word Jump = (refl, refl)
-named_word Arc = (refl, refl)
-named_word Step = (refl, refl)
-named_word First = (refl, refl)
-named_word Count = (refl, refl)
-named_word Bands = (refl, refl)
-named_word System = (refl, refl)
+named_word s = (refl, refl)
 
 pub joined_word : (s : Setting) (d : Text) → (bytes_eq (45 ∷ 45 ∷ (name_of s ++ 61 ∷ d)) (45 ∷ 45 ∷ []) ≡ false) × (long_of (45 ∷ 45 ∷ (name_of s ++ 61 ∷ d)) ≡ Some (name_of s, Some d))
 joined_word Ratio d = (refl, refl)
-joined_word Budget d = (refl, refl)
-joined_word Mask d = (refl, refl)
-joined_word Gap d = (refl, refl)
-joined_word Jump d = (refl, refl)
-joined_word Arc d = (refl, refl)
-joined_word Step d = (refl, refl)
-joined_word First d = (refl, refl)
-joined_word Count d = (refl, refl)
-joined_word Bands d = (refl, refl)
-joined_word System d = (refl, refl)
+joined_word s d = (refl, refl)
 
 at_place : (s : Setting) → get_or (Ratio ∷ Budget ∷ Mask ∷ Gap ∷ Jump ∷ Arc ∷ Step ∷ First ∷ Count ∷ Bands ∷ System ∷ []) (place_of s) Ratio ≡ s
 at_place Ratio = refl
-at_place Budget = refl
-at_place Mask = refl
-at_place Gap = refl
-at_place Jump = refl
-at_place Arc = refl
-at_place Step = refl
-at_place First = refl
-at_place Count = refl
-at_place Bands = refl
-at_place System = refl
+at_place s = refl
 
 pub is_itself : (s : Setting) → is_same s s ≡ true
 is_itself Ratio = refl
-is_itself Budget = refl
-is_itself Mask = refl
-is_itself Gap = refl
-is_itself Jump = refl
-is_itself Arc = refl
-is_itself Step = refl
-is_itself First = refl
-is_itself Count = refl
-is_itself Bands = refl
-is_itself System = refl
+is_itself s = refl
 
 pub same_setting : (s r : Setting) → is_same s r ≡ true → s ≡ r
 same_setting s r same =
@@ -218,16 +173,7 @@ letter_word (b ∷ c ∷ bs) n is = absurd (cc is.word_is)
 -- and so is each value
 pub value_word : (s : Setting) (d : Text) (n : ℕ) → IsValue s d n → IsTrue (is_ordinary d)
 value_word System d n is = letter_word d n is
-value_word Ratio d n is = number_word d n is
-value_word Budget d n is = number_word d n is
-value_word Mask d n is = number_word d n is
-value_word Gap d n is = number_word d n is
-value_word Jump d n is = number_word d n is
-value_word Arc d n is = number_word d n is
-value_word Step d n is = number_word d n is
-value_word First d n is = number_word d n is
-value_word Count d n is = number_word d n is
-value_word Bands d n is = number_word d n is
+value_word s d n is = number_word d n is
 
 -- the settings that are given are among the options
 abbrev pub AreKnown : List Text → List Given → Type 0

@@ -79,21 +79,21 @@ pub record IsSignalChoice (given : List Given) (system bands : ℕ) : Type 0 whe
   pub bands_are : IsChosenBy (numbers_for Bands given) (AreBandsOf system) (default_bands system) bands
 
 -- the options with their ranges and defaults
-pub record AreOptions (given : List Given) (o : Options) : Type 0 where
-  pub ratio : IsSet given Ratio 1000 MOST_RATIO DEFAULT_RATIO o.ratio
-  pub budget : IsSet given Budget 1 MOST_BUDGET DEFAULT_BUDGET o.budget
-  pub mask : IsSet given Mask 0 900 DEFAULT_MASK o.mask
-  pub gap : IsSet given Gap 0 5000000 DEFAULT_GAP o.gap
-  pub jump : IsSet given Jump 1 1000 DEFAULT_JUMP o.jump
-  pub arc : IsSet given Arc 2 MOST_PAIRS DEFAULT_ARC o.arc
-  pub step : IsSet given Step 1 1000 DEFAULT_STEP o.step
-  pub first : IsSet given First 0 19999 DEFAULT_FIRST o.first
-  pub count : IsSet given Count 1 MOST_PAIRS DEFAULT_COUNT o.count
-  pub choice : IsSignalChoice given o.system o.bands
+pub record AreOptions (given : List Given) (options : Options) : Type 0 where
+  pub ratio : IsSet given Ratio 1000 MOST_RATIO DEFAULT_RATIO options.ratio
+  pub budget : IsSet given Budget 1 MOST_BUDGET DEFAULT_BUDGET options.budget
+  pub mask : IsSet given Mask 0 900 DEFAULT_MASK options.mask
+  pub gap : IsSet given Gap 0 5000000 DEFAULT_GAP options.gap
+  pub jump : IsSet given Jump 1 1000 DEFAULT_JUMP options.jump
+  pub arc : IsSet given Arc 2 MOST_PAIRS DEFAULT_ARC options.arc
+  pub step : IsSet given Step 1 1000 DEFAULT_STEP options.step
+  pub first : IsSet given First 0 19999 DEFAULT_FIRST options.first
+  pub count : IsSet given Count 1 MOST_PAIRS DEFAULT_COUNT options.count
+  pub choice : IsSignalChoice given options.system options.bands
 
 -- of a command that searches nothing: no ratio and no budget is given
-pub record ArePairOptions (given : List Given) (o : Options) : Type 0 where
-  pub options : AreOptions given o
+pub record ArePairOptions (given : List Given) (chosen : Options) : Type 0 where
+  pub options : AreOptions given chosen
   pub no_ratio : numbers_for Ratio given ≡ []
   pub no_budget : numbers_for Budget given ≡ []
 

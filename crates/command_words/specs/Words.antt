@@ -79,16 +79,16 @@ pub record IsSimJob (s : Sim) (command : List ℕ) (plain : List (List ℕ)) (gi
   pub choice : IsSimChoice given s.system s.bands
 
 -- a command of that name, three files, and any options
-pub record IsRunJob (name base rover nav : List ℕ) (o : Options) (command : List ℕ) (plain : List (List ℕ)) (given : List Given) : Type 0 where
+pub record IsRunJob (name base rover nav : List ℕ) (chosen : Options) (command : List ℕ) (plain : List (List ℕ)) (given : List Given) : Type 0 where
   pub command_is : command ≡ name
   pub plain_are : plain ≡ base ∷ rover ∷ nav ∷ []
-  pub options : AreOptions given o
+  pub options : AreOptions given chosen
 
 -- `arcs`, three files, and options without a ratio and a budget
-pub record IsArcsJob (base rover nav : List ℕ) (o : Options) (command : List ℕ) (plain : List (List ℕ)) (given : List Given) : Type 0 where
+pub record IsArcsJob (base rover nav : List ℕ) (chosen : Options) (command : List ℕ) (plain : List (List ℕ)) (given : List Given) : Type 0 where
   pub command_is : command ≡ name_of_command command_name.Arcs
   pub plain_are : plain ≡ base ∷ rover ∷ nav ∷ []
-  pub options : ArePairOptions given o
+  pub options : ArePairOptions given chosen
 
 -- a command with these ordinary words and options asks for the job
 abbrev pub IsJobOf : List ℕ → List (List ℕ) → List Given → Job → Type 0
@@ -113,20 +113,6 @@ pub record IsJob (words : List (List ℕ)) (job : Job) : Type 0 where
   pub words_are : words ≡ command ∷ behind
   pub parted : AreParted behind plain given
   pub asked : IsJobOf command plain given job
-
--- the words of a job that stand for files
-abbrev pub file_words : Job → List (List ℕ)
-file_words (job.Zero rows) = rows ∷ []
-file_words (job.List obs) = obs ∷ []
-file_words (job.Orbit nav system sat tick) = nav ∷ []
-file_words (job.Check cert) = cert ∷ []
-file_words (job.Residuals cert) = cert ∷ []
-file_words (job.Migrate cert) = cert ∷ []
-file_words (job.Fix base rover nav options) = base ∷ rover ∷ nav ∷ []
-file_words (job.Track base rover nav options) = base ∷ rover ∷ nav ∷ []
-file_words (job.CheckTrack cert) = cert ∷ []
-file_words (job.Arcs base rover nav options) = base ∷ rover ∷ nav ∷ []
-file_words (job.Sim part seed epochs sats bands system) = []
 
 -- the ranges of a simulated session
 pub record IsSimInRange (epochs sats bands system : ℕ) : Type 0 where

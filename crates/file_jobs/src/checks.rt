@@ -47,7 +47,7 @@ pub struct CertCheck;
 impl TextCommand for CertCheck {
     ghost job = { λ _. check_job };
 
-    fn answer(&self, alloc: Global, text: &[u8]) -> Result<JobOutput, TextFault> {
+    fn answer_text(&self, alloc: Global, text: &[u8]) -> Result<JobOutput, TextFault> {
         let cert = read_cert(alloc, text)?;
         let verdict = check(&cert);
         Ok(verdict_output(alloc, &verdict)?)
@@ -61,7 +61,7 @@ pub struct Residuals;
 impl TextCommand for Residuals {
     ghost job = { λ _. residuals_job };
 
-    fn answer(&self, alloc: Global, text: &[u8]) -> Result<JobOutput, TextFault> {
+    fn answer_text(&self, alloc: Global, text: &[u8]) -> Result<JobOutput, TextFault> {
         let cert = read_cert(alloc, text)?;
         let mut out = Vec::new(alloc);
         let shown = write_residuals(alloc, &mut out, &cert)?;

@@ -34,7 +34,7 @@ pub struct Claim;
 impl TextCommand for Claim {
     ghost job = { λ _. zero_job };
 
-    fn answer(&self, alloc: Global, text: &[u8]) -> Result<JobOutput, TextFault> {
+    fn answer_text(&self, alloc: Global, text: &[u8]) -> Result<JobOutput, TextFault> {
         let rows = read_rows(alloc, text)?;
         Ok(answer_rows(alloc, &rows)?)
     }

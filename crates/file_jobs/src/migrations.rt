@@ -49,7 +49,7 @@ pub struct Migration;
 impl TextCommand for Migration {
     ghost job = { λ _. migrate_job };
 
-    fn answer(&self, alloc: Global, text: &[u8]) -> Result<JobOutput, TextFault> {
+    fn answer_text(&self, alloc: Global, text: &[u8]) -> Result<JobOutput, TextFault> {
         let old = read_old(alloc, text)?;
         Ok(answer_migrate(alloc, &old)?)
     }

@@ -74,7 +74,7 @@ pub struct Orbit {
 impl TextCommand for Orbit {
     ghost job = { λ o. orbit_job o.system o.sat o.tag.0 };
 
-    fn answer(&self, alloc: Global, text: &[u8]) -> Result<JobOutput, TextFault> {
+    fn answer_text(&self, alloc: Global, text: &[u8]) -> Result<JobOutput, TextFault> {
         let file = read_records_of(alloc, System::of_letter(self.system), text)?;
         Ok(answer_records(alloc, &file, self.system, self.sat, self.tag)?)
     }

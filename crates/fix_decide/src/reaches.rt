@@ -41,7 +41,7 @@ pub(crate) struct RowReach {
 }
 
 /// a + b
-fn plus(a: i128, b: i128) -> i128
+fn sum_of(a: i128, b: i128) -> i128
     requires a_size { unsigned_abs a ≤ 2 ^ 80 }
     requires b_size { unsigned_abs b ≤ 2 ^ 80 }
     ensures value { result ≡ a +ℤ b }
@@ -57,8 +57,8 @@ fn scalar_product(u: &[i64; 3], m: &[i64; 3]) -> i128
     ensures value { result ≡ scalar_product u.now m.now }
     ensures size { unsigned_abs result ≤ 3 * 2 ^ 70 }
 {
-    let rest = plus(product::<24, 46>(u[1], m[1]), product::<24, 46>(u[2], m[2]));
-    plus(product::<24, 46>(u[0], m[0]), rest)
+    let rest = sum_of(product::<24, 46>(u[1], m[1]), product::<24, 46>(u[2], m[2]));
+    sum_of(product::<24, 46>(u[0], m[0]), rest)
 }
 
 /// ⌈n / 2^16⌉

@@ -4,12 +4,12 @@ use Rattle.std.proofs.lemmas.Int.{ints}
 use Rattle.whole_math.specs.Rounding.{ceil_div}
 use Rattle.whole_math.proofs.Order.{lins, polys, mul_le_right, square_nn, mul_nn}
 use Rattle.int_search.proofs.SuffixLaws.{square_from}
-use Rattle.int_search.specs.Steps.{IsFresh}
+use Rattle.int_search.specs.Steps.{IsUntouched}
 use Rattle.int_search.proofs.Quotients.{ends_up, ends_down}
 
 pub fresh_from : (rest low u up down up_offset down_offset low' : ℤ) → u ≡ ceil_div (neg_ℤ rest) (2 ^ 30) → unsigned_abs u ≤ 2 ^ 59 + 1 → unsigned_abs rest ≤ 2 ^ 88 → up ≡ u → down ≡ u -ℤ pos 1 →
     up_offset ≡ (pos (2 ^ 30) *ℤ up) +ℤ rest → down_offset ≡ (pos (2 ^ 30) *ℤ down) +ℤ rest → low' ≡ low →
-    IsFresh rest low (record { up = up; down = down; up_offset = up_offset; down_offset = down_offset; low = low' })
+    IsUntouched rest low (record { up = up; down = down; up_offset = up_offset; down_offset = down_offset; low = low' })
 fresh_from rest low u up down up_offset down_offset low' h s r a b p q l =
     let is_ceiling : up ≡ ceil_div (neg_ℤ rest) (2 ^ 30) = cc in
     let one_apart : up ≡ down +ℤ pos 1 = omega (arith, ints) in

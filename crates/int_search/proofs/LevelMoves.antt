@@ -7,10 +7,10 @@ use Rattle.int_search.specs.PlainCount.{top}
 use Rattle.int_search.specs.Levels.{IsFree, IsLevel, Takes}
 use Rattle.int_search.specs.declared.stack.Level.{Level}
 use Rattle.int_search.proofs.SuffixLaws.{low-cons, offset-is, IsNearest}
-use Rattle.int_search.specs.Steps.{IsFresh, Chooses, Moves}
+use Rattle.int_search.specs.Steps.{IsUntouched, Chooses, Moves}
 
-pub level_fresh : (f : SearchForm) (s : List ℤ) (a : Level) → length s < f.size → IsFresh (rest f s) (low f s) a → low f s ≤ℤ (pos (2 ^ 60) *ℤ top f) → IsLevel f a s
-level_fresh f s a h k l = record {
+pub level_untouched : (f : SearchForm) (s : List ℤ) (a : Level) → length s < f.size → IsUntouched (rest f s) (low f s) a → low f s ≤ℤ (pos (2 ^ 60) *ℤ top f) → IsLevel f a s
+level_untouched f s a h k l = record {
   shorter = h;
   up_offset_is = k.up_offset_is ∙ sym (offset-is f a.up s);
   down_offset_is = k.down_offset_is ∙ sym (offset-is f a.down s);
@@ -33,8 +33,8 @@ level_fresh f s a h k l = record {
     fresh_tied : (x y r u d : ℤ) → x ≡ y +ℤ pos 1 → u ≡ (pos (2 ^ 30) *ℤ x) +ℤ r → d ≡ (pos (2 ^ 30) *ℤ y) +ℤ r → pos 0 ≤ℤ u → (negsuc (2 ^ 30 - 1) <ℤ (u +ℤ d)) ⊎ (u ≡ pos 0)
     fresh_tied x y r u d e g h p = let offsets_apart : u ≡ d +ℤ pos (2 ^ 30) = omega (arith, polys) in by_lt_z (pos 0) u (λ l. inl (omega (arith, ints))) (λ l. inr (omega (arith, ints)))
 
-pub fresh_free : (e l : ℤ) (a : Level) → IsFresh e l a → (y : ℤ) → IsFree a y
-fresh_free e l a k y = let one_apart = k.apart in by_lt_z a.down y (λ p. inr (omega (arith, ints))) (λ p. inl p)
+pub untouched_free : (e l : ℤ) (a : Level) → IsUntouched e l a → (y : ℤ) → IsFree a y
+untouched_free e l a k y = let one_apart = k.apart in by_lt_z a.down y (λ p. inr (omega (arith, ints))) (λ p. inl p)
 
 pub moved_takes : (a b : Level) (x c : ℤ) (up : Bool) → a.down <ℤ a.up → Chooses a x c up → Moves a up b → Takes a x b
 moved_takes a b x c true h k m = record {

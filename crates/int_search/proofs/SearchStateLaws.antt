@@ -17,7 +17,7 @@ use Rattle.int_search.specs.declared.stack.Level.{Level}
 use Rattle.int_search.proofs.SuffixLaws.{low-nil, low_from, value_from, weight_from, weight_to}
 use Rattle.int_search.proofs.SearchLaws.{search_pop, search_inner, search_leaf, search_outrun, search_stopped, search_stopped_image, search_start, search_done, search_finished}
 use Rattle.int_search.specs.Vectors.{IsSmall, Holds, suffix}
-use Rattle.int_search.specs.Steps.{IsFresh, Chooses, Moves, IsTermWithin}
+use Rattle.int_search.specs.Steps.{IsUntouched, Chooses, Moves, IsTermWithin}
 use Rattle.int_search.specs.Best.{HoldsBest, TakesOffer, KeepsBest}
 use Rattle.int_search.specs.SearchStates.{here, IsWalk, IsReach, BeginsWith, Offers, IsImageTooLarge, Visits, HasFound}
 use Rattle.int_search.specs.declared.best.Best.{Best}
@@ -28,7 +28,7 @@ use Rattle.int_search.specs.SearchedForm.{search_form}
 use Rattle.int_search.proofs.FormNumbers.{searchable, weight_is}
 use Rattle.int_search.proofs.PointLaws.{small_suffix, held_small}
 use Rattle.int_search.proofs.SuffixArrays.{suffix-set, suffix-above, suffix-tail, suffix-length, suffix-none}
-use Rattle.int_search.proofs.LevelMoves.{level_fresh, fresh_free, moved_takes, moved_level, chosen_nearest, chosen_offset, chosen_free, low_chosen}
+use Rattle.int_search.proofs.LevelMoves.{level_untouched, untouched_free, moved_takes, moved_level, chosen_nearest, chosen_offset, chosen_free, low_chosen}
 
 -- ---- the state at its latest level
 pub focus : (f : SearchForm) (im : List ℤ → List ℤ) (w : SearchState) (a : Level) (h : IsWalk f im w) → IsLatest w.stack a → IsSearch f im (a ∷ drop 1 w.stack) (here f w) h.one h.two w.visits
@@ -131,7 +131,7 @@ set_here f im w x m h n =
 pub walk_inner : (f : SearchForm) (im : List ℤ → List ℤ) (w : SearchState) (r : NextEntry) (b c : Level) (z : List ℤ) (st : List Level) (e : ℤ) → IsSearchable f → f.size ≤ MOST_INTEGERS →
     IsWalk f im w → IsReach f w r → unsigned_abs r.choice.entry < 2 ^ 30 →
     Moves r.level r.choice.is_up b → 0 < f.size - length w.stack → z ≡ set w.z (f.size - length w.stack) r.choice.entry → st ≡ c ∷ (b ∷ drop 1 w.stack) → IsSmall z →
-    e ≡ rest f (suffix z (f.size - length w.stack) f.size) → IsFresh e r.low c → IsWalk f im (record w { z = z; stack = st; visits = w.visits + 1 })
+    e ≡ rest f (suffix z (f.size - length w.stack) f.size) → IsUntouched e r.low c → IsWalk f im (record w { z = z; stack = st; visits = w.visits + 1 })
 walk_inner f im w r b c z st e k mo h v sm mv n ez es small ee fr =
     let is_search = focus f im w r.level h v.latest in
     let entry : ℤ = r.choice.entry in
@@ -143,11 +143,11 @@ walk_inner f im w r b c z st e k mo h v sm mv n ez es small ee fr =
     let has_room = h.room in
     let some = v.some in
     let suffix_long : length (here f w) ≡ f.size - (f.size + 1 - length w.stack) = suffix-length w.z (f.size + 1 - length w.stack) f.size (omega arith) in
-    let fr2 : IsFresh (rest f (entry ∷ here f w)) (low f (entry ∷ here f w)) c =
-    subst (λ (u : ℤ). IsFresh (rest f (entry ∷ here f w)) u c) v.low_is (subst (λ (u : ℤ). IsFresh u r.low c) (ee ∙ ap (rest f) suffix_with_entry) fr) in
-    let fresh_is_level : IsLevel f c (entry ∷ here f w) = level_fresh f (entry ∷ here f w) c (omega arith) fr2 (bound_top (low f (entry ∷ here f w)) (value f.p h.two) (top f) low_at_most is_search.bound) in
+    let fr2 : IsUntouched (rest f (entry ∷ here f w)) (low f (entry ∷ here f w)) c =
+    subst (λ (u : ℤ). IsUntouched (rest f (entry ∷ here f w)) u c) v.low_is (subst (λ (u : ℤ). IsUntouched u r.low c) (ee ∙ ap (rest f) suffix_with_entry) fr) in
+    let fresh_is_level : IsLevel f c (entry ∷ here f w) = level_untouched f (entry ∷ here f w) c (omega arith) fr2 (bound_top (low f (entry ∷ here f w)) (value f.p h.two) (top f) low_at_most is_search.bound) in
     let inner_search = search_inner f im r.level b c (drop 1 w.stack) entry r.choice.offset (here f w) h.one h.two w.visits is_search (chosen_nearest r.level entry r.choice.offset r.choice.is_up v.chosen)
-    (chosen_offset f r.level (here f w) entry r.choice.offset r.choice.is_up is_search.levels.0 v.chosen) (λ l. small_suffix z (f.size - length w.stack) f.size small (subst HasLarge (sym suffix_with_entry) l)) takes_entry moved_is_level fresh_is_level (fresh_free (rest f (entry ∷ here f w)) (low f (entry ∷ here f w)) c fr2) low_at_most in
+    (chosen_offset f r.level (here f w) entry r.choice.offset r.choice.is_up is_search.levels.0 v.chosen) (λ l. small_suffix z (f.size - length w.stack) f.size small (subst HasLarge (sym suffix_with_entry) l)) takes_entry moved_is_level fresh_is_level (untouched_free (rest f (entry ∷ here f w)) (low f (entry ∷ here f w)) c fr2) low_at_most in
     let one_shorter : length (drop 1 w.stack) + 1 ≡ length w.stack = drop_length w.stack v.some in
     let depth_is : f.size + 1 - length (c ∷ (b ∷ drop 1 w.stack)) ≡ f.size - length w.stack = omega arith in
     let suffix_is : entry ∷ here f w ≡ suffix z (f.size + 1 - length (c ∷ (b ∷ drop 1 w.stack))) f.size = sym suffix_with_entry ∙ ap (λ j. suffix z j f.size) (sym depth_is) in
@@ -285,7 +285,7 @@ left_less budget v v' m a b e h k n =
 
 -- ---- the first state
 pub walk_begins : (f : SearchForm) (b : Best) (a : Level) (size : ℕ) (z : List ℤ) (st : List Level) (e g : ℤ) → IsSearchable f → size ≡ f.size → length z ≡ MOST_INTEGERS → IsSmall z → st ≡ a ∷ [] →
-    e ≡ rest f (suffix z (f.size - 1 + 1) f.size) → g ≡ pos (2 ^ 60) *ℤ f.g → IsFresh e g a → BeginsWith f b (record { size = size; z = z; stack = st; visits = 0; best = b })
+    e ≡ rest f (suffix z (f.size - 1 + 1) f.size) → g ≡ pos (2 ^ 60) *ℤ f.g → IsUntouched e g a → BeginsWith f b (record { size = size; z = z; stack = st; visits = 0; best = b })
 walk_begins f b a size z st e g k es zr zs ss ee ge fr = record { begun = λ im one two p q o bd tp sp nw hb. (begun im one two p q o bd tp sp nw hb, refl) }
   where
     last : (a b v t : ℤ) → a ≤ℤ b → b ≤ℤ (pos (2 ^ 60) *ℤ v) → v ≤ℤ t → a ≤ℤ (pos (2 ^ 60) *ℤ t)
@@ -296,12 +296,12 @@ walk_begins f b a size z st e g k es zr zs ss ee ge fr = record { begun = λ im 
     begun im one two p q o bd tp sp nw hb =
         let some = k.some in
         let nothing : suffix z (f.size - 1 + 1) f.size ≡ [] = suffix-none z (f.size - 1 + 1) f.size (omega arith) in
-        let fr2 : IsFresh (rest f []) (low f []) a =
-        subst (λ (u : ℤ). IsFresh (rest f []) u a) (ge ∙ sym (low-nil f k.each)) (subst (λ (u : ℤ). IsFresh u g a) (ee ∙ ap (rest f) nothing) fr) in
+        let fr2 : IsUntouched (rest f []) (low f []) a =
+        subst (λ (u : ℤ). IsUntouched (rest f []) u a) (ge ∙ sym (low-nil f k.each)) (subst (λ (u : ℤ). IsUntouched u g a) (ee ∙ ap (rest f) nothing) fr) in
         let low_at_most : low f [] ≤ℤ (pos (2 ^ 60) *ℤ top f) = last (low f []) (low f two) (value f.p two) (top f)
         (subst (λ (m : ℤ). m ≤ℤ low f two) (sym (low-nil f k.each)) (low_from f two k (omega arith))) (k.below two q) bd in
-        let first_is_level : IsLevel f a [] = level_fresh f [] a (omega arith) fr2 low_at_most in
-        let started_search = search_start f im a one two k p q o bd sp nw first_is_level (fresh_free (rest f []) (low f []) a fr2) in
+        let first_is_level : IsLevel f a [] = level_untouched f [] a (omega arith) fr2 low_at_most in
+        let started_search = search_start f im a one two k p q o bd sp nw first_is_level (untouched_free (rest f []) (low f []) a fr2) in
         let one_level : length st ≡ 1 = ap length ss in
         let nothing_taken : [] ≡ suffix z (f.size + 1 - length st) f.size = sym (suffix-none z (f.size + 1 - length st) f.size (omega arith)) in
         record {

@@ -3,7 +3,7 @@ use Rattle.std.specs.Prelude.{◌≡◌, ◌≤◌, ◌^◌, ℤ, pos, ◌+ℤ�
 use Rattle.int_search.specs.declared.stack.Level.{Level}
 
 -- a level where no entry is taken
-pub record IsFresh (rest low : ℤ) (a : Level) : Type 0 where
+pub record IsUntouched (rest low : ℤ) (a : Level) : Type 0 where
   pub up_offset_is : a.up_offset ≡ (pos (2 ^ 30) *ℤ a.up) +ℤ rest
   pub down_offset_is : a.down_offset ≡ (pos (2 ^ 30) *ℤ a.down) +ℤ rest
   pub above : pos 0 ≤ℤ a.up_offset

@@ -1,6 +1,6 @@
 //! The numbers of one level.
 ghost use Rattle.std.specs.Prelude.{◌≡◌, ◌+◌, ◌^◌, ◌<◌, ◌≤◌, pos, ◌+ℤ◌, ◌-ℤ◌, ◌*ℤ◌, ◌≤ℤ◌, ◌<ℤ◌, unsigned_abs, neg_ℤ, IsTrue, false, MatchOption};
-ghost use Rattle.int_search.specs.Steps.{IsFresh, Chooses, Moves, IsTermWithin};
+ghost use Rattle.int_search.specs.Steps.{IsUntouched, Chooses, Moves, IsTermWithin};
 ghost use Rattle.whole_math.specs.Rounding.{floor_div, ceil_div, nearest_div};
 
 use crate::stack::Level;
@@ -52,9 +52,9 @@ pub(crate) fn offset_of(x: i64, rest: i128) -> i128
 }
 
 /// A level with no entry taken.
-pub(crate) fn fresh(rest: i128, low: i128) -> Level
+pub(crate) fn untouched_level(rest: i128, low: i128) -> Level
     requires { unsigned_abs rest ≤ 2 ^ 88 }
-    ensures { IsFresh rest low result }
+    ensures { IsUntouched rest low result }
 {
     let up = ceil_part(-rest) as i64;
     let down = up - 1;
@@ -89,7 +89,7 @@ pub(crate) fn nearest(a: &Level) -> Choice
 }
 
 /// The level with that entry taken.
-pub(crate) fn moved(a: &Level, is_up: bool) -> Level
+pub(crate) fn level_after(a: &Level, is_up: bool) -> Level
     requires up { unsigned_abs a.now.up ≤ 2 ^ 61 }
     requires down { unsigned_abs a.now.down ≤ 2 ^ 61 }
     requires up_offset { unsigned_abs a.now.up_offset ≤ 2 ^ 100 }
@@ -108,7 +108,7 @@ pub(crate) fn moved(a: &Level, is_up: bool) -> Level
 }
 
 /// What a bound p leaves over a lower sum.
-pub(crate) fn room(p: i128, low: i128) -> i128
+pub(crate) fn bound_left(p: i128, low: i128) -> i128
     requires p_size { unsigned_abs p ≤ 2 ^ 62 }
     requires low_size { unsigned_abs low ≤ 2 ^ 122 }
     ensures value { result ≡ (pos (2 ^ 60) *ℤ p) -ℤ low }

@@ -13,7 +13,8 @@ use crate::points::{neighbour_point, rounded_point};
 use crate::rests::later_part;
 use crate::stack::{Level, Stack};
 use crate::steps::{
-    Choice, first_low, fresh, is_large, low_with, moved, nearest, room, term_within,
+    Choice, bound_left, first_low, is_large, level_after, low_with, nearest, term_within,
+    untouched_level,
 };
 use crate::values::value_at;
 use integer_form::Form;
@@ -58,7 +59,7 @@ impl SearchState {
     {
         let size = form.columns - BASELINE_COLUMNS - 1;
         let mut stack = Stack::new();
-        stack.push(fresh(later_part(form, size - 1, &z), first_low(form.g)));
+        stack.push(untouched_level(later_part(form, size - 1, &z), first_low(form.g)));
         SearchState {
             size,
             z,
@@ -138,7 +139,7 @@ impl SearchState {
         let level = self.stack.top();
         let choice = nearest(&level);
         let d = form.d[BASELINE_COLUMNS + self.size - self.stack.len()];
-        let term = term_within(room(self.best.p2, level.low), d, choice.offset)?;
+        let term = term_within(bound_left(self.best.p2, level.low), d, choice.offset)?;
         Some(NextEntry {
             level,
             choice,
@@ -159,13 +160,13 @@ impl SearchState {
     {
         let i = self.size - self.stack.len();
         self.visits += 1;
-        self.stack.replace(moved(&reach.level, reach.choice.is_up));
+        self.stack
+            .replace(level_after(&reach.level, reach.choice.is_up));
         self.z[i] = reach.choice.entry;
         if i == 0 {
             return self.offer(form, map);
         }
-        self.stack
-            .push(fresh(later_part(form, i - 1, &self.z), reach.low));
+        self.stack.push(untouched_level(later_part(form, i - 1, &self.z), reach.low));
         true
     }
 

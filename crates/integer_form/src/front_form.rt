@@ -7,8 +7,8 @@ ghost use Rattle.integer_form.specs.Kept.{IsBelowDiagonal};
 
 use quadratic_form::{BASELINE_COLUMNS, FormTable, FrontTable, MOST_COLUMNS};
 
-/// A form of the integers and the constant, and what the steps of the baseline's columns kept. What stands outside the
-/// columns in use is 0.
+/// The form without the baseline: a form of the integers and the constant, and what the steps of the baseline's columns kept. What
+/// stands outside the columns in use is 0.
 #[derive(Clone, Copy, Debug)]
 pub struct FrontForm {
     /// The number of columns, those of the baseline among them.

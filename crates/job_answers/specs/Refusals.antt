@@ -21,7 +21,7 @@ abbrev pub pair_line : PairWhat → List ℕ
 pair_line what = codes "refused: " ++ (pair_reason what ++ codes "\n")
 
 -- the two files are refused
-pub record IsPairRefused (b r : ObsFile) (o : Options) (end : Ending) : Type 0 where
+pub record IsPairRefused (base rover : ObsFile) (options : Options) (end : Ending) : Type 0 where
   pub what : PairWhat
-  pub why : IsSessionFault b r o (fault.Refused what)
+  pub why : IsSessionFault base rover options (fault.Refused what)
   pub end_is : end ≡ ending Refused [] (pair_line what)

@@ -65,10 +65,10 @@ abbrev pub StopsAtFiles : System → (List ℕ → Option (List ℕ)) → List �
 StopsAtFiles system text_of base rover nav end = StopsAtObs system text_of base end ⊎ (StopsAtRover system text_of base rover end ⊎ StopsAtThird system text_of base rover nav end)
 
 -- the three files stand for these
-pub record AreFilesOf (system : System) (text_of : List ℕ → Option (List ℕ)) (base rover nav : List ℕ) (b r : ObsFile) (n : Records) : Type 0 where
-  pub base_is : IsObsOf system text_of base b
-  pub rover_is : IsObsOf system text_of rover r
-  pub nav_is : IsNavOf system text_of nav n
+pub record AreFilesOf (system : System) (text_of : List ℕ → Option (List ℕ)) (base rover nav : List ℕ) (base_file rover_file : ObsFile) (records : Records) : Type 0 where
+  pub base_is : IsObsOf system text_of base base_file
+  pub rover_is : IsObsOf system text_of rover rover_file
+  pub nav_is : IsNavOf system text_of nav records
 
 -- what they end with
 pub record EndsAtSession (system : System) (text_of : List ℕ → Option (List ℕ)) (base rover nav : List ℕ) (ends : ObsFile → ObsFile → Records → Ending → Type 0) (end : Ending) : Type 0 where

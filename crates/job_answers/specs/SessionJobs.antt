@@ -21,16 +21,16 @@ abbrev pub SessionAnswers : Type 1
 SessionAnswers = Options → ObsFile → ObsFile → Records → Ending → Type 0
 
 -- the files have this answer, which is a verdict
-pub record AreAnswered (answers : SessionAnswers) (o : Options) (b r : ObsFile) (n : Records) (end : Ending) : Type 0 where
+pub record AreAnswered (answers : SessionAnswers) (options : Options) (base rover : ObsFile) (nav : Records) (end : Ending) : Type 0 where
   pub verdict : IsVerdictStatus end.status
-  pub answer : answers o b r n end
+  pub answer : answers options base rover nav end
 
 abbrev pub EndsOnFiles : SessionAnswers → Options → ObsFile → ObsFile → Records → Ending → Type 0
-EndsOnFiles answers o b r n end = AreAnswered answers o b r n end ⊎ IsPairRefused b r o end
+EndsOnFiles answers options base rover nav end = AreAnswered answers options base rover nav end ⊎ IsPairRefused base rover options end
 
 -- what it ends with, by what is reported of its files
 abbrev pub SessionEnds : SessionAnswers → (List ℕ → Option (List ℕ)) → List ℕ → List ℕ → List ℕ → Options → Ending → Type 0
-SessionEnds answers text_of base rover nav o end = EndsBySession (system_of o.system) text_of base rover nav (EndsOnFiles answers o) end
+SessionEnds answers text_of base rover nav options end = EndsBySession (system_of options.system) text_of base rover nav (EndsOnFiles answers options) end
 
 -- a line about the two observation files together
 abbrev pub IsPairLine : List ℕ → Type 0
@@ -42,12 +42,12 @@ IfPairRefused (Err (Refused what)) P = P what
 IfPairRefused _ P = Unit {0}
 
 -- what a run of it with status 0 or 1 says: out has gained its answer on the files
-pub record SaysOfSession (answers : SessionAnswers) (text_of : List ℕ → Option (List ℕ)) (base rover nav : List ℕ) (o : Options) (status : Status) (out : SinkChange) : Type 0 where
+pub record SaysOfSession (answers : SessionAnswers) (text_of : List ℕ → Option (List ℕ)) (base rover nav : List ℕ) (options : Options) (status : Status) (out : SinkChange) : Type 0 where
   pub base_file : ObsFile
   pub rover_file : ObsFile
   pub records : Records
-  pub are_files : AreFilesOf (system_of o.system) text_of base rover nav base_file rover_file records
+  pub are_files : AreFilesOf (system_of options.system) text_of base rover nav base_file rover_file records
   pub end : Ending
-  pub answer : answers o base_file rover_file records end
+  pub answer : answers options base_file rover_file records end
   pub status_is : end.status ≡ status
   pub printed : Appends out.old out.new end.out

@@ -19,7 +19,7 @@ pub trait SessionCommand {
 
     /// A verdict on the files, or why the two observation files are refused. They are handed over, so that their memory can go before
     /// the work on what was taken from them.
-    fn answer(
+    fn answer_files(
         &self,
         alloc: Global,
         files: SessionFiles,
@@ -32,7 +32,7 @@ pub trait SessionCommand {
 }
 
 // What it ends with by the three files.
-fn answer_files<C: SessionCommand>(
+fn end_on_files<C: SessionCommand>(
     alloc: Global,
     command: &C,
     read: SessionFiles,
@@ -40,7 +40,7 @@ fn answer_files<C: SessionCommand>(
 ) -> Result<JobOutput, JobStop>
     ensures { IfEnded result (EndsOnFiles C.answers options.now read.base read.rover read.nav) }
 {
-    match command.answer(alloc, read, options) {
+    match command.answer_files(alloc, read, options) {
         Ok(answer) => Ok(answer),
         Err(SessionFault::Refused(what)) => Ok(refused_pair(alloc, what)?),
         Err(SessionFault::NoMemory) => Err(JobStop::NoMemory),
@@ -65,5 +65,5 @@ pub fn answer_session<C: SessionCommand, F: Files>(
 {
     let system = System::of_letter(options.system);
     let read = read_session(alloc, files, system, base, rover, nav)?;
-    answer_files(alloc, command, read, options)
+    end_on_files(alloc, command, read, options)
 }

@@ -73,7 +73,7 @@ fn kept_of(alloc: Global, line: &[u8], rest: &[u8]) -> Result<Source, AllocError
 }
 
 // The text of these two parts, the first of which is its first line.
-fn begin(alloc: Global, line: &[u8], rest: &[u8]) -> Result<Source, AllocError>
+fn source_of(alloc: Global, line: &[u8], rest: &[u8]) -> Result<Source, AllocError>
     requires few { length line.now + length rest.now ≤ MAX_FILE }
     requires first { IsFirstOf (strip_carriage_return line.now) (line.now ++ rest.now) }
     ensures kept { IfOk result (λ s. IsKeptOf s (length line.now + length rest.now)) }
@@ -101,7 +101,7 @@ fn end_line(
     ensures stands { IfOk result (λ s. StandsForText s (line.old ++ piece.now)) }
 {
     match line.extend(front) {
-        Ok(()) => begin(alloc, line.as_slice(), &piece[front.len()..]),
+        Ok(()) => source_of(alloc, line.as_slice(), &piece[front.len()..]),
         Err(Overlong) => feed_of(alloc, line.as_slice(), piece),
     }
 }

@@ -17,14 +17,14 @@ pub trait TextCommand {
     ghost job: { Self → TextJob };
 
     /// A verdict on a text that it takes, or the place at which another one is refused.
-    fn answer(&self, alloc: Global, text: &[u8]) -> Result<JobOutput, TextFault>
+    fn answer_text(&self, alloc: Global, text: &[u8]) -> Result<JobOutput, TextFault>
         requires { length text.now ≤ MAX_FILE }
         ensures answered { IfOk result (λ a. IsAnswered (job self.now) text.now (ending_of a)) }
         ensures refused { IfRefused result (IsRefusedAt (job self.now) text.now) };
 }
 
 // What it ends with by the text of its file.
-fn answer_bytes<C: TextCommand>(
+fn end_on_text<C: TextCommand>(
     alloc: Global,
     command: &C,
     name: &str,
@@ -33,7 +33,7 @@ fn answer_bytes<C: TextCommand>(
     requires { length text.now ≤ MAX_FILE }
     ensures { IfEnded result (EndsOnText (C.job command.now) name.now text.now) }
 {
-    match command.answer(alloc, text) {
+    match command.answer_text(alloc, text) {
         Ok(answer) => Ok(answer),
         Err(TextFault::Refused(at)) => Ok(refused(alloc, name, at)?),
         Err(TextFault::NoMemory) => Err(JobStop::NoMemory),
@@ -52,5 +52,5 @@ pub fn answer_file<C: TextCommand, F: Files>(
         (TextEnds (C.job command.now) (known_between F.Files files.old files.new) name.now) result }
 {
     let text = load_file(alloc, files, name)?;
-    answer_bytes(alloc, command, name, &text)
+    end_on_text(alloc, command, name, &text)
 }

@@ -1,4 +1,4 @@
 pub mod FirstRounding
 pub mod Fronts
 pub mod Forms
-pub mod Rooms
+pub mod CleanSteps

@@ -12,7 +12,7 @@ ghost use Rattle.elimination.specs.Finish.{IsFinishOf};
 ghost use Rattle.lower_form.specs.Fronts.{BoundsAllData};
 ghost use Rattle.lower_form.specs.Forms.{IsFrontOf, IsLowerOf, elimination_of};
 
-use crate::fronts::front;
+use crate::baseline_steps::front;
 use elimination::finish;
 use integer_form::{Form, LowerFault};
 use normal_sum::Normal;

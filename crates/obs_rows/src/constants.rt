@@ -3,6 +3,8 @@
 ghost use Rattle.std.specs.Prelude.{◌≡◌, [], ◌∷◌, pos, ◌*◌, ◌*ℤ◌, ◌+◌, codes};
 ghost use Rattle.quadratic_form.specs.declared.sizes.TheConstants.{MOST_INTEGERS};
 ghost use Rattle.obs_rows.specs.Signals.{wavelength};
+ghost use Rattle.obs_rows.specs.declared.band_sets.TheConstants.{PHASE_SIGNALS};
+ghost use Rattle.obs_rows.specs.declared.signal_names.TheConstants.{L1_PHASE, L2_PHASE, L1_CODE, L5_PHASE};
 ghost use Rattle.obs_rows.specs.declared.bands.TheConstants.{L1_LETTERS, L2_LETTERS, L5_LETTERS};
 ghost use Rattle.obs_rows.specs.declared.limits.TheConstants.{MOST_PAIRS, LAST_PAIR, MOST_SATELLITES, MOST_ARCS, MOST_KEPT_ARCS, MOST_RATIO, MOST_BUDGET, MOST_COORDINATE, LEAST_DISTANCE, MOST_DISTANCE};
 ghost use Rattle.obs_rows.specs.declared.units.TheConstants.{SIGNALS, PHASES, BANDS, WAVELENGTHS, WEIGHTS};
@@ -33,6 +35,8 @@ pub fn signals_law()
     ensures bands_of_l1_l5 { BANDS_15 ≡ 0 ∷ 2 ∷ [] }
     ensures bands_of_all { BANDS_125 ≡ 0 ∷ 1 ∷ 2 ∷ [] }
     ensures coarse { COARSE_SIGNALS ≡ 2 ∷ [] }
+    ensures phases_by_name { PHASE_SIGNALS ≡ L1_PHASE ∷ L2_PHASE ∷ L5_PHASE ∷ [] }
+    ensures coarse_by_name { COARSE_SIGNALS ≡ L1_CODE ∷ [] }
 {}
 
 /// The letters of the codes on each band in the order in which they are tried, the one that most receivers have first

@@ -6,7 +6,7 @@ use Rattle.whole_math.specs.Rational.{Rational, ◌≤ʳ◌, of_whole, ◌*ʳ◌
 use Rattle.whole_math.proofs.RationalLaws.{≤ʳ_trans}
 use Rattle.trig_box.specs.AnglePairs.{Pair, IsAnglePair}
 use Rattle.trig_box.proofs.PairLaws.{norm_law_5}
-use Rattle.orbit_model.specs.SeenPlaces.{Place, difference, square, turned_back}
+use Rattle.orbit_model.specs.SeenPlaces.{Position, difference, square, turned_back}
 use Rattle.orbit_model.specs.Places.{IsSentPlace, IsReceiverPlace}
 use Rattle.orbit_model.proofs.DistanceCertificates.{turned_far, turned_near, vector_far, vector_near}
 
@@ -24,7 +24,7 @@ small : of_whole (pos 65536) *ʳ two_to_minus 16 ≤ʳ of_whole (pos 1)
 small = le_pos 65536 65536 (lit≤ tt)
 
 -- a place that the Earth has turned
-pub turned_square : (sent : Place) (x : Rational) (turn : Pair) → IsSentPlace sent → IsAnglePair 5 x turn.cos turn.sin → IsBetween 360990000000000 1444030000000000 (square (turned_back turn sent))
+pub turned_square : (sent : Position) (x : Rational) (turn : Pair) → IsSentPlace sent → IsAnglePair 5 x turn.cos turn.sin → IsBetween 360990000000000 1444030000000000 (square (turned_back turn sent))
 turned_square sent x turn h p =
     let near_norm = norm_law_5 x turn.cos turn.sin p in
     record {
@@ -39,7 +39,7 @@ loosely q h = record {
 }
 
 -- the vector from a receiver to a place
-pub vector_square : (place point : Place) → IsBetween 357210000000000 1451610000000000 (square place) → IsReceiverPlace point
+pub vector_square : (place point : Position) → IsBetween 357210000000000 1451610000000000 (square place) → IsReceiverPlace point
     → IsBetween 141000000000000 2040000000000000 (square (difference place point))
 vector_square place point h r = record {
   low = vector_far place.x place.y place.z point.x point.y point.z h.low h.high r.1;

@@ -2,12 +2,12 @@
 use Rattle.std.proofs.Common.{pos}
 use Rattle.whole_math.specs.Rational.{Rational, ◌≤ʳ◌, of_whole, ◌+ʳ◌, ◌-ʳ◌, ◌*ʳ◌, neg_r, IsNearRoot}
 use Rattle.orbit_model.proofs.Orders.{root_r}
-use Rattle.orbit_model.specs.SeenPlaces.{Place, difference, dot, square, IsDisplacement}
+use Rattle.orbit_model.specs.SeenPlaces.{Position, difference, dot, square, IsDisplacement}
 use Rattle.orbit_model.proofs.NearRoots.{root_nn, near_high, near_low}
 use Rattle.orbit_model.proofs.ChangeCertificates.{product_square, range_square, after_square, before_square, times_nn, twice_nn, sum_nn, neg_square}
 
 -- over a displacement the range changes by at most 33/2 m
-pub range_change : (d move : Place) (u v : Rational) → of_whole (pos 100000000000000) ≤ʳ square d → square d ≤ʳ of_whole (pos 2251799813685248) → IsDisplacement move →
+pub range_change : (d move : Position) (u v : Rational) → of_whole (pos 100000000000000) ≤ʳ square d → square d ≤ʳ of_whole (pos 2251799813685248) → IsDisplacement move →
     IsNearRoot u (square d) → IsNearRoot v (square (difference d move)) →
     (of_whole (pos 2) *ʳ v ≤ʳ of_whole (pos 2) *ʳ u +ʳ of_whole (pos 33)) × (of_whole (pos 2) *ʳ u -ʳ of_whole (pos 33) ≤ʳ of_whole (pos 2) *ʳ v)
 range_change d move u v far near m hu hv =

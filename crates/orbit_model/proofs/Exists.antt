@@ -13,7 +13,7 @@ use Rattle.trig_box.specs.AnglePairs.{Pair, doubled, part, IsAnglePair}
 use Rattle.trig_box.specs.CanonicalPairs.{taylor_pair, IsCanonicalPair}
 use Rattle.trig_box.proofs.PairLaws.{canonical_law, canonical_is_pair, size_law_5}
 use Rattle.orbit_model.specs.Elements.{earth_rate}
-use Rattle.orbit_model.specs.SeenPlaces.{Place, difference, square, turned_back, range_of}
+use Rattle.orbit_model.specs.SeenPlaces.{Position, difference, square, turned_back, range_of}
 use Rattle.orbit_model.specs.Places.{HasSeenPlace, IsSentPlace, IsReceiverPlace}
 use Rattle.orbit_model.proofs.NearRoots.{near_root, travel_root}
 use Rattle.orbit_model.proofs.Apart.{IsBetween, turned_square, loosely, vector_square}
@@ -42,7 +42,7 @@ square_nn x y z =
 abbrev pair_at : Rational → Pair
 pair_at t = doubled 5 (taylor_pair (part 5 (earth_rate *ʳ t)))
 
-abbrev gap_at : Place → Place → Rational → Rational
+abbrev gap_at : Position → Position → Rational → Rational
 gap_at sent point t = square (difference (turned_back (pair_at t) sent) point)
 
 -- a time from 0 to 1/6 s
@@ -57,7 +57,7 @@ canonical_at t h = record { in_range = go t.num t.den h.not_negative h.most; cos
     go n d h k = omega (arith, ints)
 
 -- the distances
-pub record AreApart (sent point : Place) : Type 0 where
+pub record AreApart (sent point : Position) : Type 0 where
   pub is_sent : IsSentPlace sent
   pub is_receiver : IsReceiverPlace point
 
@@ -106,13 +106,13 @@ turns a b ha hb o =
     record { cos_up = cosines_near.0; cos_down = cosines_near.1; sin_up = sines_near.0; sin_down = sines_near.1 }
 
 -- each coordinate of the places, and each part of the pairs, at its most
-record AreSized (sent point : Place) : Type 0 where
+record AreSized (sent point : Position) : Type 0 where
   x : (sent.x ≤ʳ of_whole (pos 38000000)) × (neg_r sent.x ≤ʳ of_whole (pos 38000000))
   y : (sent.y ≤ʳ of_whole (pos 38000000)) × (neg_r sent.y ≤ʳ of_whole (pos 38000000))
   p : (point.x ≤ʳ of_whole (pos 7000000)) × (neg_r point.x ≤ʳ of_whole (pos 7000000))
   q : (point.y ≤ʳ of_whole (pos 7000000)) × (neg_r point.y ≤ʳ of_whole (pos 7000000))
 
-sized : (sent point : Place) → AreApart sent point → AreSized sent point
+sized : (sent point : Position) → AreApart sent point → AreSized sent point
 sized sent point h = record {
   x = coordinates sent.x sent.y sent.z 38000000 (along (square sent) 38000000 h.is_sent.1);
   y = coordinates sent.y sent.x sent.z 38000000 (≤ʳ_trans (sent.y *ʳ sent.y +ʳ sent.x *ʳ sent.x +ʳ sent.z *ʳ sent.z) (square sent)
@@ -127,7 +127,7 @@ sized sent point h = record {
     along q b h = ≤ʳ_trans q (of_whole (pos (b * b))) (of_whole (pos b) *ʳ of_whole (pos b)) h (≤ʳ_from_same (of_whole (pos (b * b))) (of_whole (pos b) *ʳ of_whole (pos b)) refl)
 
 -- the squared distance changes slowly with the pair by which the Earth turns
-pub moves_slowly : (sent point : Place) (d x y : Rational) (p q : Pair) → AreApart sent point → IsAnglePair 5 x p.cos p.sin → IsAnglePair 5 y q.cos q.sin → AreTurns d p q
+pub moves_slowly : (sent point : Position) (d x y : Rational) (p q : Pair) → AreApart sent point → IsAnglePair 5 x p.cos p.sin → IsAnglePair 5 y q.cos q.sin → AreTurns d p q
     → square (difference (turned_back q sent) point) -ʳ square (difference (turned_back p sent) point) ≤ʳ of_whole (pos 96672000000000000) *ʳ d
 moves_slowly sent point d x y p q h hp hq t =
     let point_sized = sized sent point h in
@@ -157,7 +157,7 @@ moves_slowly sent point d x y p q h hp hq t =
     (second_size e f sent.x sent.y right_cos_small.0 right_cos_small.1 right_sin_small.0 right_sin_small.1 point_sized.x.0 point_sized.x.1 point_sized.y.0 point_sized.y.1) (second_neg e f sent.x sent.y right_cos_small.0 right_cos_small.1 right_sin_small.0 right_sin_small.1 point_sized.x.0 point_sized.x.1 point_sized.y.0 point_sized.y.1)
     (second_size c s sent.x sent.y left_cos_small.0 left_cos_small.1 left_sin_small.0 left_sin_small.1 point_sized.x.0 point_sized.x.1 point_sized.y.0 point_sized.y.1) (second_neg c s sent.x sent.y left_cos_small.0 left_cos_small.1 left_sin_small.0 left_sin_small.1 point_sized.x.0 point_sized.x.1 point_sized.y.0 point_sized.y.1) point_sized.q.0 point_sized.q.1)
 
-slow : (sent point : Place) (a b : Rational) → AreApart sent point → IsTime a → IsTime b → a ≤ʳ b
+slow : (sent point : Position) (a b : Rational) → AreApart sent point → IsTime a → IsTime b → a ≤ʳ b
     → gap_at sent point a -ʳ gap_at sent point b ≤ʳ of_whole (pos 96672000000000000) *ʳ (b -ʳ a)
 slow sent point a b h ha hb o =
     moves_slowly sent point (b -ʳ a) (earth_rate *ʳ b) (earth_rate *ʳ a) (pair_at b) (pair_at a) h
@@ -166,7 +166,7 @@ slow sent point a b h ha hb o =
 
 -- ---- the bisection
 -- light would be early at the one time and late at the other, which are at most 1/(6·2^n) s apart
-record Bracket (sent point : Place) (n : ℕ) : Type 0 where
+record Bracket (sent point : Position) (n : ℕ) : Type 0 where
   early : Rational
   late : Rational
   early_time : IsTime early
@@ -176,7 +176,7 @@ record Bracket (sent point : Place) (n : ℕ) : Type 0 where
   is_late : gap_at sent point late ≤ʳ of_whole (pos 89875517873681764) *ʳ (late *ʳ late)
   narrow : of_whole (pos (6 * 2 ^ n)) *ʳ (late -ʳ early) ≤ʳ of_whole (pos 1)
 
-gap_bounds : (sent point : Place) (t : Rational) → AreApart sent point → IsTime t → IsBetween 141000000000000 2040000000000000 (gap_at sent point t)
+gap_bounds : (sent point : Position) (t : Rational) → AreApart sent point → IsTime t → IsBetween 141000000000000 2040000000000000 (gap_at sent point t)
 gap_bounds sent point t h i =
     let angle : Rational = earth_rate *ʳ t in
     let is_pair = canonical_is_pair 5 angle (pair_at t).cos (pair_at t).sin (canonical_at t i) in
@@ -192,7 +192,7 @@ last_time : IsTime sixth
 unfolding sixth
 last_time = record { not_negative = le_pos 0 1 (lit≤ tt); most = le_pos 6 6 (lit≤ tt) }
 
-start : (sent point : Place) → AreApart sent point → Bracket sent point 0
+start : (sent point : Position) → AreApart sent point → Bracket sent point 0
 unfolding sixth
 start sent point h = record {
   early = of_whole (pos 0);
@@ -201,7 +201,7 @@ start sent point h = record {
   late_time = last_time;
   ordered = le_pos 0 1 (lit≤ tt);
   is_early =
-      let gap : Place = difference (turned_back (pair_at (of_whole (pos 0))) sent) point in
+      let gap : Position = difference (turned_back (pair_at (of_whole (pos 0))) sent) point in
       zero_early (gap_at sent point (of_whole (pos 0))) (square_nn gap.x gap.y gap.z);
   is_late = at_last (gap_at sent point sixth) sixth (gap_bounds sent point sixth h last_time).high (le_pos 6 6 (lit≤ tt)) last_time.not_negative;
   narrow = le_pos 6 6 (lit≤ tt);
@@ -227,7 +227,7 @@ power_nn n = go (6 * 2 ^ n)
     go : (b : ℕ) → (pos 0 *ℤ pos 1) ≤ℤ (pos b *ℤ pos 1)
     go b = omega (arith, ints)
 
-step : (sent point : Place) (n : ℕ) → Bracket sent point n → Bracket sent point (suc n)
+step : (sent point : Position) (n : ℕ) → Bracket sent point n → Bracket sent point (suc n)
 step sent point n k =
     let early : Rational = k.early in
     let late : Rational = k.late in
@@ -252,12 +252,12 @@ step sent point n k =
     go a b m ta tb tm am mb ea lb w v (inl l) = record { early = a; late = m; early_time = ta; late_time = tm; ordered = am; is_early = ea; is_late = l; narrow = v }
     go a b m ta tb tm am mb ea lb w v (inr e) = record { early = m; late = b; early_time = tm; late_time = tb; ordered = mb; is_early = e; is_late = lb; narrow = w }
 
-bracket : (sent point : Place) → AreApart sent point → (n : ℕ) → Bracket sent point n
+bracket : (sent point : Position) → AreApart sent point → (n : ℕ) → Bracket sent point n
 bracket sent point h zero = start sent point h
 bracket sent point h (suc n) = step sent point n (bracket sent point h n)
 
 -- ---- the law
-found : (sent point : Place) → AreApart sent point → Bracket sent point 80 → HasSeenPlace sent point
+found : (sent point : Position) → AreApart sent point → Bracket sent point 80 → HasSeenPlace sent point
 found sent point h k =
     let early : Rational = k.early in
     let late : Rational = k.late in
@@ -279,5 +279,5 @@ found sent point h k =
       };
     }
 
-pub seen_place_exists : (sent point : Place) → IsSentPlace sent → IsReceiverPlace point → HasSeenPlace sent point
+pub seen_place_exists : (sent point : Position) → IsSentPlace sent → IsReceiverPlace point → HasSeenPlace sent point
 seen_place_exists sent point s r = let are_apart : AreApart sent point = record { is_sent = s; is_receiver = r } in found sent point are_apart (bracket sent point are_apart 80)

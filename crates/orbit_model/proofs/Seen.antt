@@ -3,7 +3,7 @@ use Rattle.std.proofs.Common.{pos, refl, lit≤}
 use Rattle.whole_math.specs.Rational.{Rational, ◌≈◌, ◌≤ʳ◌, of_whole, ◌+ʳ◌, ◌-ʳ◌, ◌*ʳ◌, neg_r}
 use Rattle.whole_math.proofs.RationalLaws.{≈_sym, ≈_trans, ≤ʳ_trans, ≤ʳ_along, add_r-same, add_r-comm, mul_r-same, mul_r-comm, sub_r-is}
 use Rattle.orbit_model.proofs.Orders.{root_r}
-use Rattle.orbit_model.specs.SeenPlaces.{Place, difference, square, turned_back, AreSamePlace, IsSeenPlace, over_light_speed_squared, range_of}
+use Rattle.orbit_model.specs.SeenPlaces.{Position, difference, square, turned_back, AreSamePlace, IsSeenPlace, over_light_speed_squared, range_of}
 use Rattle.orbit_model.specs.Places.{IsSentPlace, IsReceiverPlace, HasLengthBetween}
 use Rattle.orbit_model.proofs.Apart.{IsBetween, turned_square, loosely, vector_square, whole_le}
 use Rattle.orbit_model.proofs.NearRoots.{range_root, near_high, root_nn}
@@ -22,17 +22,17 @@ less_same : (p q r : Rational) → p ≈ q → p -ʳ r ≈ q -ʳ r
 less_same p q r e = ≈_trans (p -ʳ r) (p +ʳ neg_r r) (q -ʳ r) (sub_r-is p r)
     (≈_trans (p +ʳ neg_r r) (q +ʳ neg_r r) (q -ʳ r) (add_r-same p q (neg_r r) e) (≈_sym (q -ʳ r) (q +ʳ neg_r r) (sub_r-is q r)))
 
-pub square_same : (p q : Place) → AreSamePlace p q → square p ≈ square q
+pub square_same : (p q : Position) → AreSamePlace p q → square p ≈ square q
 square_same p q e = add_both (p.x *ʳ p.x +ʳ p.y *ʳ p.y) (q.x *ʳ q.x +ʳ q.y *ʳ q.y) (p.z *ʳ p.z) (q.z *ʳ q.z)
     (add_both (p.x *ʳ p.x) (q.x *ʳ q.x) (p.y *ʳ p.y) (q.y *ʳ q.y) (mul_both p.x q.x p.x q.x e.0 e.0) (mul_both p.y q.y p.y q.y e.1 e.1)) (mul_both p.z q.z p.z q.z e.2 e.2)
 
-pub difference_same : (p q r : Place) → AreSamePlace p q → AreSamePlace (difference p r) (difference q r)
+pub difference_same : (p q r : Position) → AreSamePlace p q → AreSamePlace (difference p r) (difference q r)
 difference_same p q r e = (less_same p.x q.x r.x e.0, less_same p.y q.y r.y e.1, less_same p.z q.z r.z e.2)
 
 -- ---- distances
-pub seen_vector : (sent point seen : Place) (t : Rational) → IsSentPlace sent → IsReceiverPlace point → IsSeenPlace sent point t seen → HasLengthBetween 11800000 45200000 (difference seen point)
+pub seen_vector : (sent point seen : Position) (t : Rational) → IsSentPlace sent → IsReceiverPlace point → IsSeenPlace sent point t seen → HasLengthBetween 11800000 45200000 (difference seen point)
 seen_vector sent point seen t s r h =
-    let turned : Place = turned_back h.turn sent in
+    let turned : Position = turned_back h.turn sent in
     let square_between = vector_square turned point (loosely (square turned) (turned_square sent _ h.turn s h.turn_is)) r in
     let same_square = ≈_sym (square (difference seen point)) (square (difference turned point)) (square_same (difference seen point) (difference turned point) (difference_same seen turned point h.seen_is)) in
     along (square (difference turned point)) (square (difference seen point)) same_square square_between
@@ -45,9 +45,9 @@ seen_vector sent point seen t s r h =
           (≤ʳ_trans p (of_whole (pos 2040000000000000)) (of_whole (pos 2043040000000000)) b.high (whole_le 2040000000000000 2043040000000000 (lit≤ tt))),
     )
 
-pub seen_distance : (sent point seen : Place) (t : Rational) → IsSentPlace sent → IsSeenPlace sent point t seen → HasLengthBetween 18900000 38100000 seen
+pub seen_distance : (sent point seen : Position) (t : Rational) → IsSentPlace sent → IsSeenPlace sent point t seen → HasLengthBetween 18900000 38100000 seen
 seen_distance sent point seen t s h =
-    let turned : Place = turned_back h.turn sent in
+    let turned : Position = turned_back h.turn sent in
     let square_between = loosely (square turned) (turned_square sent _ h.turn s h.turn_is) in
     let same_square = ≈_sym (square seen) (square turned) (square_same seen turned h.seen_is) in (
       ≤ʳ_along (of_whole (pos 357210000000000)) (of_whole (pos 357210000000000)) (square turned) (square seen) refl same_square square_between.low,
@@ -55,10 +55,10 @@ seen_distance sent point seen t s h =
     )
 
 -- ---- the travel time
-pub travel_nn : (sent point seen : Place) (t : Rational) → IsSeenPlace sent point t seen → of_whole (pos 0) ≤ʳ t
+pub travel_nn : (sent point seen : Position) (t : Rational) → IsSeenPlace sent point t seen → of_whole (pos 0) ≤ʳ t
 travel_nn sent point seen t h = root_nn t (over_light_speed_squared (square (difference seen point))) h.travel_is
 
-pub travel_most : (sent point seen : Place) (t : Rational) → IsSentPlace sent → IsReceiverPlace point → IsSeenPlace sent point t seen → of_whole (pos 6) *ʳ t ≤ʳ of_whole (pos 1)
+pub travel_most : (sent point seen : Position) (t : Rational) → IsSentPlace sent → IsReceiverPlace point → IsSeenPlace sent point t seen → of_whole (pos 6) *ʳ t ≤ʳ of_whole (pos 1)
 travel_most sent point seen t s r h =
     let squared : Rational = square (difference seen point) in
     let length_between = seen_vector sent point seen t s r h in

@@ -2,9 +2,9 @@
 ghost use Rattle.std.specs.Prelude.{◌^◌, ◌≤◌, unsigned_abs};
 
 use iv_core::Iv;
-use row_boxes::{
-    Observations, Pseudorange, first_group, first_shift, observations_of, pseudorange_of,
-};
+use obs_rows::Row;
+use row_boxes::{Pseudorange, Sight, first_group, first_shift, observed_row, pseudorange_of};
+use signal_travel::Spread;
 
 // What the two receivers show of one satellite: thousandths of a cycle, and millimetres.
 const AMOUNTS: [i64; 6] = [
@@ -32,13 +32,27 @@ fn base() -> Pseudorange {
     pseudorange(1_443_109_011_456_012_345, -3_377_699_720_527_865)
 }
 
-fn rover() -> Pseudorange {
-    pseudorange(1_443_405_948_993_877_490, -3_377_699_720_526_972)
+fn rover() -> Sight {
+    let (centre, radius) = (9_686_330, 7);
+    Sight {
+        direction: [
+            Spread { centre, radius },
+            Spread {
+                centre: -centre,
+                radius: 8,
+            },
+            Spread {
+                centre: centre + 1,
+                radius,
+            },
+        ],
+        pseudorange: pseudorange(1_443_405_948_993_877_490, -3_377_699_720_526_972),
+    }
 }
 
 #[test]
 fn group_and_shifts(rt: HostRuntime) {
-    let (base, rover) = (base(), rover());
+    let (base, rover) = (base(), rover().pseudorange);
     let shifts = [
         first_shift(0, AMOUNTS[0], GROUP, &base, &rover),
         first_shift(1, AMOUNTS[1], GROUP, &base, &rover),
@@ -48,8 +62,8 @@ fn group_and_shifts(rt: HostRuntime) {
     assert!(rt; shifts == SHIFT);
 }
 
-// Whether the observations' centres are these, to the radius that boxes have.
-fn are_near(found: &Observations, want: [i64; 6], radius: u64) -> bool {
+// Whether the centres of the row's observations are these, to the radius that boxes have.
+fn are_near(found: &Row, want: [i64; 6], radius: u64) -> bool {
     found.ry.unsigned_abs() <= radius
         && found
             .y
@@ -61,16 +75,27 @@ fn are_near(found: &Observations, want: [i64; 6], radius: u64) -> bool {
 #[test]
 fn all_signals(rt: HostRuntime) {
     let signals = [0, 1, 2, 3, 4, 5];
-    let found = observations_of(&signals, &AMOUNTS, GROUP, &SHIFT, &base(), &rover(), 0);
+    let found = observed_row(&signals, 3, &AMOUNTS, GROUP, &SHIFT, &base(), &rover(), 0);
     let want: [i64; 6] = [
         -3_509_286, 4_530_236, -1_165, 33_920_783, -7_173_961, 22_811_494,
     ];
     assert!(rt; found.is_some_and(|found| are_near(&found, want, 470)));
+    assert!(rt; found.is_some_and(|found| found.arc == 3 && found.ru == [7, 8, 7]));
+    assert!(rt; found.is_some_and(|found| found.u == [9_686_330, -9_686_330, 9_686_331]));
 }
 
 #[test]
 fn without_l2(rt: HostRuntime) {
-    let found = observations_of(&[0, 2, 4, 5], &AMOUNTS, GROUP, &SHIFT, &base(), &rover(), 0);
+    let found = observed_row(
+        &[0, 2, 4, 5],
+        3,
+        &AMOUNTS,
+        GROUP,
+        &SHIFT,
+        &base(),
+        &rover(),
+        0,
+    );
     let want: [i64; 6] = [-3_509_286, 0, -1_165, 0, -7_173_961, 22_811_494];
     assert!(rt;
         found.is_some_and(|found| are_near(&found, want, 470) && (found.y[1], found.y[3]) == (0, 0))
@@ -79,6 +104,6 @@ fn without_l2(rt: HostRuntime) {
 
 #[test]
 fn coarse_observations(rt: HostRuntime) {
-    let found = observations_of(&[2], &AMOUNTS, GROUP - 10, &SHIFT, &base(), &rover(), 14);
+    let found = observed_row(&[2], 3, &AMOUNTS, GROUP - 10, &SHIFT, &base(), &rover(), 14);
     assert!(rt; found.is_some_and(|found| are_near(&found, [0, 0, 5, 0, 0, 0], 1)));
 }

@@ -8,11 +8,11 @@ use Rattle.decimal_text.specs.Write.{fixed_text}
 
 -- a number of a move in 0.1 mm
 abbrev pub in_tenths : ℤ → ℤ
-in_tenths m = nearest_div (m *ℤ LIGHT_SPEED) parts
+in_tenths number = nearest_div (number *ℤ LIGHT_SPEED) parts
 
 -- how far a coordinate of the moved point lies from the base's
 abbrev pub from_base : ℤ → ℤ → ℤ → ℤ
-from_base point base m = (point -ℤ base) +ℤ in_tenths m
+from_base point base number = (point -ℤ base) +ℤ in_tenths number
 
 -- the point moved, less the base
 abbrev pub baseline_of : List ℤ → List ℤ → List ℤ → List ℤ

@@ -80,7 +80,8 @@ verdict_text (Full cert) = tail_text cert.session cert.tail
 
 -- the text for err
 abbrev pub outcome_text : Outcome → List ℕ
-outcome_text o = counts_text o.taken o.all o.kept ++ (delta_text o.delta ++ verdict_text o.answer)
+outcome_text outcome =
+    counts_text outcome.taken outcome.all outcome.kept ++ (delta_text outcome.delta ++ verdict_text outcome.answer)
 
 -- whether the run ends with a fix
 abbrev pub is_fixed_tail : Tail → Bool

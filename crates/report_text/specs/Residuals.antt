@@ -22,12 +22,12 @@ use Rattle.cert_data.specs.declared.tails.Tail.{Tail}
 use Rattle.cert_data.specs.declared.tails.Tail.TheVariants.{Fixed, Unseparated}
 
 -- integers and a move at which residuals of these arcs' rows, over these signals, can be computed
-pub record CanShow (arcs : List Arc) (ss : List ℕ) (z m : List ℤ) : Type 0 where
+pub record CanShow (arcs : List Arc) (signals : List ℕ) (z moved : List ℤ) : Type 0 where
   pub free : free_count arcs ≤ MOST_FREE_ARCS
-  pub counted : AreCounted ss
-  pub entries : length z ≡ integer_count arcs ss
+  pub counted : AreCounted signals
+  pub entries : length z ≡ integer_count arcs signals
   pub z_size : All (IsBelow (2 ^ 30)) z
-  pub m_size : All (IsWithin (2 ^ 46)) m
+  pub moved_size : All (IsWithin (2 ^ 46)) moved
 
 -- this number of a row's units of 2^-13 ι is ten times the speed of light in micrometres, since ι is that speed over the unit's
 -- frequency
@@ -40,26 +40,26 @@ micrometres length_times n = nearest_div (length_times *ℤ pos (10 * unsigned_a
 
 -- of one row of a pair, as a signal sees it
 abbrev pub residual : List Arc → List ℕ → List ℤ → List ℤ → List Row → Row → ℕ → ℤ
-residual arcs ss z m rows r s = micrometres ((pos (length rows) *ℤ centre arcs ss z m s r) -ℤ sum (map (centre arcs ss z m s) rows)) (length rows)
+residual arcs signals z moved rows r s = micrometres ((pos (length rows) *ℤ centre arcs signals z moved s r) -ℤ sum (map (centre arcs signals z moved s) rows)) (length rows)
 
 -- the residuals of a row, as each signal that counts sees it
 abbrev pub residuals : List Arc → List ℕ → List ℤ → List ℤ → List Row → Row → List ℤ
-residuals arcs ss z m rows r = map (residual arcs ss z m rows r) ss
+residuals arcs signals z moved rows r = map (residual arcs signals z moved rows r) signals
 
 abbrev pub row_line : ℕ → ℕ → List ℤ → List ℕ
 row_line number arc rs = decimal number ++ (codes " " ++ (decimal arc ++ (behind_blanks rs ++ 10 ∷ [])))
 
 -- each row of a pair on a line of its own
 abbrev pub rows_text : List Arc → List ℕ → List ℤ → List ℤ → ℕ → List Row → List Row → List ℕ
-rows_text arcs ss z m number rows [] = []
-rows_text arcs ss z m number rows (r ∷ rest) = row_line number r.arc (residuals arcs ss z m rows r) ++ rows_text arcs ss z m number rows rest
+rows_text arcs signals z moved number rows [] = []
+rows_text arcs signals z moved number rows (r ∷ rest) = row_line number r.arc (residuals arcs signals z moved rows r) ++ rows_text arcs signals z moved number rows rest
 
 abbrev pub pairs_text : List Arc → List ℕ → List ℤ → List ℤ → List PairRows → List ℕ
-pairs_text arcs ss z m [] = []
-pairs_text arcs ss z m (p ∷ pairs) = rows_text arcs ss z m p.number p.rows p.rows ++ pairs_text arcs ss z m pairs
+pairs_text arcs signals z moved [] = []
+pairs_text arcs signals z moved (p ∷ pairs) = rows_text arcs signals z moved p.number p.rows p.rows ++ pairs_text arcs signals z moved pairs
 
 abbrev pub session_text : Session → List ℤ → List ℤ → List ℕ
-session_text s z m = pairs_text s.arcs (fine_signals s.signals) z m s.pairs
+session_text s z moved = pairs_text s.arcs (fine_signals s.signals) z moved s.pairs
 
 -- whether a tail has vectors
 abbrev pub has_vectors : Tail → Bool

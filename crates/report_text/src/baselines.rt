@@ -19,7 +19,7 @@ fn in_tenths(number: i64) -> i64
     nearest(number as i128 * LIGHT_SPEED as i128, MOVE_DIVISOR) as i64
 }
 
-fn apart(point: i64, base: i64) -> i64
+fn coordinate_difference(point: i64, base: i64) -> i64
     requires point { IsWithin MOST_COORDINATE point }
     requires base { IsWithin MOST_COORDINATE base }
     ensures value { result ≡ point -ℤ base }
@@ -35,7 +35,7 @@ fn from_base(point: i64, base: i64, number: i64) -> i64
     requires number { IsBelow (2 ^ 46) number }
     ensures { result ≡ from_base point base number }
 {
-    apart(point, base) + in_tenths(number)
+    coordinate_difference(point, base) + in_tenths(number)
 }
 
 // The point moved, less the base.

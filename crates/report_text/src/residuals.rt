@@ -37,7 +37,7 @@ fn micrometres(times: i128, count: usize) -> i128
     nearest(times * MICROMETRES, count as i128 * ROW_UNITS)
 }
 
-fn plus(sum: i128, more: i64) -> i128
+fn with_centre(sum: i128, more: i64) -> i128
     requires sum { unsigned_abs sum ≤ 14 * 2 ^ 57 }
     requires more { unsigned_abs more ≤ 2 ^ 57 }
     ensures value { result ≡ sum +ℤ more }
@@ -46,8 +46,8 @@ fn plus(sum: i128, more: i64) -> i128
     sum + more as i128
 }
 
-// n · own - all
-fn apart(count: usize, own: i64, all: i128) -> i128
+// How far a row's own number lies from the mean of its pair, times the count: n · own - all.
+fn scaled_deviation(count: usize, own: i64, all: i128) -> i128
     requires count { count ≤ 15 }
     requires own { unsigned_abs own ≤ 2 ^ 57 }
     requires all { unsigned_abs all ≤ 15 * 2 ^ 57 }
@@ -76,7 +76,7 @@ fn sum_of(
 {
     let mut sum: i128 = 0;
     for row in rows {
-        sum = plus(sum, centre_of(arcs, signals, z, moved, row, signal));
+        sum = with_centre(sum, centre_of(arcs, signals, z, moved, row, signal));
     }
     sum
 }
@@ -101,7 +101,7 @@ fn residual_of(
 {
     let all = sum_of(arcs, signals, z, moved, rows, signal);
     let own = centre_of(arcs, signals, z, moved, row, signal);
-    micrometres(apart(rows.len(), own, all), rows.len())
+    micrometres(scaled_deviation(rows.len(), own, all), rows.len())
 }
 
 // Each number after one blank.

@@ -1,9 +1,15 @@
 -- Where no integers are counted, the front of a normal matrix is the whole elimination, and its baseline is the float point.
-use Rattle.std.proofs.Common.{◌≡◌, ℕ, zero, suc, ◌-◌, ◌≤◌, List, [], ◌∷◌, ℤ, pos, Bool, true, false, Ok, Err, slice_index_or, arith, refl, sym, ap, subst, ◌∙◌}
+use Rattle.std.proofs.Common.{◌≡◌, ℕ, zero, suc, ◌+◌, ◌*◌, ◌-◌, ◌≤◌, List, [], ◌∷◌, ℤ, pos, Bool, true, false, Ok, Err, slice_index_or, arith, refl, sym, ap, subst, ◌∙◌}
 use Rattle.quadratic_form.specs.Forms.{Column}
 use Rattle.quadratic_form.specs.Elimination.{Factor, wide_entry, form_small, steps, StepsAnswer}
 use Rattle.quadratic_form.specs.Lowering.{IsExponent}
 use Rattle.quadratic_form.specs.Tables.{entry}
+use Rattle.obs_rows.specs.declared.arcs.Arc.{Arc}
+use Rattle.obs_rows.specs.declared.bands.Signals.{Signals}
+use Rattle.obs_rows.specs.declared.units.TheConstants.{COARSE_SCALE}
+use Rattle.obs_rows.specs.Arcs.{free_count}
+use Rattle.obs_rows.specs.Integers.{integer_count}
+use Rattle.obs_rows.specs.Signals.{counted}
 use Rattle.normal_sum.specs.declared.normal.Normal.{Normal}
 use Rattle.integer_form.specs.declared.front_form.FrontForm.{FrontForm}
 use Rattle.integer_form.specs.declared.form.Form.{Form}
@@ -102,3 +108,10 @@ numbers_of_front n r a four =
       };
       numbers = same_numbers r.columns r.d r.l four_columns;
     }
+
+-- a coarse session counts none
+pub coarse_columns : (arcs : List Arc) (signals : Signals) (scale : ℕ) → scale ≡ COARSE_SCALE → 4 + integer_count arcs (counted signals scale) ≡ 4
+coarse_columns arcs signals scale e = subst (λ (s : ℕ). 4 + integer_count arcs (counted signals s) ≡ 4) (sym e) (none (free_count arcs))
+  where
+    none : (n : ℕ) → 4 + 0 * n ≡ 4
+    none n = omega arith

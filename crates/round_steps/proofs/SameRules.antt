@@ -7,13 +7,13 @@ use Rattle.cert_data.specs.declared.outcomes.RoundCounts.{RoundCounts}
 use Rattle.cert_data.specs.declared.outcomes.Stage.{Stage}
 use Rattle.cert_data.specs.declared.tails.Tail.{Tail}
 use Rattle.round_steps.specs.declared.runs.RunEnd.{RunEnd}
-use Rattle.round_steps.specs.Runs.{Rules, StayTheSame, IsSessionAt, LeadsTo, IsRunTo, Reaches, EndsAt, EndsEarly, EndsFull, SettlesAt, IsEnd}
+use Rattle.round_steps.specs.Runs.{Rules, AreSameRules, IsSessionAt, LeadsTo, IsRunTo, Reaches, EndsAt, EndsEarly, EndsFull, SettlesAt, IsEnd}
 use Rattle.obs_rows.specs.Rounds.{Round, round_of, coarse}
 
-pub stays : (rules : Rules) → StayTheSame rules rules
+pub stays : (rules : Rules) → AreSameRules rules rules
 stays rules = record { base = refl; arcs = refl; signals = refl; stands = λ s. (λ h. h, λ h. h); begins = λ point arcs. (λ h. h, λ h. h); may_be_wide = λ r. (λ h. h, λ h. h) }
 
-pub stays_on : (first old new : Rules) → StayTheSame first old → StayTheSame old new → StayTheSame first new
+pub stays_on : (first old new : Rules) → AreSameRules first old → AreSameRules old new → AreSameRules first new
 stays_on first old new before then = record {
   base = then.base ∙ before.base;
   arcs = then.arcs ∙ before.arcs;
@@ -23,7 +23,7 @@ stays_on first old new before then = record {
   may_be_wide = λ r. (λ h. (before.may_be_wide r).0 ((then.may_be_wide r).0 h), λ h. (then.may_be_wide r).1 ((before.may_be_wide r).1 h));
 }
 
-pub stayed : (old new : Rules) → StayTheSame old new → StayTheSame new old
+pub stayed : (old new : Rules) → AreSameRules old new → AreSameRules new old
 stayed old new same = record {
   base = sym same.base;
   arcs = sym same.arcs;
@@ -34,11 +34,11 @@ stayed old new same = record {
 }
 
 -- a session of the run as it is now is one of the run as it began
-pub same_session : (first now : Rules) → StayTheSame first now → (r : Round) (o : Option Session) → IsSessionAt now r o → IsSessionAt first r o
+pub same_session : (first now : Rules) → AreSameRules first now → (r : Round) (o : Option Session) → IsSessionAt now r o → IsSessionAt first r o
 same_session first now same r (Some s) at = record { stands = (same.stands s).0 at.stands; signals_are = at.signals_are ∙ same.signals; round_is = at.round_is }
 same_session first now same r None at = (same.may_be_wide r).0 at
 
-leads : (old new : Rules) → StayTheSame old new → (s : Session) (r : Round) → LeadsTo old s r → LeadsTo new s r
+leads : (old new : Rules) → AreSameRules old new → (s : Session) (r : Round) → LeadsTo old s r → LeadsTo new s r
 leads old new same s r (inl moves) = inl moves
 leads old new same s r (inr (inl begun)) = inr (inl (record {
   is_coarse = begun.is_coarse;
@@ -50,13 +50,13 @@ leads old new same s r (inr (inl begun)) = inr (inl (record {
 }))
 leads old new same s r (inr (inr moves)) = inr (inr moves)
 
-runs : (old new : Rules) → StayTheSame old new → (before : List Session) (r : Round) → IsRunTo old before r → IsRunTo new before r
+runs : (old new : Rules) → AreSameRules old new → (before : List Session) (r : Round) → IsRunTo old before r → IsRunTo new before r
 runs old new same [] r first =
     subst (λ (base : List ℤ). r ≡ coarse base new.arcs) (sym same.base) (subst (λ (arcs : List Arc). r ≡ coarse old.base arcs) (sym same.arcs) first)
 runs old new same (s ∷ before) r run =
     (runs old new same before (round_of s) run.0, ((same.stands s).1 run.1.0, leads old new same s r run.1.1))
 
-reaches : (old new : Rules) → StayTheSame old new → (made : RoundCounts) (before : List Session) (r : Round) → Reaches old made before r → Reaches new made before r
+reaches : (old new : Rules) → AreSameRules old new → (made : RoundCounts) (before : List Session) (r : Round) → Reaches old made before r → Reaches new made before r
 reaches old new same made before r reached = record {
   run = runs old new same before r reached.run;
   coarse_made = reached.coarse_made;
@@ -65,7 +65,7 @@ reaches old new same made before r reached = record {
   few_fine = reached.few_fine;
 }
 
-pub settles : (old new : Rules) → StayTheSame old new → (made : ℕ) (point : List ℤ) → SettlesAt old made point → SettlesAt new made point
+pub settles : (old new : Rules) → AreSameRules old new → (made : ℕ) (point : List ℤ) → SettlesAt old made point → SettlesAt new made point
 settles old new same made point at = record {
   before = at.before;
   session = at.session;
@@ -78,7 +78,7 @@ settles old new same made point at = record {
   in_reach = at.in_reach;
 }
 
-ends_at : (old new : Rules) → StayTheSame old new → (made : RoundCounts) (s : Session) (tail : Tail) → EndsAt old made s tail → EndsAt new made s tail
+ends_at : (old new : Rules) → AreSameRules old new → (made : RoundCounts) (s : Session) (tail : Tail) → EndsAt old made s tail → EndsAt new made s tail
 ends_at old new same made s tail at = record {
   before = at.before;
   reached = reaches old new same made at.before (round_of s) at.reached;
@@ -86,7 +86,7 @@ ends_at old new same made s tail at = record {
   declined = at.declined;
 }
 
-ends_early : (old new : Rules) → StayTheSame old new → (made : RoundCounts) (stage : Stage) (tail : Tail) → EndsEarly old made stage tail → EndsEarly new made stage tail
+ends_early : (old new : Rules) → AreSameRules old new → (made : RoundCounts) (stage : Stage) (tail : Tail) → EndsEarly old made stage tail → EndsEarly new made stage tail
 ends_early old new same made stage tail (inl wide) = inl (
   wide.0,
   record {
@@ -106,7 +106,7 @@ ends_early old new same made stage tail (inr declined) = inr (
   },
 )
 
-ends_full : (old new : Rules) → StayTheSame old new → (ratio budget : ℕ) (made : RoundCounts) (s : Session) (tail : Tail)
+ends_full : (old new : Rules) → AreSameRules old new → (ratio budget : ℕ) (made : RoundCounts) (s : Session) (tail : Tail)
     → EndsFull old ratio budget made s tail → EndsFull new ratio budget made s tail
 ends_full old new same ratio budget made s tail (fine, inl declined) = (fine, inl (ends_at old new same made s tail declined))
 ends_full old new same ratio budget made s tail (fine, inr decided) = (
@@ -119,6 +119,6 @@ ends_full old new same ratio budget made s tail (fine, inr decided) = (
   }),
 )
 
-pub ends : (old new : Rules) → StayTheSame old new → (ratio budget : ℕ) (end : RunEnd) → IsEnd old ratio budget end → IsEnd new ratio budget end
+pub ends : (old new : Rules) → AreSameRules old new → (ratio budget : ℕ) (end : RunEnd) → IsEnd old ratio budget end → IsEnd new ratio budget end
 ends old new same ratio budget (RunEnd.Early made stage tail) h = ends_early old new same made stage tail h
 ends old new same ratio budget (RunEnd.Full made s tail) h = ends_full old new same ratio budget made s tail h

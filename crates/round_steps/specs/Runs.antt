@@ -43,7 +43,7 @@ pub record MayBegin (rules : Rules) (made : ℕ) (arcs : List Arc) (base : List 
   pub used : All (HasUsedShifts (fine_signals rules.signals)) arcs
 
 -- what a run keeps to, before and after one of its sessions was made
-pub record StayTheSame (old new : Rules) : Type 0 where
+pub record AreSameRules (old new : Rules) : Type 0 where
   pub base : new.base ≡ old.base
   pub arcs : new.arcs ≡ old.arcs
   pub signals : new.signals ≡ old.signals

@@ -3,8 +3,9 @@
 ghost use Rattle.std.specs.Prelude.{◌≡◌, ℕ, Bool, IfOk, IfErr};
 ghost use Rattle.normal_sum.specs.Normals.{IsNormalOf};
 ghost use Rattle.obs_rows.specs.Signals.{counted};
+ghost use Rattle.obs_rows.specs.declared.units.TheConstants.{COARSE_SCALE};
 ghost use Rattle.integer_form.specs.FloatPoint.{item};
-ghost use Rattle.lower_form.specs.Rooms.{IsClean};
+ghost use Rattle.lower_form.specs.CleanSteps.{IsClean};
 ghost use Rattle.round_steps.specs.Steps.{IsFloatOf, IsCoarseStep, IsRoundDeclined};
 
 use crate::limits::first_over;
@@ -12,7 +13,7 @@ use crate::points::moved_point;
 use cert_check::tail_of;
 use cert_data::Tail;
 use integer_form::Place;
-use lower_form::{FrontForm, FrontRoom, lower, refill_front};
+use lower_form::{BaselineSteps, FrontForm, refill_front};
 use normal_sum::{Normal, refill_sum};
 use obs_rows::{Session, is_receiver_point};
 use quadratic_form::{BASELINE_COLUMNS, FormTable, MOST_FACTORS};
@@ -21,7 +22,7 @@ use quadratic_form::{BASELINE_COLUMNS, FormTable, MOST_FACTORS};
 #[derive(Clone, Copy, Debug)]
 pub(crate) struct CoarseTables {
     normal: Normal,
-    steps: FrontRoom,
+    steps: BaselineSteps,
     front: FrontForm,
     pub ghost clean: { IsClean 4 steps },
     pub ghost columns: { front.columns ≡ 4 },
@@ -30,7 +31,7 @@ pub(crate) struct CoarseTables {
 impl CoarseTables {
     /// Tables that no round has used.
     pub(crate) fn empty() -> CoarseTables {
-        let steps = FrontRoom::empty();
+        let steps = BaselineSteps::empty();
         let front = FrontForm::of(BASELINE_COLUMNS + 1, 0, &FormTable::zeros());
         CoarseTables {
             normal: Normal::empty(),
@@ -71,33 +72,14 @@ fn numbers_by_front(
     }
 }
 
-/// The numbers of the float point, by the whole form.
-fn numbers_by_form(session: &Session, normal: &Normal) -> Result<[i64; MOST_FACTORS], Tail>
-    requires of_rows { IsNormalOf session.now.arcs
-        (counted session.now.signals session.now.scale) session.now.pairs normal.now }
-    ensures float { IfOk result (λ x. IsFloatOf session.now x) }
-    ensures refused { IfErr result (λ t. (last : Bool) → IsRoundDeclined last session.now t) }
-{
-    match lower(normal) {
-        Ok(ref form) => match form.float_of() {
-            Ok(numbers) => Ok(numbers),
-            Err(fault) => Err(Tail::Overwidth { place: fault.place }),
-        },
-        Err(fault) => Err(tail_of(fault)),
-    }
-}
-
-/// The numbers of the float point of a session, in the tables of an earlier one.
+/// The numbers of the float point of a coarse session, in the tables of an earlier one.
 fn numbers_of(session: &Session, tables: &mut CoarseTables) -> Result<[i64; MOST_FACTORS], Tail>
+    requires coarse { session.now.scale ≡ COARSE_SCALE }
     ensures float { IfOk result (λ x. IsFloatOf session.now x) }
     ensures refused { IfErr result (λ t. (last : Bool) → IsRoundDeclined last session.now t) }
 {
     refill_sum(&mut tables.normal, session);
-    if tables.normal.columns == BASELINE_COLUMNS + 1 {
-        numbers_by_front(session, tables)
-    } else {
-        numbers_by_form(session, &tables.normal)
-    }
+    numbers_by_front(session, tables)
 }
 
 /// What a coarse round makes of its session, or the tail with which it ends the run: the point where it moves to, or `None`
@@ -108,6 +90,7 @@ pub(crate) fn coarse_step(
     tables: &mut CoarseTables,
     last: bool,
 ) -> Result<Option<[i64; 3]>, Tail>
+    requires coarse { session.now.scale ≡ COARSE_SCALE }
     ensures step { IfOk result (IsCoarseStep last session.now) }
     ensures declined { IfErr result (IsRoundDeclined last session.now) }
 {

@@ -1,6 +1,6 @@
 //! What a round of a run makes of its session: the point that it moves to, the shifts that grow, or why it ends the run.
 //!
-//! `run` takes what gives the sessions of a run (a `Rounds`) and answers how the run of rounds ends and how many
+//! `run_rounds` takes what gives the sessions of a run (a `Rounds`) and answers how the run of rounds ends and how many
 //! rounds it had (`RunEnd`): the first round is coarse and at the base, each round leads to the next by the rules, in
 //! every run at most ten are coarse and at most six fine, and the last one ends the run as it has to (clause `end`), on a
 //! fine session in one way alone (`IsOnlyEnd`).
@@ -25,6 +25,6 @@ mod steps;
 pub use constants::limits_law;
 pub use counts::{LEAST_SATELLITES, are_few, are_many, free_count, held};
 pub use obs_rows::is_receiver_point;
-pub use runs::{CoarseEnd, Rounds, RunEnd, coarse_rounds, run};
+pub use runs::{CoarseEnd, Rounds, RunEnd, coarse_rounds, run_rounds};
 pub use shifts::grown;
 pub use steps::{Step, round_step};

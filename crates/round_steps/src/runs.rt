@@ -8,7 +8,7 @@ ghost use Rattle.obs_rows.specs.declared.units.TheConstants.{COARSE_SCALE, MOST_
 ghost use Rattle.obs_rows.specs.ReceiverPoints.{IsReceiverPoint};
 ghost use Rattle.obs_rows.specs.declared.limits.TheConstants.{MOST_RATIO, MOST_ARCS};
 ghost use Rattle.round_steps.specs.Shifts.{AreSameArcs, AreShiftsBelow};
-ghost use Rattle.round_steps.specs.Runs.{Rules, MayBegin, StayTheSame, IsSessionAt, SettlesAt, IsCoarseEnd, IsEnd, FitsEnd, IsBestEnd, round_at, most_rounds, coarse_sessions, sessions_of};
+ghost use Rattle.round_steps.specs.Runs.{Rules, MayBegin, AreSameRules, IsSessionAt, SettlesAt, IsCoarseEnd, IsEnd, FitsEnd, IsBestEnd, round_at, most_rounds, coarse_sessions, sessions_of};
 
 use crate::coarse::{CoarseTables, coarse_step};
 use crate::{Step, grown, round_step};
@@ -46,7 +46,7 @@ pub trait Rounds {
         requires used { All (HasUsedShifts (fine_signals (rules self.old).signals)) arcs.now }
         ensures session { IfOk result
             (IsSessionAt (rules self.old) (round_at scale point.now arcs.now)) }
-        ensures rules { StayTheSame (rules self.old) (rules self.new) }
+        ensures rules { AreSameRules (rules self.old) (rules self.new) }
         ensures ready { ready self.new }
         ensures made { made self.new ≡ made self.old + 1 };
 
@@ -105,7 +105,7 @@ pub fn coarse_rounds<R: Rounds>(
     requires ready { R.ready rounds.old }
     requires begins { MayBegin (R.rules rounds.old) (R.made rounds.old) arcs.now base.now }
     ensures end { IfOk result (IsCoarseEnd (R.rules rounds.old)) }
-    ensures rules { StayTheSame (R.rules rounds.old) (R.rules rounds.new) }
+    ensures rules { AreSameRules (R.rules rounds.old) (R.rules rounds.new) }
     ensures ready { R.ready rounds.new }
     ensures made { IfOk result (λ end. R.made rounds.new ≡ coarse_sessions end) }
 {
@@ -196,7 +196,7 @@ fn fine_rounds<R: Rounds>(
 }
 
 /// The rounds of a run, to its end. One session is made for each, and no other.
-pub fn run<R: Rounds>(
+pub fn run_rounds<R: Rounds>(
     alloc: Global,
     rounds: &mut R,
     arcs: &[Arc],

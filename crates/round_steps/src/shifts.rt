@@ -87,7 +87,7 @@ fn grown_arc(
 }
 
 /// The arcs with their shifts grown by a float point over these signals: that of each integer which is over three quarters of
-/// a cycle, by the nearest whole number of cycles. `run` calls it; that it is public serves tests alone.
+/// a cycle, by the nearest whole number of cycles. `run_rounds` calls it; that it is public serves tests alone.
 pub fn grown(
     alloc: Global,
     arcs: &[Arc],

@@ -57,7 +57,7 @@ fn solve(session: &Session) -> Result<Solved, Tail>
 
 /// What a round makes of its session, or the tail with which it ends the run.
 ///
-/// `last` says that no further round at its scale is allowed, so that one that isn't settled ends the run. `run` calls it for
+/// `last` says that no further round at its scale is allowed, so that one that isn't settled ends the run. `run_rounds` calls it for
 /// its fine rounds, and no other crate does.
 pub fn round_step(session: &Session, last: bool) -> Result<Step, Tail>
     ensures step { IfOk result (IsStep last session.now) }

@@ -2,7 +2,7 @@
 use Rattle.std.specs.Prelude.{List, ℤ}
 use Rattle.iv_core.specs.Intervals.{Holds}
 use Rattle.sv_orbit.specs.declared.place.SvBox.{SvBox}
-use Rattle.orbit_model.specs.SeenPlaces.{Place, IsSeenPlace, place_at}
+use Rattle.orbit_model.specs.SeenPlaces.{Position, IsSeenPlace, place_at}
 use Rattle.orbit_model.specs.Places.{HasSeenPlace, HoldsPlace}
 use Rattle.row_boxes.specs.Sightings.{Sighting}
 
@@ -16,4 +16,4 @@ pub record IsSighting (sv : SvBox) (point : List ℤ) (s : Sighting) : Type 0 wh
 pub record HasSighting (sv : SvBox) (point : List ℤ) : Type 0 where
   pub sighting : Sighting
   pub is : IsSighting sv point sighting
-  pub every : (sent : Place) → HoldsPlace sv.place sent → HasSeenPlace sent (place_at point)
+  pub every : (sent : Position) → HoldsPlace sv.place sent → HasSeenPlace sent (place_at point)

@@ -5,6 +5,7 @@ use Rattle.sv_orbit.specs.declared.place.SvBox.{SvBox}
 use Rattle.orbit_model.specs.SeenPlaces.{range_of}
 use Rattle.obs_rows.specs.declared.units.TheConstants.{ROW_EXPONENT}
 use Rattle.obs_rows.specs.Data.{number_at}
+use Rattle.obs_rows.specs.declared.signal_names.TheConstants.{L1_CODE}
 use Rattle.obs_rows.specs.Signals.{wavelength, band}
 use Rattle.row_boxes.specs.Terms.{prefit_width, pseudorange, iota_exponent}
 use Rattle.row_boxes.specs.Sightings.{Sighting, y_in_rows}
@@ -45,7 +46,7 @@ HoldsY p scale s amount group shift centre radius = (base rover : Sighting) → 
 -- the box of each of these signals; its amount and its centre are those in its place, its shift that of its band, and all have
 -- one radius
 abbrev pub HoldsYs : Pairing → List ℕ → ℕ → List ℤ → ℤ → List ℤ → List ℤ → ℤ → Type 0
-HoldsYs p ss scale amounts group shift y ry = All (λ s. HoldsY p scale s (number_at amounts s) group (number_at shift (band s)) (number_at y s) ry) ss
+HoldsYs p signals scale amounts group shift y ry = All (λ s. HoldsY p scale s (number_at amounts s) group (number_at shift (band s)) (number_at y s) ry) signals
 
 -- the greatest radius of a y box that is made here: half of the greatest width, which is 940 of the fine unit and 2 of the coarse
 -- one, rounded up
@@ -66,7 +67,7 @@ pub record IsGroupUpTo (most : ℤ) (p : Pairing) (scale : ℕ) (amount group : 
   pub centre : ℤ
   pub radius : ℤ
   pub narrow : radius ≤ℤ most
-  pub holds : HoldsY p scale 2 amount group (pos 0) centre radius
+  pub holds : HoldsY p scale L1_CODE amount group (pos 0) centre radius
   pub meets : MeetsOne scale centre radius
 
 -- such a group by a box that is as narrow as those that are made here
@@ -90,10 +91,10 @@ pub record HasFarY (p : Pairing) (scale s : ℕ) (amount group shift : ℤ) : Ty
   pub far : IsFar (y_in_rows scale s amount group shift base rover)
 
 -- of some of these signals
-pub record HasFarSignal (p : Pairing) (ss : List ℕ) (scale : ℕ) (amounts : List ℤ) (group : ℤ) (shift : List ℤ) : Type 0 where
+pub record HasFarSignal (p : Pairing) (signals : List ℕ) (scale : ℕ) (amounts : List ℤ) (group : ℤ) (shift : List ℤ) : Type 0 where
   pub signal : ℕ
   pub place : ℕ
-  pub counts : slice_get ss place ≡ Some signal
+  pub counts : slice_get signals place ≡ Some signal
   pub far : HasFarY p scale signal (number_at amounts signal) group (number_at shift (band signal))
 
 -- ---- what is nearest

@@ -12,7 +12,7 @@ ghost use Rattle.row_boxes.specs.Sightings.{observed};
 use crate::Pseudorange;
 use crate::pseudoranges::{HALF_LIGHT_SPEED, over_half_light_speed};
 use crate::y_boxes::IOTA_EXPONENT;
-use obs_rows::{UNIT_FREQUENCY, WAVELENGTHS};
+use obs_rows::{L1_PHASE, L2_PHASE, L5_PHASE, UNIT_FREQUENCY, WAVELENGTHS};
 
 /// Observed less computed of one signal, the rover's less the base's, in 2^-15 ι, from `lo` to `hi`.
 #[derive(Clone, Copy, Debug)]
@@ -26,13 +26,13 @@ pub struct Prefit {
 }
 
 /// The wavelength on L1, in 2^-15 ι.
-pub const L1_CYCLE: i128 = (WAVELENGTHS[0] as i128) << IOTA_EXPONENT;
+pub const L1_CYCLE: i128 = (WAVELENGTHS[L1_PHASE] as i128) << IOTA_EXPONENT;
 
-/// That on L2.
-pub const L2_CYCLE: i128 = (WAVELENGTHS[1] as i128) << IOTA_EXPONENT;
+/// The wavelength on L2, in 2^-15 ι.
+pub const L2_CYCLE: i128 = (WAVELENGTHS[L2_PHASE] as i128) << IOTA_EXPONENT;
 
-/// That on L5.
-pub const L5_CYCLE: i128 = (WAVELENGTHS[4] as i128) << IOTA_EXPONENT;
+/// The wavelength on L5, in 2^-15 ι.
+pub const L5_CYCLE: i128 = (WAVELENGTHS[L5_PHASE] as i128) << IOTA_EXPONENT;
 
 /// One millimetre is `MILLIMETRE_UNITS` / `HALF_LIGHT_SPEED` units of 2^-15 ι.
 pub const MILLIMETRE_UNITS: i128 = (UNIT_FREQUENCY as i128 / 2000) << IOTA_EXPONENT;
@@ -44,7 +44,7 @@ const CODE_OFFSET: i64 = (HALF_LIGHT_SPEED as i64) << 21;
 
 // A box of one number, in 2^-15 ι.
 #[derive(Clone, Copy)]
-struct Observed {
+struct ObservedBox {
     lo: i128,
     hi: i128,
     ghost ordered: { lo ≤ℤ hi },
@@ -52,23 +52,23 @@ struct Observed {
 }
 
 // A box of a whole number
-fn whole_box(whole: i128) -> Observed
+fn whole_box(whole: i128) -> ObservedBox
     ensures low { result.lo ≡ whole }
     ensures high { result.hi ≡ whole }
 {
-    Observed {
+    ObservedBox {
         lo: whole,
         hi: whole,
     }
 }
 
 // A box from a whole number to the next
-fn step_box(low: i128) -> Observed
+fn step_box(low: i128) -> ObservedBox
     requires { unsigned_abs low ≤ 2 ^ 67 }
     ensures low { result.lo ≡ low }
     ensures high { result.hi ≡ low +ℤ pos 1 }
 {
-    Observed {
+    ObservedBox {
         lo: low,
         hi: low + 1,
     }
@@ -86,7 +86,7 @@ fn l1_below(amount: i64) -> i128
 }
 
 // amount · L1_CYCLE / 1000
-fn l1_box(amount: i64) -> Observed
+fn l1_box(amount: i64) -> ObservedBox
     requires { unsigned_abs amount < 2 ^ 48 }
     ensures low { IsFloor (amount *ℤ L1_CYCLE) 1000 result.lo }
     ensures high { IsCeil (amount *ℤ L1_CYCLE) 1000 result.hi }
@@ -110,7 +110,7 @@ fn l2_below(amount: i64) -> i128
 }
 
 // amount · L2_CYCLE / 1000
-fn l2_box(amount: i64) -> Observed
+fn l2_box(amount: i64) -> ObservedBox
     requires { unsigned_abs amount < 2 ^ 48 }
     ensures low { IsFloor (amount *ℤ L2_CYCLE) 1000 result.lo }
     ensures high { IsCeil (amount *ℤ L2_CYCLE) 1000 result.hi }
@@ -134,7 +134,7 @@ fn l5_below(amount: i64) -> i128
 }
 
 // amount · L5_CYCLE / 1000
-fn l5_box(amount: i64) -> Observed
+fn l5_box(amount: i64) -> ObservedBox
     requires { unsigned_abs amount < 2 ^ 48 }
     ensures low { IsFloor (amount *ℤ L5_CYCLE) 1000 result.lo }
     ensures high { IsCeil (amount *ℤ L5_CYCLE) 1000 result.hi }
@@ -160,7 +160,7 @@ fn code_below(amount: i64) -> i128
 }
 
 // amount · MILLIMETRE_UNITS / HALF_LIGHT_SPEED
-fn code_box(amount: i64) -> Observed
+fn code_box(amount: i64) -> ObservedBox
     requires { unsigned_abs amount < 2 ^ 48 }
     ensures low { IsFloor (amount *ℤ MILLIMETRE_UNITS) HALF_LIGHT_SPEED result.lo }
     ensures high { IsCeil (amount *ℤ MILLIMETRE_UNITS) HALF_LIGHT_SPEED result.hi }
@@ -174,7 +174,7 @@ fn code_box(amount: i64) -> Observed
 }
 
 // In thousandths of a cycle, or in mm.
-fn observed_box(signal: usize, amount: i64) -> Observed
+fn observed_box(signal: usize, amount: i64) -> ObservedBox
     requires signal { signal < SIGNALS }
     requires size { unsigned_abs amount < 2 ^ 48 }
     ensures holds { InBox iota_exponent result.lo result.hi (observed signal amount) }
@@ -186,15 +186,15 @@ fn observed_box(signal: usize, amount: i64) -> Observed
         unsigned_abs result.lo ≤ 2 ^ 56 }
 {
     match signal {
-        0 => l1_box(amount),
-        1 => l2_box(amount),
-        4 => l5_box(amount),
+        L1_PHASE => l1_box(amount),
+        L2_PHASE => l2_box(amount),
+        L5_PHASE => l5_box(amount),
         _ => code_box(amount),
     }
 }
 
 // observed - (rover - base)
-fn less(observed: i128, rover: i64, base: i64) -> i128
+fn less_computed(observed: i128, rover: i64, base: i64) -> i128
     requires observed { unsigned_abs observed ≤ 2 ^ 67 }
     requires rover { unsigned_abs rover ≤ 2 ^ 55 }
     requires base { unsigned_abs base ≤ 2 ^ 55 }
@@ -217,7 +217,7 @@ pub fn prefit_of(signal: usize, amount: i64, base: &Pseudorange, rover: &Pseudor
 {
     let held = observed_box(signal, amount);
     Prefit {
-        lo: less(held.lo, rover.hi, base.lo),
-        hi: less(held.hi, rover.lo, base.hi),
+        lo: less_computed(held.lo, rover.hi, base.lo),
+        hi: less_computed(held.hi, rover.lo, base.hi),
     }
 }

@@ -7,7 +7,7 @@ use Rattle.whole_math.specs.Rational.{Rational, Near}
 use Rattle.orbit_model.specs.Solution.{Quantities}
 use Rattle.sv_orbit.specs.declared.place.SvBox.{SvBox}
 use Rattle.sv_orbit.specs.Solutions.{HoldsSolution}
-use Rattle.orbit_model.specs.SeenPlaces.{Place, sent_place}
+use Rattle.orbit_model.specs.SeenPlaces.{Position, sent_place}
 use Rattle.orbit_model.specs.Places.{HoldsPlace}
 use Rattle.eph_store.specs.declared.ephemeris.Eph.{Eph}
 use Rattle.obs_store.specs.declared.series.Epoch.{Epoch}
@@ -25,7 +25,7 @@ use Rattle.slip_arcs.specs.Runs.{AreKept}
 use Rattle.slip_arcs.specs.Linked.{HaveDatums}
 use Rattle.screening.specs.declared.sv_pair.SvPair.{SvPair}
 use Rattle.screening.specs.Sightings.{Setting, Sent, WasSent, code_of}
-use Rattle.screening.specs.Sightings.{Sighting as Observed, IsSighting as AreObserved}
+use Rattle.screening.specs.Sightings.{ObservedSat, IsObservedSat}
 use Rattle.screening.specs.Screening.{AreEpochsOf, AreUsedPairs, IsSvPair}
 use Rattle.row_boxes.specs.Sightings.{Sighting, y_in_rows}
 use Rattle.row_boxes.specs.BoxSightings.{IsSighting, HasSighting}
@@ -43,7 +43,7 @@ solved : (t : Setting) (eph : Eph) (tag : ℕ) (code : ℤ) (point : List ℤ) (
 solved t eph tag code point b s holds h =
     let holds_solution : HoldsSolution b h.solution = holds h.solution h.sent in
     record {
-      sent_in = subst (λ (p : Place). HoldsPlace b.place p) (sym h.place) holds_solution.place;
+      sent_in = subst (λ (p : Position). HoldsPlace b.place p) (sym h.place) holds_solution.place;
       clock_in = subst (λ (c : Rational). Holds b.clock c) (sym h.clock) holds_solution.clock;
       seen_is = h.seen;
     }
@@ -93,7 +93,7 @@ row_stands from round boxes n group pair base rover r all pair_is epochs row a a
     let own_base : Epoch = is_entry_pair.base_epoch in
     let own_rover : Epoch = is_entry_pair.rover_epoch in
     let is_entry = is_entry_pair.entry in
-    let observed : Observed = is_entry.sighting in
+    let observed : ObservedSat = is_entry.sighting in
     let same_pair_of : is_entry_pair.pair ≡ pair =
     same_pair from.taken n is_entry_pair.pair pair
     (subst (λ (k : ℕ). slice_get from.taken k ≡ Some is_entry_pair.pair) row.entry_is.of_pair is_entry_pair.pair_is) pair_is in
@@ -108,7 +108,7 @@ row_stands from round boxes n group pair base rover r all pair_is epochs row a a
     let ss : List ℕ = counted from.signals round.scale in
     let made : StandsForRow from round (record { base = own_base; rover = own_rover }) group row.arc r = record {
       observed = observed;
-      are = subst (λ (k : ℕ). AreObserved from.setting own_base own_rover k observed) row.entry_is.of_sat is_entry.seen;
+      are = subst (λ (k : ℕ). IsObservedSat from.setting own_base own_rover k observed) row.entry_is.of_sat is_entry.seen;
       base_sees = has_solved from.setting observed.eph own_base.tag.0 (code_of observed.base) from.position entry.base
           is_entry.base_holds is_entry.base_sent row.seen.base;
       rover_sees = has_solved from.setting observed.eph own_rover.tag.0 (code_of observed.rover) round.point entry.rover

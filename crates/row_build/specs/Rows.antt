@@ -2,7 +2,7 @@
 use Rattle.std.specs.Prelude.{◌≡◌, ℕ, ◌^◌, Some, List, All, slice_get, ℤ, pos, ◌≤ℤ◌}
 use Rattle.whole_math.specs.Rational.{Rational, of_whole, ◌*ʳ◌, Near}
 use Rattle.sv_orbit.specs.declared.place.SvBox.{SvBox}
-use Rattle.orbit_model.specs.SeenPlaces.{Place, IsDisplacement, IsMeanDirection, place_at}
+use Rattle.orbit_model.specs.SeenPlaces.{Position, IsDisplacement, IsMeanDirection, place_at}
 use Rattle.obs_rows.specs.declared.arcs.Arc.{Arc}
 use Rattle.obs_rows.specs.declared.rows.Row.{Row}
 use Rattle.obs_rows.specs.Data.{number_at}
@@ -50,7 +50,7 @@ IsInU i u ru q = Near (number_at u i) (number_at ru i) (of_whole (pos (2 ^ DIREC
 
 -- the boxes hold the mean direction from the point, for every place where the satellite may be seen and every displacement
 abbrev pub HoldsU : SvBox → List ℤ → List ℤ → List ℤ → Type 0
-HoldsU sv point u ru = (s : Sighting) (move direction : Place) → IsSighting sv point s → IsDisplacement move → IsMeanDirection s.seen (place_at point) move direction →
+HoldsU sv point u ru = (s : Sighting) (move direction : Position) → IsSighting sv point s → IsDisplacement move → IsMeanDirection s.seen (place_at point) move direction →
     IsInU 0 u ru direction.x × IsInU 1 u ru direction.y × IsInU 2 u ru direction.z
 
 -- the row of arc `r.arc` in the pair, under the pair's group

@@ -2,7 +2,7 @@
 use Rattle.std.specs.Prelude.{◌≡◌, ℕ, Some, List, length, map, All, slice_get, ℤ, pos, ◌≤ℤ◌}
 use Rattle.whole_math.specs.Rational.{Near}
 use Rattle.orbit_model.specs.Solution.{Quantities}
-use Rattle.orbit_model.specs.SeenPlaces.{Place, IsSeenPlace, IsDisplacement, IsMeanDirection, sent_place, place_at}
+use Rattle.orbit_model.specs.SeenPlaces.{Position, IsSeenPlace, IsDisplacement, IsMeanDirection, sent_place, place_at}
 use Rattle.eph_store.specs.declared.ephemeris.Eph.{Eph}
 use Rattle.obs_store.specs.declared.series.Epoch.{Epoch}
 use Rattle.epoch_pair.specs.declared.pairs.PairOf.{PairOf}
@@ -12,6 +12,7 @@ use Rattle.obs_rows.specs.declared.rows.Row.{Row}
 use Rattle.obs_rows.specs.declared.pair_rows.PairRows.{PairRows}
 use Rattle.obs_rows.specs.declared.sessions.Session.{Session}
 use Rattle.obs_rows.specs.Data.{number_at}
+use Rattle.obs_rows.specs.declared.signal_names.TheConstants.{L1_CODE}
 use Rattle.obs_rows.specs.Signals.{counted, band}
 use Rattle.obs_rows.specs.Rounds.{Round, round_of}
 use Rattle.obs_rows.specs.Unused.{IsZeroOff}
@@ -20,7 +21,7 @@ use Rattle.slip_arcs.specs.Runs.{AreKept}
 use Rattle.slip_arcs.specs.Linked.{HaveDatums}
 use Rattle.screening.specs.Amounts.{differences}
 use Rattle.screening.specs.Sightings.{Setting, Sent, code_of}
-use Rattle.screening.specs.Sightings.{Sighting as Observed, IsSighting as AreObserved}
+use Rattle.screening.specs.Sightings.{ObservedSat, IsObservedSat}
 use Rattle.screening.specs.Screening.{AreEpochsOf, AreUsedPairs}
 use Rattle.row_boxes.specs.Sightings.{Sighting, y_in_rows}
 use Rattle.row_boxes.specs.YBoxes.{most_radius, MeetsOne}
@@ -64,8 +65,8 @@ pub record HasSolved (setting : Setting) (eph : Eph) (tag : ℕ) (code : ℤ) (p
 -- observed - computed - group - λ shift for every solution of either receiver, and each u box the mean direction for every one of the
 -- rover and every displacement.
 pub record StandsForRow (from : Origin) (round : Round) (epochs : PairEpochs) (group : ℤ) (arc : Arc) (r : Row) : Type 0 where
-  pub observed : Observed
-  pub are : AreObserved from.setting epochs.base epochs.rover arc.sat observed
+  pub observed : ObservedSat
+  pub are : IsObservedSat from.setting epochs.base epochs.rover arc.sat observed
   pub base_sees : HasSolved from.setting observed.eph epochs.base.tag.0 (code_of observed.base) from.position
   pub rover_sees : HasSolved from.setting observed.eph epochs.rover.tag.0 (code_of observed.rover) round.point
   pub y : (b q : Sighting) → IsSolved from.setting observed.eph epochs.base.tag.0 (code_of observed.base) from.position b →
@@ -73,7 +74,7 @@ pub record StandsForRow (from : Origin) (round : Round) (epochs : PairEpochs) (g
       All (λ s. Near (number_at r.y s) r.ry
       (y_in_rows round.scale s (number_at (differences observed.base observed.rover) s) group (number_at arc.shift (band s)) b q))
       (counted from.signals round.scale)
-  pub u : (q : Sighting) (move direction : Place) →
+  pub u : (q : Sighting) (move direction : Position) →
       IsSolved from.setting observed.eph epochs.rover.tag.0 (code_of observed.rover) round.point q → IsDisplacement move →
       IsMeanDirection q.seen (place_at round.point) move direction →
       IsInU 0 r.u r.ru direction.x × IsInU 1 r.u r.ru direction.y × IsInU 2 r.u r.ru direction.z
@@ -90,7 +91,7 @@ pub record StandsForPair (from : Origin) (round : Round) (p : PairRows) : Type 0
   pub tag : p.tag ≡ epochs.base.tag
   pub held : map (λ r. r.arc) p.rows ≡ arcs_at round.arcs p.number
   pub rows : All (λ r. (a : Arc) → slice_get round.arcs r.arc ≡ Some a → StandsForRow from round epochs p.group a r) p.rows
-  pub group : (r : Row) → slice_get p.rows 0 ≡ Some r → MeetsOne round.scale (number_at r.y 2) r.ry
+  pub group : (r : Row) → slice_get p.rows 0 ≡ Some r → MeetsOne round.scale (number_at r.y L1_CODE) r.ry
 
 -- the session of this origin at this point, with these shifts and at this scale
 pub record StandsForFiles (from : Origin) (point : List ℤ) (shifts : List (List ℤ)) (scale : ℕ) (s : Session) : Type 0 where

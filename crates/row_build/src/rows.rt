@@ -4,41 +4,19 @@ ghost use Rattle.obs_rows.specs.declared.units.TheConstants.{SIGNALS};
 ghost use Rattle.obs_rows.specs.Ranges.{IsScale, IsBelow};
 ghost use Rattle.obs_rows.specs.Unused.{IsZeroOff};
 ghost use Rattle.row_boxes.specs.YBoxes.{HoldsYs, HasFarSignal, most_radius};
-ghost use Rattle.orbit_model.specs.SeenPlaces.{Place};
-ghost use Rattle.row_build.specs.Sights.{IsInSpreads, IsSeen};
-ghost use Rattle.row_build.specs.Rows.{HoldsU, IsInU, seen_by};
+ghost use Rattle.row_build.specs.Sights.{IsSeen};
+ghost use Rattle.row_build.specs.Rows.{HoldsU, seen_by};
 
-use crate::entries::Entry;
+use crate::entries::SeenSat;
 use obs_rows::{PHASES, Row};
-use row_boxes::{Observations, observations_of};
-use signal_travel::Spread;
-
-// A row of what was observed, with the direction to the satellite
-fn row_over(arc: u16, held: &Observations, direction: &[Spread; 3]) -> Row
-    ensures arc { result.arc ≡ arc }
-    ensures y { result.y ≡ held.now.y }
-    ensures ry { result.ry ≡ held.now.ry }
-    ensures u { (place : Place) → IsInSpreads direction.now place →
-        IsInU 0 result.u result.ru place.x × IsInU 1 result.u result.ru place.y
-        × IsInU 2 result.u result.ru place.z }
-    ensures narrow { All (λ n. n ≤ℤ pos 32) result.ru }
-{
-    let [x, y, z] = *direction;
-    Row {
-        arc,
-        y: held.y,
-        ry: held.ry,
-        u: [x.centre, y.centre, z.centre],
-        ru: [x.radius, y.radius, z.radius],
-    }
-}
+use row_boxes::observed_row;
 
 /// The row of an arc with these shifts, from the entry of its satellite. There is none where an observation is too far.
 pub fn row_of(
     ss: &[usize],
     arc: u16,
     shift: &[i64; PHASES],
-    entry: &Entry<'_>,
+    entry: &SeenSat<'_>,
     group: i64,
     scale: u32,
 ) -> Option<Row>
@@ -59,17 +37,18 @@ pub fn row_of(
         HasFarSignal (seen_by entry.now.sv.now base point) ss.now scale entry.now.sv.now.observed
         group shift.now }
 {
-    // All six, which the proof names.
+    // All six and all three, which the proof names.
     let sv = entry.sv;
     let [_l1, _l2, _c1, _c2, _l5, _c5] = sv.observed;
-    let held = observations_of(
+    let [_x, _y, _z] = entry.rover.direction;
+    observed_row(
         ss,
+        arc,
         &sv.observed,
         group,
         shift,
-        &entry.half,
-        &entry.rover.pseudorange,
+        &entry.base_pseudorange,
+        &entry.rover,
         scale,
-    )?;
-    Some(row_over(arc, &held, &entry.rover.direction))
+    )
 }

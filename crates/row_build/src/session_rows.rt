@@ -31,7 +31,7 @@ fn add_pair(session: &mut SessionBuilder, rows: Option<PairRows>) -> Result<(), 
     }
 }
 
-/// The session of `rows_at`, with the base's halves that are kept. It is refused as that of `rows_at`.
+/// The session of `rows_at`, with the base's pseudoranges that are kept. It is refused as that of `rows_at`.
 pub fn rows_with(
     alloc: Global,
     from: &RowSource<'_>,
@@ -64,7 +64,7 @@ pub fn rows_with(
 }
 
 /// The session of these arcs at these points, in units of 0.1 mm, for a system, G or E: the rows of `pair_rows` of every pair. It is
-/// refused where they are. The call serves tests alone: programs keep the halves and call `rows_with`.
+/// refused where they are. The call serves tests alone: programs keep the base's pseudoranges and call `rows_with`.
 pub fn rows_at(
     alloc: Global,
     screened: &Screened,
@@ -95,7 +95,7 @@ pub fn rows_at(
 {
     let from = RowSource {
         screened,
-        halves: &[],
+        base_pseudoranges: &[],
         arcs,
         base,
         point,

@@ -3,7 +3,7 @@ ghost use Rattle.std.specs.Prelude.{◌≤◌, length};
 ghost use Rattle.obs_rows.specs.ReceiverPoints.{IsReceiverPoint};
 ghost use Rattle.obs_rows.specs.declared.limits.TheConstants.{MOST_ARCS};
 ghost use Rattle.slip_arcs.specs.Linked.{IsCutOf};
-ghost use Rattle.row_build.specs.Halves.{AreBaseHalves};
+ghost use Rattle.row_build.specs.BasePseudoranges.{AreBasePseudoranges};
 ghost use Rattle.row_build.specs.Sights.{AreRoverSights};
 
 use obs_rows::{Arc, Signals};
@@ -15,9 +15,10 @@ use screening::Screened;
 pub struct RowSource<'a> {
     /// The satellites that the pairs use, with their boxes.
     pub screened: &'a Screened,
-    /// The base's halves that are kept, each in the place of its entry: `base_halves` makes them once for all points of a run.
+    /// The base's pseudoranges that are kept, each in the place of its entry: `base_pseudoranges` makes them once for all points of
+    /// a run.
     /// What is not kept is made, so the rows are the same with none.
-    pub halves: &'a [Pseudorange],
+    pub base_pseudoranges: &'a [Pseudorange],
     /// The arcs with their shifts: but for these some cut of the screened pairs keeps them.
     pub arcs: &'a [Arc],
     /// The base's position, in units of 0.1 mm.
@@ -33,6 +34,6 @@ pub struct RowSource<'a> {
     pub ghost few: { length arcs.now ≤ MOST_ARCS },
     pub ghost base_in: { IsReceiverPoint base.now },
     pub ghost point_in: { IsReceiverPoint point.now },
-    pub ghost halves_hold: { ∥ AreBaseHalves screened.now.boxes base.now halves.now ∥₁ },
+    pub ghost base_pseudoranges_hold: { ∥ AreBasePseudoranges screened.now.boxes base.now base_pseudoranges.now ∥₁ },
     pub ghost sights_hold: { AreRoverSights screened.now.boxes point.now sights.now },
 }

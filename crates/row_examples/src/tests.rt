@@ -1,6 +1,6 @@
 //! The boxes of the rows hold the values of the independent model, whatever groups and shifts are chosen.
 ghost use Rattle.std.specs.Prelude.{◌<◌, ◌≤◌, ◌^◌, unsigned_abs};
-ghost use Rattle.row_build.specs.Halves.{AreBaseHalves};
+ghost use Rattle.row_build.specs.BasePseudoranges.{AreBasePseudoranges};
 ghost use Rattle.obs_rows.specs.ReceiverPoints.{IsReceiverPoint};
 ghost use Rattle.slip_arcs.specs.Linked.{IsCutOf};
 
@@ -331,8 +331,8 @@ fn session_fault(
 
 fn fine_fault(alloc: Global, files: &Files, want: &Expected) -> Option<&'static str>
     requires cut { IsCutOf files.now.rounds.screened.used files.now.rounds.kept }
-    requires halves { AreBaseHalves files.now.rounds.screened.boxes files.now.rounds.position
-        files.now.rounds.halves.items }
+    requires base_pseudoranges { AreBasePseudoranges files.now.rounds.screened.boxes files.now.rounds.position
+        files.now.rounds.base_pseudoranges.items }
 {
     let Some(session) = fine_rows(alloc, files, &want.point) else {
         return Some("no fine rows");
@@ -361,8 +361,8 @@ fn coarse_fault(alloc: Global, files: &Files, want: &Expected) -> Option<&'stati
 
 fn files_fault(alloc: Global, files: &Files, want: &Expected) -> Option<&'static str>
     requires cut { IsCutOf files.now.rounds.screened.used files.now.rounds.kept }
-    requires halves { AreBaseHalves files.now.rounds.screened.boxes files.now.rounds.position
-        files.now.rounds.halves.items }
+    requires base_pseudoranges { AreBasePseudoranges files.now.rounds.screened.boxes files.now.rounds.position
+        files.now.rounds.base_pseudoranges.items }
 {
     if files.rounds.position != want.base {
         return Some("the base");

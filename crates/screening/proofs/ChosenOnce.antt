@@ -4,7 +4,7 @@ use Rattle.std.proofs.lemmas.List.Elements.{All-head, All-tail}
 use Rattle.obs_store.specs.declared.series.Epoch.{Epoch}
 use Rattle.eph_store.specs.declared.ephemeris.Eph.{Eph}
 use Rattle.eph_store.specs.Chosen.{distance, IsCandidate, IsChosenRecord, HasNoCandidate}
-use Rattle.screening.specs.Sightings.{Setting, Sighting, IsSighting}
+use Rattle.screening.specs.Sightings.{Setting, ObservedSat, IsObservedSat}
 
 middle : (P : Eph → Type 0) (front rest : List Eph) (e : Eph) → All P (front ++ e ∷ rest) → P e
 middle P [] rest e all = All-head P e rest all
@@ -41,10 +41,10 @@ pub none_chosen : (fit : List Eph) (sat tag : ℕ) (e : Eph) → HasNoCandidate 
 none_chosen fit sat tag e none c = middle (λ f. IsCandidate sat tag f → ⊥) c.front c.rest e (subst (All (λ f. IsCandidate sat tag f → ⊥)) c.stands none) c.candidate
 
 same_sighting : (a a' b b' : List ℤ) (e e' : Eph) → a ≡ a' → b ≡ b' → e ≡ e'
-    → (let left_sighting : Sighting = record { base = a; rover = b; eph = e } in let right_sighting : Sighting = record { base = a'; rover = b'; eph = e' } in left_sighting ≡ right_sighting)
+    → (let left_sighting : ObservedSat = record { base = a; rover = b; eph = e } in let right_sighting : ObservedSat = record { base = a'; rover = b'; eph = e' } in left_sighting ≡ right_sighting)
 same_sighting a a' b b' e e' is is2 is3 = rw (is, is2, is3) refl
 
-pub seen_once : (s : Setting) (base rover : Epoch) (sat : ℕ) (g h : Sighting) → IsSighting s base rover sat g → IsSighting s base rover sat h → g ≡ h
+pub seen_once : (s : Setting) (base rover : Epoch) (sat : ℕ) (g h : ObservedSat) → IsObservedSat s base rover sat g → IsObservedSat s base rover sat h → g ≡ h
 seen_once s base rover sat g h is is' = same_sighting g.base h.base g.rover h.rover g.eph h.eph
     (some_once g.base h.base (sym is.at_base ∙ is'.at_base)) (some_once g.rover h.rover (sym is.at_rover ∙ is'.at_rover))
     (chosen_once s.records sat base.tag.0 g.eph h.eph is.chosen is'.chosen)

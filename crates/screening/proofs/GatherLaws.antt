@@ -12,7 +12,7 @@ use Rattle.obs_rows.specs.declared.limits.TheConstants.{MOST_SATELLITES}
 use Rattle.screening.specs.declared.sv_pair.SvPair.{SvPair}
 use Rattle.screening.specs.Observed.{phases_of}
 use Rattle.screening.specs.Marks.{Passed, lost_lock}
-use Rattle.screening.specs.Sightings.{Setting, Sighting, IsSighting, MayBeLeftOut}
+use Rattle.screening.specs.Sightings.{Setting, ObservedSat, IsObservedSat, MayBeLeftOut}
 use Rattle.screening.specs.Screening.{IsUsedSat, AreUsedSats, IsEntry, IsEntryAt, IsLeftOut, AreEnoughBelow, is_among}
 use Rattle.screening.specs.Gathering.{IsPassedOver, IsAdded, AreGathered}
 
@@ -31,7 +31,7 @@ added_of s base rover epochs pair sat sats sats' boxes boxes' u b lost at room n
       named = sat_is;
       is_used = record {
         sighting = entry_stands.sighting;
-        seen = subst (λ (n : ℕ). IsSighting s base rover n entry_stands.sighting) (sym named) entry_stands.seen;
+        seen = subst (λ (n : ℕ). IsObservedSat s base rover n entry_stands.sighting) (sym named) entry_stands.seen;
         kept = entry_stands.kept;
         phase = phase ∙ ap phases_of entry_stands.observed;
         lost = mark ∙ is ∙ ap (λ (n : ℕ). lost_lock s.types n epochs) (sym sat_is);
@@ -80,12 +80,12 @@ passed_over s base rover epochs pair n before sats boxes reason g = record {
   of_pair = g.of_pair;
 }
   where
-    at_n : (sat : ℕ) (seen : Sighting) → sat ≡ n → IsSighting s base rover sat seen → (MOST_SATELLITES ≤ length sats) ⊎ IsLeftOut s base rover n → MayBeLeftOut s base.tag.0 seen ⊎ AreEnoughBelow sat sats
+    at_n : (sat : ℕ) (seen : ObservedSat) → sat ≡ n → IsObservedSat s base rover sat seen → (MOST_SATELLITES ≤ length sats) ⊎ IsLeftOut s base rover n → MayBeLeftOut s base.tag.0 seen ⊎ AreEnoughBelow sat sats
     at_n sat seen here is (inl full) =
         let few = g.few in
         let whole : length sats ≡ MOST_SATELLITES = omega (arith, full, few) in
         inr (whole, λ k d inside. let is_below = g.below k d inside in omega (arith, is_below, here))
-    at_n sat seen here is (inr out) = inl (out seen (subst (λ (m : ℕ). IsSighting s base rover m seen) here is))
+    at_n sat seen here is (inr out) = inl (out seen (subst (λ (m : ℕ). IsObservedSat s base rover m seen) here is))
 
 added_one : (s : Setting) (base rover : Epoch) (epochs : Passed) (pair n : ℕ) (before : List SvPair) (sats : List UsedSat) (boxes : List SvPair) (u : UsedSat) (b : SvPair)
     → length sats < MOST_SATELLITES → u.sat ≡ n →
@@ -113,7 +113,7 @@ added_one s base rover epochs pair n before sats boxes u b room named used small
     one_place : (p p' t t' : ℕ) → p ≡ p' → t ≡ t' → (let left_place : List (ℕ × ℕ) = (p, t) ∷ [] in let right_place : List (ℕ × ℕ) = (p', t') ∷ [] in left_place ≡ right_place)
     one_place p p' t t' e f = rw (e, f) refl
 
-    earlier : (sat : ℕ) (seen : Sighting) → sat < n → IsSighting s base rover sat seen → is_among sat sats ≡ false → MayBeLeftOut s base.tag.0 seen
+    earlier : (sat : ℕ) (seen : ObservedSat) → sat < n → IsObservedSat s base rover sat seen → is_among sat sats ≡ false → MayBeLeftOut s base.tag.0 seen
     earlier sat seen lower is none = ⊎_elim (λ (out : MayBeLeftOut s base.tag.0 seen). out)
         (λ (enough : AreEnoughBelow sat sats). absurd (let number_at_least = enough.0 in omega (arith, number_at_least, room))) (g.others sat seen lower is none)
 

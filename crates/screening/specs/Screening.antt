@@ -20,7 +20,7 @@ use Rattle.screening.specs.declared.sv_pair.SvPair.{SvPair}
 use Rattle.screening.specs.BaseRanges.{HoldsRange}
 use Rattle.screening.specs.Amounts.{types_of, differences, phase_differences}
 use Rattle.screening.specs.Marks.{Passed, passed, power_failed, lost_lock}
-use Rattle.screening.specs.Sightings.{Setting, Sighting, IsSighting, MayBeKept, MayBeLeftOut, Sent, WasSent, code_of}
+use Rattle.screening.specs.Sightings.{Setting, ObservedSat, IsObservedSat, MayBeKept, MayBeLeftOut, Sent, WasSent, code_of}
 
 -- the header gives a position from 6,000 km to 7,000 km from the Earth's centre
 abbrev pub HasPosition : Option (List ℤ) → Type 0
@@ -49,8 +49,8 @@ pub record ArePairsOf (base rover : List Epoch) (pairs : List PairOf) : Type 0 w
 
 -- what a pair says of a satellite that it uses: its phases, and whether lock was lost up to the pair
 pub record IsUsedSat (setting : Setting) (base rover : Epoch) (epochs : Passed) (u : UsedSat) : Type 0 where
-  pub sighting : Sighting
-  pub seen : IsSighting setting base rover u.sat sighting
+  pub sighting : ObservedSat
+  pub seen : IsObservedSat setting base rover u.sat sighting
   pub kept : MayBeKept setting base.tag.0 sighting
   pub phase : u.phase ≡ phase_differences sighting.base sighting.rover
   pub lost : u.lost ≡ lost_lock setting.types u.sat epochs
@@ -68,7 +68,7 @@ pub record AreUsedSats (setting : Setting) (base rover : Epoch) (epochs : Passed
   pub few : length sats ≤ MOST_SATELLITES
   pub rising : AllPairs (λ u v. u.sat < v.sat) sats
   pub each : All (IsUsedSat setting base rover epochs) sats
-  pub others : (sat : ℕ) (g : Sighting) → IsSighting setting base rover sat g → is_among sat sats ≡ false → MayBeLeftOut setting base.tag.0 g ⊎ AreEnoughBelow sat sats
+  pub others : (sat : ℕ) (g : ObservedSat) → IsObservedSat setting base rover sat g → is_among sat sats ≡ false → MayBeLeftOut setting base.tag.0 g ⊎ AreEnoughBelow sat sats
 
 -- the epochs of a pair
 pub record AreEpochsOf (base rover : List Epoch) (p : PairOf) (b r : Epoch) : Type 0 where
@@ -95,8 +95,8 @@ pub record AreUsedPairs (setting : Setting) (base rover : List Epoch) (pairs : L
 -- the entry of a satellite that two epochs see: its boxes hold every solution at each receiver's own tag and L1 code, and there is one,
 -- and its range is that from the base
 pub record IsEntry (setting : Setting) (base rover : Epoch) (b : SvPair) : Type 0 where
-  pub sighting : Sighting
-  pub seen : IsSighting setting base rover b.sat sighting
+  pub sighting : ObservedSat
+  pub seen : IsObservedSat setting base rover b.sat sighting
   pub kept : MayBeKept setting base.tag.0 sighting
   pub tag : b.tag ≡ base.tag
   pub observed : b.observed ≡ differences sighting.base sighting.rover
@@ -123,4 +123,4 @@ pub record IsEntryAt (setting : Setting) (base rover : Epoch) (pair sat : ℕ) (
 
 -- where the epochs see the satellite, the mask may leave it out
 abbrev pub IsLeftOut : Setting → Epoch → Epoch → ℕ → Type 0
-IsLeftOut setting base rover sat = (g : Sighting) → IsSighting setting base rover sat g → MayBeLeftOut setting base.tag.0 g
+IsLeftOut setting base rover sat = (g : ObservedSat) → IsObservedSat setting base rover sat g → MayBeLeftOut setting base.tag.0 g

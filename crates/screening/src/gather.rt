@@ -13,9 +13,9 @@ use crate::amounts::SignalTypes;
 use crate::marks::{lost_in, may_lose, power_failed};
 use crate::records::RecordTable;
 use crate::rules::Rules;
-use crate::sights::entry_of;
+use crate::sights::sv_pair_of;
 use crate::{SvPair, SvPairList, UsedPair, UsedSat};
-use obs_rows::MOST_SATELLITES;
+use obs_rows::{L1_PHASE, L2_PHASE, L5_PHASE, MOST_SATELLITES};
 use obs_store::Epoch;
 use std::alloc::{AllocError, Global};
 
@@ -55,12 +55,16 @@ fn used_sat(entry: &SvPair, lost: bool) -> UsedSat
 {
     UsedSat {
         sat: entry.sat,
-        phase: [entry.observed[0], entry.observed[1], entry.observed[4]],
+        phase: [
+            entry.observed[L1_PHASE],
+            entry.observed[L2_PHASE],
+            entry.observed[L5_PHASE],
+        ],
         lost,
     }
 }
 
-// Adds the satellite of that number, where both epochs see it above the mask and there is room.
+// Adds the satellite of that number, where both epochs have it, the base sees it above the mask and there is room.
 fn add_sat(
     rules: &Rules,
     table: &RecordTable<'_>,
@@ -83,7 +87,7 @@ fn add_sat(
     if sats.len() >= MOST_SATELLITES {
         return Ok(());
     }
-    let Some(entry) = entry_of(rules, table, at.base, at.rover, at.number, number) else {
+    let Some(entry) = sv_pair_of(rules, table, at.base, at.rover, at.number, number) else {
         return Ok(());
     };
     let lost = lost_up_to(may, &rules.types, number, at);

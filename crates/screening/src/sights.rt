@@ -12,13 +12,10 @@ use crate::SvPair;
 use crate::amounts::amounts_at;
 use crate::records::{RecordTable, chosen};
 use crate::rules::Rules;
-use obs_rows::SIGNALS;
+use obs_rows::{L1_CODE, SIGNALS};
 use obs_store::Epoch;
 use signal_travel::{above, seen_from};
 use sv_orbit::sv_from;
-
-/// The signal by which a receiver's clock is known.
-const L1_CODE: usize = 2;
 
 fn difference(base: &[i64; SIGNALS], rover: &[i64; SIGNALS], signal: usize) -> i64
     requires base { AreAmounts base.now }
@@ -44,7 +41,7 @@ fn differences(base: &[i64; SIGNALS], rover: &[i64; SIGNALS]) -> [i64; SIGNALS]
 }
 
 /// What a pair of epochs says of a satellite that it may use. The boxes of a receiver are made once.
-pub fn entry_of(
+pub fn sv_pair_of(
     rules: &Rules,
     table: &RecordTable<'_>,
     base: &Epoch,

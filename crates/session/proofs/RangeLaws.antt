@@ -210,7 +210,7 @@ holds_first kept k a h is = ends a.first a.last (subst IsArcInRange (get_or_from
 pub no_shifts : (kept : List Arc) → All (λ a. a.shift ≡ pos 0 ∷ pos 0 ∷ pos 0 ∷ []) kept → AreShiftsBelow (2 ^ 40) kept
 no_shifts kept h k d i = subst (All (IsBelow (2 ^ 40))) (sym (h k d i)) (three_below (pos 0) (pos 0) (pos 0) (2 ^ 40) (omega arith) (omega arith) (omega arith))
 
-pub zeros_off : (places : List ℕ) → IsZeroOff places (pos 0 ∷ pos 0 ∷ pos 0 ∷ [])
+zeros_off : (places : List ℕ) → IsZeroOff places (pos 0 ∷ pos 0 ∷ pos 0 ∷ [])
 zeros_off places zero e = refl
 zeros_off places (suc zero) e = refl
 zeros_off places (suc (suc zero)) e = refl

@@ -18,10 +18,10 @@ pub record GoesOn (rules : Rules) (taken : ℕ) : Type 0 where
   pub not_many : AreMany rules.arcs → ⊥
 
 -- a certificate of the session in which the run ends, with the ratio and the budget of the options
-pub record IsEndCert (rules : Rules) (o : Options) (rounds : RoundCounts) (cert : Cert) : Type 0 where
-  pub ratio : cert.ratio ≡ o.ratio
-  pub budget : cert.budget ≡ o.budget
-  pub ends : EndsFull rules o.ratio o.budget rounds cert.session cert.tail
+pub record IsEndCert (rules : Rules) (options : Options) (rounds : RoundCounts) (cert : Cert) : Type 0 where
+  pub ratio : cert.ratio ≡ options.ratio
+  pub budget : cert.budget ≡ options.budget
+  pub ends : EndsFull rules options.ratio options.budget rounds cert.session cert.tail
 
 -- at most ten coarse rounds and at most six fine ones
 abbrev pub AreAllowed : RoundCounts → Type 0
@@ -34,10 +34,10 @@ AreNone rounds = (rounds.coarse ≡ 0) × (rounds.fine ≡ 0)
 -- Few exactly where no taken pair has four satellites in kept arcs, else Arcs exactly where the arcs are too many, both
 -- before any round; else the end of a run with these counts of rounds
 abbrev pub IsAnswer : Rules → ℕ → Options → RoundCounts → Answer → Type 0
-IsAnswer rules taken o rounds (Few pairs) = (pairs ≡ taken) × (AreFew taken rules.arcs × AreNone rounds)
-IsAnswer rules taken o rounds (Arcs free) = (free ≡ free_count rules.arcs) × ((AreFew taken rules.arcs → ⊥) × (AreMany rules.arcs × AreNone rounds))
-IsAnswer rules taken o rounds (Early stage tail) = GoesOn rules taken × EndsEarly rules rounds stage tail
-IsAnswer rules taken o rounds (Full cert) = GoesOn rules taken × IsEndCert rules o rounds cert
+IsAnswer rules taken options rounds (Few pairs) = (pairs ≡ taken) × (AreFew taken rules.arcs × AreNone rounds)
+IsAnswer rules taken options rounds (Arcs free) = (free ≡ free_count rules.arcs) × ((AreFew taken rules.arcs → ⊥) × (AreMany rules.arcs × AreNone rounds))
+IsAnswer rules taken options rounds (Early stage tail) = GoesOn rules taken × EndsEarly rules rounds stage tail
+IsAnswer rules taken options rounds (Full cert) = GoesOn rules taken × IsEndCert rules options rounds cert
 
 -- where the integers of an answer are fixed, they are with their move best by the certificate's ratio
 abbrev pub IsBestAnswer : Answer → Type 0

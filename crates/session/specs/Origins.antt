@@ -12,15 +12,15 @@ use Rattle.obs_rows.specs.declared.options.Options.{Options}
 
 -- the files with these options, the base's position, the signals and the pairs that are taken of the files
 abbrev pub origin_of : ObsFile → ObsFile → Records → Options → List ℤ → Signals → List PairOf → Origin
-origin_of base rover nav o position signals taken = record {
-  setting = setting_of base nav signals o.mask (world_of o.system);
+origin_of base rover nav options position signals taken = record {
+  setting = setting_of base nav signals options.mask (world_of options.system);
   base = base.epochs;
   rover = rover.epochs;
   taken = taken;
-  bands = bands_of o.bands;
-  jump = o.jump;
-  least = o.arc;
-  system = o.system;
+  bands = bands_of options.bands;
+  jump = options.jump;
+  least = options.arc;
+  system = options.system;
   position = position;
   signals = signals;
 }

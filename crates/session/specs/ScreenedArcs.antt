@@ -14,9 +14,9 @@ use Rattle.screening.specs.Screening.{setting_of, AreUsedPairs, IsSvPair}
 use Rattle.obs_rows.specs.declared.options.Options.{Options}
 
 -- the used satellites of the taken pairs with their boxes, and the arcs that are kept of them, with the number of shorter ones
-pub record AreScreenedArcs (base rover : ObsFile) (nav : Records) (o : Options) (signals : Signals) (taken : List PairOf) (screened : Screened) (kept : List Arc) (short : ℕ) : Type 0 where
-  pub used_are : AreUsedPairs (setting_of base nav signals o.mask (world_of o.system)) base.epochs rover.epochs taken screened.used
-  pub boxes_are : All (IsSvPair (setting_of base nav signals o.mask (world_of o.system)) base.epochs rover.epochs taken) screened.boxes
-  pub kept_are : AreKept (bands_of o.bands) o.jump o.arc screened.used kept short
+pub record AreScreenedArcs (base rover : ObsFile) (nav : Records) (options : Options) (signals : Signals) (taken : List PairOf) (screened : Screened) (kept : List Arc) (short : ℕ) : Type 0 where
+  pub used_are : AreUsedPairs (setting_of base nav signals options.mask (world_of options.system)) base.epochs rover.epochs taken screened.used
+  pub boxes_are : All (IsSvPair (setting_of base nav signals options.mask (world_of options.system)) base.epochs rover.epochs taken) screened.boxes
+  pub kept_are : AreKept (bands_of options.bands) options.jump options.arc screened.used kept short
   pub datums : HaveDatums kept
   pub shifts : All (λ a. a.shift ≡ pos 0 ∷ pos 0 ∷ pos 0 ∷ []) kept

@@ -7,7 +7,7 @@ ghost use Rattle.session.specs.Answers.{GoesOn, IsAnswer, IsBestAnswer};
 use cert_data::{Answer, Cert, RoundCounts};
 use epoch_pair::Options;
 use obs_rows::Arc;
-use round_steps::{Rounds, RunEnd, are_few, are_many, free_count, run};
+use round_steps::{Rounds, RunEnd, are_few, are_many, free_count, run_rounds};
 use std::alloc::{AllocError, Global};
 
 /// An answer, with the rounds that were made for it.
@@ -21,7 +21,7 @@ pub struct RunAnswer {
 const NO_ROUNDS: RoundCounts = RoundCounts { coarse: 0, fine: 0 };
 
 /// Too few satellites, too many arcs, or the end of the run. One session is made for each round, and no other.
-pub fn answer<R: Rounds>(
+pub fn answer_of_rounds<R: Rounds>(
     alloc: Global,
     rounds: &mut R,
     kept: &[Arc],
@@ -51,7 +51,7 @@ pub fn answer<R: Rounds>(
             },
         });
     }
-    match run(alloc, rounds, kept, base, options.ratio, options.budget)? {
+    match run_rounds(alloc, rounds, kept, base, options.ratio, options.budget)? {
         RunEnd::Early { made, stage, tail } => Ok(RunAnswer {
             rounds: made,
             answer: Answer::Early { stage, tail },

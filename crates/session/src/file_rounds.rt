@@ -6,14 +6,14 @@ ghost use Rattle.obs_rows.specs.Signals.{fine_signals};
 ghost use Rattle.obs_rows.specs.Unused.{HasUsedShifts};
 ghost use Rattle.obs_rows.specs.ReceiverPoints.{IsReceiverPoint};
 ghost use Rattle.slip_arcs.specs.Linked.{IsCutOf};
-ghost use Rattle.row_build.specs.Halves.{AreBaseHalves};
+ghost use Rattle.row_build.specs.BasePseudoranges.{AreBasePseudoranges};
 ghost use Rattle.row_build.specs.Sights.{AreRoverSights};
 ghost use Rattle.row_build.specs.Rows.{setting};
 ghost use Rattle.row_build.specs.Shifts.{AreFirstShifts};
 ghost use Rattle.round_steps.specs.Shifts.{without_shifts};
 ghost use Rattle.session.specs.FileRules.{rules_of};
 
-use obs_rows::{Arc, ArcList, PHASES, Session, Signals};
+use obs_rows::{Arc, ArcList, Session, Signals};
 use round_steps::Rounds;
 use row_build::{KeptSights, Pseudorange, RowFault, RowSource, Screened, rows_with, shift_with};
 use std::alloc::{AllocError, Global};
@@ -28,8 +28,8 @@ pub struct FileRounds {
     pub signals: Signals,
     /// The satellites' system, by its letter.
     pub system: u8,
-    /// The base's half of each entry's computed term, which no round changes.
-    pub halves: Vec<Pseudorange>,
+    /// The base's pseudorange of each entry, which no round changes.
+    pub base_pseudoranges: Vec<Pseudorange>,
 }
 
 /// The rounds of a run over these files.
@@ -48,7 +48,7 @@ impl<'a> Rounds for FileRun<'a> {
 
     ghost ready = { λ r. IsCutOf r.files.now.screened.used r.files.now.kept
         × (AreArcs r.files.now.kept × IsReceiverPoint r.files.now.position)
-        × (AreBaseHalves r.files.now.screened.boxes r.files.now.position r.files.now.halves.items
+        × (AreBasePseudoranges r.files.now.screened.boxes r.files.now.position r.files.now.base_pseudoranges.items
         × IsSystem r.files.now.system)
         × AreRoverSights r.files.now.screened.boxes r.kept.point r.kept.sights.items };
 
@@ -66,7 +66,7 @@ impl<'a> Rounds for FileRun<'a> {
         self.kept.turn_to(alloc, &files.screened, point)?;
         let from = RowSource {
             screened: &files.screened,
-            halves: files.halves.as_slice(),
+            base_pseudoranges: files.base_pseudoranges.as_slice(),
             arcs,
             base: &files.position,
             point,
@@ -94,8 +94,8 @@ fn first_arc(files: &FileRounds, k: usize, point: &[i64; 3]) -> Arc
     requires cut { IsCutOf files.now.screened.used files.now.kept }
     requires arcs { AreArcs files.now.kept }
     requires base { IsReceiverPoint files.now.position }
-    requires halves { AreBaseHalves files.now.screened.boxes files.now.position
-        files.now.halves.items }
+    requires base_pseudoranges { AreBasePseudoranges files.now.screened.boxes files.now.position
+        files.now.base_pseudoranges.items }
     requires point { IsReceiverPoint point.now }
     requires inside { k < length files.now.kept }
     ensures same { (a : Arc) → slice_get files.now.kept k ≡ Some a →
@@ -110,7 +110,7 @@ fn first_arc(files: &FileRounds, k: usize, point: &[i64; 3]) -> Arc
     let arc = kept[k];
     let from = RowSource {
         screened: &files.screened,
-        halves: files.halves.as_slice(),
+        base_pseudoranges: files.base_pseudoranges.as_slice(),
         arcs: kept,
         base: &files.position,
         point,
@@ -118,10 +118,7 @@ fn first_arc(files: &FileRounds, k: usize, point: &[i64; 3]) -> Arc
         signals: files.signals,
     };
     // The arc holds its first pair.
-    let shift = match shift_with(&from, k as u16, arc.first) {
-        Some(shift) => shift,
-        None => [0; PHASES],
-    };
+    let shift = shift_with(&from, k as u16, arc.first).unwrap();
     Arc {
         sat: arc.sat,
         first: arc.first,

@@ -4,7 +4,7 @@ ghost use Rattle.obs_rows.specs.declared.limits.TheConstants.{MOST_PAIRS, MOST_K
 ghost use Rattle.round_steps.specs.Runs.{MayBegin};
 ghost use Rattle.session.specs.Answers.{GoesOn, HasDelta, IsAnswer, IsBestAnswer};
 
-use crate::answer;
+use crate::answer_of_rounds;
 use cert_data::Outcome;
 use epoch_pair::{Options, SessionStart};
 use obs_rows::Arc;
@@ -26,7 +26,7 @@ pub fn have_delta(base: &ObsFile, rover: &ObsFile) -> bool
 }
 
 /// The outcome of a run that begins so, over the arcs that were kept.
-pub fn outcome<R: Rounds>(
+pub fn outcome_of_rounds<R: Rounds>(
     alloc: Global,
     rounds: &mut R,
     begun: &SessionStart,
@@ -50,7 +50,7 @@ pub fn outcome<R: Rounds>(
     ensures by_ratio { IfOk result (λ o. IsBestAnswer o.answer) }
 {
     let taken = begun.taken.len() as u32;
-    let answered = answer(alloc, rounds, kept, taken, &begun.position, options)?;
+    let answered = answer_of_rounds(alloc, rounds, kept, taken, &begun.position, options)?;
     Ok(Outcome {
         taken,
         all: begun.all,

@@ -5,18 +5,18 @@ ghost use Rattle.obs_store.specs.Epochs.{tags_of};
 ghost use Rattle.eph_store.specs.File.{Records};
 ghost use Rattle.epoch_pair.specs.Pairs.{Follows, IsNearPair};
 ghost use Rattle.slip_arcs.specs.Linked.{IsCutOf};
-ghost use Rattle.row_build.specs.Halves.{AreBaseHalves};
+ghost use Rattle.row_build.specs.BasePseudoranges.{AreBasePseudoranges};
 ghost use Rattle.epoch_pair.specs.Beginnings.{IsPosition, IsSessionFault};
 ghost use Rattle.session.specs.Answers.{AreAllowed, IsBestAnswer};
 ghost use Rattle.session.specs.Outcomes.{AreScreened, IsRunStart, MayRun, IsOutcome};
 ghost use Rattle.obs_rows.specs.declared.limits.TheConstants.{MOST_PAIRS};
 
-use crate::{FileRounds, FileRun, have_delta, outcome, screened_arcs};
+use crate::{FileRounds, FileRun, have_delta, outcome_of_rounds, screened_arcs};
 use cert_data::Outcome;
 use eph_store::NavFile;
 use epoch_pair::{Options, SessionFault, SessionStart, begin};
 use obs_store::ObsFile;
-use row_build::{KeptSights, base_halves};
+use row_build::{KeptSights, base_pseudoranges};
 use std::alloc::{AllocError, Global};
 
 /// The used satellites of the taken pairs, and the arcs that are kept of them. `start_run` begins with it; that it is public
@@ -37,17 +37,17 @@ pub fn screened(
     ensures screened { IfOk result (AreScreened base.now rover.now nav.now options.now
         begun.now.position begun.now.signals begun.now.taken.items) }
     ensures cut { IfOk result (λ f. IsCutOf f.screened.used f.kept) }
-    ensures halves { IfOk result (λ f. AreBaseHalves f.screened.boxes f.position f.halves.items) }
+    ensures base_pseudoranges { IfOk result (λ f. AreBasePseudoranges f.screened.boxes f.position f.base_pseudoranges.items) }
 {
     let cut = screened_arcs(alloc, base, rover, nav, begun, options)?;
-    let halves = base_halves(alloc, &cut.screened, &begun.position)?;
+    let base_pseudoranges = base_pseudoranges(alloc, &cut.screened, &begun.position)?;
     Ok(FileRounds {
         screened: cut.screened,
         kept: cut.arcs.kept,
         position: begun.position,
         signals: begun.signals,
         system: options.system,
-        halves,
+        base_pseudoranges,
     })
 }
 
@@ -97,7 +97,7 @@ pub fn finish_run(alloc: Global, run: &RunStart, options: &Options) -> Result<Ou
         made: 0,
         kept: KeptSights::none(alloc),
     };
-    let out = outcome(alloc, &mut rounds, &run.begun, kept, run.delta, options)?;
+    let out = outcome_of_rounds(alloc, &mut rounds, &run.begun, kept, run.delta, options)?;
     Ok(out)
 }
 

@@ -17,7 +17,7 @@ use Rattle.cert_check.specs.Settled.{IsBestByRatioWhereFixed}
 use Rattle.session.specs.Answers.{IsBestAnswer}
 use Rattle.session.specs.Outcomes.{IsOutcome}
 use Rattle.report_text.specs.OutcomeText.{is_fixed, is_fixed_tail}
-use Rattle.session_jobs.specs.FixJobs.{IsFix, IsFixedFor, IsOutcomeFor}
+use Rattle.session_jobs.specs.FixJobs.{IsFix, IsFixedFor, IsProvedOutcome}
 use Rattle.session_jobs.proofs.Runs.{stands_for}
 use Rattle.session_jobs.proofs.Certified.{ends_once, certified_again, no_other}
 
@@ -71,8 +71,8 @@ fixed_for b r n o outcome is best fixed =
       stands = stands_for b r n o outcome fixed_answer.cert is fixed_answer.is;
     }
 
-pub outcome_for : (b r : ObsFile) (n : Records) (o : Options) (outcome : Outcome) → IsOutcome b r n o outcome → IsBestAnswer outcome.answer → IsOutcomeFor b r n o outcome
-outcome_for b r n o outcome is best = record {
+pub proved_outcome : (b r : ObsFile) (n : Records) (o : Options) (outcome : Outcome) → IsOutcome b r n o outcome → IsBestAnswer outcome.answer → IsProvedOutcome b r n o outcome
+proved_outcome b r n o outcome is best = record {
   is = is;
   fixed = fixed_for b r n o outcome is best;
   only = ends_once b r n o outcome is;

@@ -16,7 +16,7 @@ use Rattle.session.specs.FileRules.{rules_of}
 use Rattle.session.specs.Answers.{IsAnswer}
 use Rattle.session.specs.Origins.{origin_of}
 use Rattle.session.specs.Outcomes.{IsOutcome}
-use Rattle.session_jobs.specs.FixJobs.{StandsForIts}
+use Rattle.session_jobs.specs.FixJobs.{CertStandsForFiles}
 
 -- a run ends in a session that its rules have
 full_stands : (rules : Rules) (ratio budget : ℕ) (made : RoundCounts) (s : Session) (tail : Tail) → EndsFull rules ratio budget made s tail → rules.stands s
@@ -25,7 +25,7 @@ full_stands rules ratio budget made s tail full = elim (full.1) [
   | inr decides ↦ decides.stands
 ]
 
-pub stands_for : (b r : ObsFile) (n : Records) (o : Options) (outcome : Outcome) (cert : Cert) → IsOutcome b r n o outcome → outcome.answer ≡ Full cert → StandsForIts b r n o cert
+pub stands_for : (b r : ObsFile) (n : Records) (o : Options) (outcome : Outcome) (cert : Cert) → IsOutcome b r n o outcome → outcome.answer ≡ Full cert → CertStandsForFiles b r n o cert
 stands_for b r n o outcome cert is full =
     let rounds = is.rounds in
     let session : Session = cert.session in

@@ -20,21 +20,21 @@ use Rattle.job_answers.specs.Endings.{Ending, ending}
 -- The kept arcs of the files: of the pairs that are taken the used satellites, by the base's position and the solutions of
 -- the satellites' records with the constants of the system; and of these the arcs on the bands of the options that are long
 -- enough, with the number of the shorter ones.
-pub record AreArcsOf (b r : ObsFile) (n : Records) (o : Options) (kept : List Arc) (short : ℕ) : Type 0 where
+pub record AreArcsOf (base rover : ObsFile) (nav : Records) (options : Options) (kept : List Arc) (short : ℕ) : Type 0 where
   pub position : List ℤ
-  pub position_is : IsPosition b position
+  pub position_is : IsPosition base position
   pub signals : Signals
-  pub signals_are : AreSignals (bands_of o.bands) b r signals
-  pub sparse : AreSparse o.gap b r
+  pub signals_are : AreSignals (bands_of options.bands) base rover signals
+  pub sparse : AreSparse options.gap base rover
   pub taken : List PairOf
-  pub taken_are : AreTaken b r o taken
+  pub taken_are : AreTaken base rover options taken
   pub used : List UsedPair
-  pub used_are : AreUsedPairs (setting_of b n signals o.mask (world_of o.system)) b.epochs r.epochs taken used
-  pub kept_are : AreKept (bands_of o.bands) o.jump o.arc used kept short
+  pub used_are : AreUsedPairs (setting_of base nav signals options.mask (world_of options.system)) base.epochs rover.epochs taken used
+  pub kept_are : AreKept (bands_of options.bands) options.jump options.arc used kept short
   pub datums : HaveDatums kept
 
-pub record AnswersArcs (o : Options) (b r : ObsFile) (n : Records) (end : Ending) : Type 0 where
+pub record AnswersArcs (options : Options) (base rover : ObsFile) (nav : Records) (end : Ending) : Type 0 where
   pub kept : List Arc
   pub short : ℕ
-  pub are : AreArcsOf b r n o kept short
-  pub end_is : end ≡ ending Done (arcs_text o.system kept short) []
+  pub are : AreArcsOf base rover nav options kept short
+  pub end_is : end ≡ ending Done (arcs_text options.system kept short) []

@@ -42,28 +42,28 @@ pub record IsFix (cert : Cert) : Type 0 where
 -- The certificate's session stands for the files: it has exactly one row for each used observation on the bands of the
 -- options, and each box holds all solutions of the user algorithm with the constants of the options' system, seen from the
 -- base's position and from the session's point.
-pub record StandsForIts (b r : ObsFile) (n : Records) (o : Options) (cert : Cert) : Type 0 where
-  pub ratio_is : cert.ratio ≡ o.ratio
-  pub budget_is : cert.budget ≡ o.budget
+pub record CertStandsForFiles (base rover : ObsFile) (nav : Records) (options : Options) (cert : Cert) : Type 0 where
+  pub ratio_is : cert.ratio ≡ options.ratio
+  pub budget_is : cert.budget ≡ options.budget
   pub position : List ℤ
-  pub position_is : IsPosition b position
+  pub position_is : IsPosition base position
   pub signals : Signals
-  pub signals_are : AreSignals (bands_of o.bands) b r signals
+  pub signals_are : AreSignals (bands_of options.bands) base rover signals
   pub taken : List PairOf
-  pub taken_are : AreTaken b r o taken
-  pub stands : StandsForFiles (origin_of b r n o position signals taken)
+  pub taken_are : AreTaken base rover options taken
+  pub stands : StandsForFiles (origin_of base rover nav options position signals taken)
       cert.session.point (map (λ (a : Arc). a.shift) cert.session.arcs) 0 cert.session
 
 -- The answer is a certificate that says `fixed`, of a session that stands for the files. All other integers have a sum of
 -- squares that is greater by the ratio. A check of it says that it is certified.
-pub record IsFixedFor (b r : ObsFile) (n : Records) (o : Options) (answer : Answer) : Type 0 where
+pub record IsFixedFor (base rover : ObsFile) (nav : Records) (options : Options) (answer : Answer) : Type 0 where
   pub cert : Cert
   pub answer_is : answer ≡ Full cert
   pub fix : IsFix cert
   pub by_ratio : IsBestByRatio cert.ratio cert.session (first_of fix.best) fix.moved
   pub certified : IsVerdictOf cert.session cert.ratio cert.budget cert.tail Certified
   pub only : (v : Verdict) → IsVerdictOf cert.session cert.ratio cert.budget cert.tail v → v ≡ Certified
-  pub stands : StandsForIts b r n o cert
+  pub stands : CertStandsForFiles base rover nav options cert
 
 -- done for a fix, else declined
 abbrev pub status_of : Answer → Status
@@ -71,15 +71,15 @@ status_of a = verdict_status (is_fixed a)
 
 -- The outcome of the files, whatever is printed of it. A certificate of it stands for the files, whatever it says. The round of its
 -- session ends the run, and in no other way.
-pub record IsOutcomeFor (b r : ObsFile) (n : Records) (o : Options) (outcome : Outcome) : Type 0 where
-  pub is : IsOutcome b r n o outcome
-  pub fixed : is_fixed outcome.answer ≡ true → IsFixedFor b r n o outcome.answer
+pub record IsProvedOutcome (base rover : ObsFile) (nav : Records) (options : Options) (outcome : Outcome) : Type 0 where
+  pub is : IsOutcome base rover nav options outcome
+  pub fixed : is_fixed outcome.answer ≡ true → IsFixedFor base rover nav options outcome.answer
   pub only : (cert : Cert) → outcome.answer ≡ Full cert → IsOnlyEnd (outcome.rounds.fine == most_rounds 0) cert.session cert.ratio cert.budget cert.tail
-  pub stands : (cert : Cert) → outcome.answer ≡ Full cert → StandsForIts b r n o cert
+  pub stands : (cert : Cert) → outcome.answer ≡ Full cert → CertStandsForFiles base rover nav options cert
 
 -- That outcome, in its two texts. A certificate that is printed is the only one with its text.
-pub record AnswersFix (o : Options) (b r : ObsFile) (n : Records) (end : Ending) : Type 0 where
+pub record AnswersFix (options : Options) (base rover : ObsFile) (nav : Records) (end : Ending) : Type 0 where
   pub outcome : Outcome
-  pub holds : IsOutcomeFor b r n o outcome
+  pub holds : IsProvedOutcome base rover nav options outcome
   pub whole : IsWholeAnswer outcome.answer
   pub end_is : end ≡ ending (status_of outcome.answer) (answer_text outcome.answer) (outcome_text outcome)

@@ -14,7 +14,7 @@ pub struct KeptArcs;
 impl SessionCommand for KeptArcs {
     ghost answers = { AnswersArcs };
 
-    fn answer(
+    fn answer_files(
         &self,
         alloc: Global,
         files: SessionFiles,

@@ -34,7 +34,7 @@ pub struct Fix;
 impl SessionCommand for Fix {
     ghost answers = { AnswersFix };
 
-    fn answer(
+    fn answer_files(
         &self,
         alloc: Global,
         files: SessionFiles,

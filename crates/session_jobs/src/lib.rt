@@ -6,7 +6,7 @@
 //! integers with its move are strictly best for all data in the printed boxes, and best by the ratio of the options
 //! (`by_ratio`), that its session stands for the files, and that a check of it answers `Certified`
 //! (`IsFixedFor`). Whatever a certificate says, it stands for the files (`stands`), and the round of its session had to end
-//! the run, and could end in no other way (`only`, both of `IsOutcomeFor`). One that is printed
+//! the run, and could end in no other way (`only`, both of `IsProvedOutcome`). One that is printed
 //! is the only one with its text (`whole`, with `one_spelling_law` of cert_text).
 //!
 //! An outcome that is a fix or none is a `SessionOutcome`; `output_of` answers it with its two texts, done for a fix and else

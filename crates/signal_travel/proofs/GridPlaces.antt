@@ -12,11 +12,11 @@ use Rattle.whole_math.specs.Rational.{Rational, of_whole, ◌-ʳ◌, ◌*ʳ◌, 
 use Rattle.whole_math.specs.Boxes.{of_scale}
 use Rattle.whole_math.specs.Over.{Over}
 use Rattle.whole_math.proofs.Over.{over_add, over_mul, over_times, over_zero, over_le, over_lt}
-use Rattle.orbit_model.specs.SeenPlaces.{Place, point_of, difference, dot, square, mask_side, height_side, IsAboveMask, IsBelowMask}
+use Rattle.orbit_model.specs.SeenPlaces.{Position, point_of, difference, dot, square, mask_side, height_side, IsAboveMask, IsBelowMask}
 use Rattle.signal_travel.specs.Grid.{grid, offset, dot3, IsAboveWhole}
 
 -- the place on the grid
-abbrev pub grid_place : ℤ → ℤ → ℤ → Place
+abbrev pub grid_place : ℤ → ℤ → ℤ → Position
 grid_place x y z = record { x = of_scale 17 (grid x); y = of_scale 17 (grid y); z = of_scale 17 (grid z) }
 
 -- ---- near
@@ -65,14 +65,14 @@ offset_over g p = same_by (g ∷ p ∷ []) (λ g p. ((g ⊗ nat 10000 ⊖ p ⊗ 
 point_over : (p : ℤ) → Over (pos 10000) p (divided (of_whole p) 10000 (lit< tt))
 point_over p = refl
 
-dot_over : (j k a b c p q r : ℤ) (v w : Place) → Over j a v.x → Over j b v.y → Over j c v.z → Over k p w.x → Over k q w.y → Over k r w.z → Over (j *ℤ k) (dot3 a b c p q r) (dot v w)
+dot_over : (j k a b c p q r : ℤ) (v w : Position) → Over j a v.x → Over j b v.y → Over j c v.z → Over k p w.x → Over k q w.y → Over k r w.z → Over (j *ℤ k) (dot3 a b c p q r) (dot v w)
 dot_over j k a b c p q r v w ea eb ec ep eq er =
     over_add (j *ℤ k) ((a *ℤ p) +ℤ (b *ℤ q)) (c *ℤ r) (v.x *ʳ w.x +ʳ v.y *ʳ w.y) (v.z *ʳ w.z)
     (over_add (j *ℤ k) (a *ℤ p) (b *ℤ q) (v.x *ʳ w.x) (v.y *ʳ w.y) (over_mul j k a p v.x w.x ea ep) (over_mul j k b q v.y w.y eb eq))
     (over_mul j k c r v.z w.z ec er)
 
 -- both sides of the rule over one denominator
-pub record AreSides (mask : ℕ) (d s t : ℤ) (seen point : Place) : Type 0 where
+pub record AreSides (mask : ℕ) (d s t : ℤ) (seen point : Position) : Type 0 where
   pub rise : Over (pos 819200000000) d (dot (difference seen point) point)
   pub mask_is : Over (pos 671088640000000000000000) (pos (mask * mask) *ℤ (s *ℤ t)) (mask_side mask seen point)
   pub height_is : Over (pos 671088640000000000000000) (pos 1000000 *ℤ (d *ℤ d)) (height_side seen point)
@@ -81,9 +81,9 @@ pub sides : (mask : ℕ) (x y z p q r : ℤ) →
     AreSides mask (dot3 (offset x p) (offset y q) (offset z r) p q r)
     (dot3 (offset x p) (offset y q) (offset z r) (offset x p) (offset y q) (offset z r)) (dot3 p q r p q r) (grid_place x y z) (point_of p q r)
 sides mask x y z p q r =
-    let grid_point : Place = grid_place x y z in
-    let point : Place = point_of p q r in
-    let offset_vector : Place = difference grid_point point in
+    let grid_point : Position = grid_place x y z in
+    let point : Position = point_of p q r in
+    let offset_vector : Position = difference grid_point point in
     let a : ℤ = offset x p in
     let b : ℤ = offset y q in
     let c : ℤ = offset z r in
@@ -102,7 +102,7 @@ sides mask x y z p q r =
       height_is = over_times (pos 671088640000000000000000) (pos 1000000) (k *ℤ k) (dot offset_vector point *ʳ dot offset_vector point) (over_mul (pos 819200000000) (pos 819200000000) k k (dot offset_vector point) (dot offset_vector point) rise rise);
     }
 
-pub is_above : (mask : ℕ) (d s t : ℤ) (seen point : Place) → AreSides mask d s t seen point → pos 0 ≤ℤ d
+pub is_above : (mask : ℕ) (d s t : ℤ) (seen point : Position) → AreSides mask d s t seen point → pos 0 ≤ℤ d
     → ((pos (mask * mask) *ℤ s) *ℤ t) ≤ℤ ((pos 1000 *ℤ d) *ℤ (pos 1000 *ℤ d)) → IsAboveMask mask seen point
 is_above mask d s t seen point e d0 h = (
   over_le 819200000000 819200000000 (pos 0) d (of_whole (pos 0)) (dot (difference seen point) point) (lit< tt) (lit< tt) (over_zero (pos 819200000000)) e.rise (positive d d0),
@@ -120,14 +120,14 @@ is_above mask d s t seen point e d0 h = (
       nat 671088640000000000000000 ⊗ (nat 1000 ⊗ d ⊗ (nat 1000 ⊗ d) ⊖ m ⊗ s ⊗ t),
     )) refl (prod_nn (pos_nn 671088640000000000000000) (less_nn h))
 
-pub falls : (mask : ℕ) (d s t : ℤ) (seen point : Place) → AreSides mask d s t seen point → d <ℤ pos 0 → IsBelowMask mask seen point
+pub falls : (mask : ℕ) (d s t : ℤ) (seen point : Position) → AreSides mask d s t seen point → d <ℤ pos 0 → IsBelowMask mask seen point
 falls mask d s t seen point e h = inl (over_lt 819200000000 819200000000 d (pos 0) (dot (difference seen point) point) (of_whole (pos 0)) (lit< tt)
     (lit< tt) e.rise (over_zero (pos 819200000000)) (negative d h))
   where
     negative : (d : ℤ) → d <ℤ pos 0 → (d *ℤ pos 819200000000) <ℤ (pos 0 *ℤ pos 819200000000)
     negative d h = omega (arith, ints)
 
-pub is_low : (mask : ℕ) (d s t : ℤ) (seen point : Place) → AreSides mask d s t seen point → ((pos 1000 *ℤ d) *ℤ (pos 1000 *ℤ d)) <ℤ ((pos (mask * mask) *ℤ s) *ℤ t) → IsBelowMask mask seen point
+pub is_low : (mask : ℕ) (d s t : ℤ) (seen point : Position) → AreSides mask d s t seen point → ((pos 1000 *ℤ d) *ℤ (pos 1000 *ℤ d)) <ℤ ((pos (mask * mask) *ℤ s) *ℤ t) → IsBelowMask mask seen point
 is_low mask d s t seen point e h = inr (over_lt 671088640000000000000000 671088640000000000000000
     (pos 1000000 *ℤ (d *ℤ d)) (pos (mask * mask) *ℤ (s *ℤ t)) (height_side seen point) (mask_side mask seen point) (lit< tt) (lit< tt) e.height_is e.mask_is
     (subst₂ (λ (u v : ℤ). (u *ℤ pos 671088640000000000000000) <ℤ (v *ℤ pos 671088640000000000000000)) (left d) (mul_assoc_ℤ (pos (mask * mask)) s t)

@@ -12,7 +12,7 @@ use Rattle.whole_math.proofs.RationalLaws.{≤ʳ_trans}
 use Rattle.iv_core.specs.Boxes.{least_ratio, most_ratio}
 use Rattle.iv_core.proofs.QuotientLaws.{positive_is}
 use Rattle.orbit_model.specs.Places.{IsBetweenDistances}
-use Rattle.orbit_model.specs.SeenPlaces.{Place, difference, square, point_of, IsDisplacement}
+use Rattle.orbit_model.specs.SeenPlaces.{Position, difference, square, point_of, IsDisplacement}
 use Rattle.orbit_model.proofs.Apart.{IsBetween, vector_square, whole_le}
 use Rattle.orbit_model.proofs.Exists.{coordinates, turned_round, turned_about}
 use Rattle.signal_travel.specs.declared.places.VectorBox.{VectorBox}
@@ -54,14 +54,14 @@ ratio_size a b c d p t c0 cd l u =
         ceil_least (b *ℤ pos p) (pos t) (unsigned_abs y) size_is_plain.0 (omega (arith, lins, same_product, product_at_most, u))
 
 -- ---- the vectors from the point to the places of a box
-pub seen_square : (b : VectorBox) (p : Point) (q : Place) → IsBetweenDistances 18900000 38100000 b.x b.y b.z → HoldsVector b q
+pub seen_square : (b : VectorBox) (p : Point) (q : Position) → IsBetweenDistances 18900000 38100000 b.x b.y b.z → HoldsVector b q
     → IsBetween 141000000000000 2040000000000000 (square (difference q (point_of p.x p.y p.z)))
 seen_square b p q away h =
     let is_away = away q.x q.y q.z h.0 h.1 h.2 in
     vector_square q (point_of p.x p.y p.z) (record { low = is_away.0; high = is_away.1 }) (point_place p)
 
 pub seen_between : (b v : VectorBox) (p : Point) → IsBetweenDistances 18900000 38100000 b.x b.y b.z
-    → ((q : Place) → HoldsVector b q → HoldsVector v (difference q (point_of p.x p.y p.z))) → HasVectorBetween 141000000000000 2040000000000000 v
+    → ((q : Position) → HoldsVector b q → HoldsVector v (difference q (point_of p.x p.y p.z))) → HasVectorBetween 141000000000000 2040000000000000 v
 seen_between b v p away holds =
     let square_between = seen_square b p (lowest b) away (lowest_held b) in
     record { vector = difference (lowest b) (point_of p.x p.y p.z); held = holds (lowest b) (lowest_held b); far = square_between.low; near = square_between.high }
@@ -74,13 +74,13 @@ pub near_enough : (q : Rational) → IsBetween 141000000000000 2040000000000000 
 near_enough q h = ≤ʳ_trans q (of_whole (pos 2040000000000000)) (of_whole (pos 2251799813685248)) h.high (whole_le 2040000000000000 2251799813685248 (lit≤ tt))
 
 -- the coordinates of a displacement
-pub move_x : (m : Place) → IsDisplacement m → IsAtMostInSize (of_whole (pos 16)) m.x
+pub move_x : (m : Position) → IsDisplacement m → IsAtMostInSize (of_whole (pos 16)) m.x
 move_x m h = coordinates m.x m.y m.z 16 h
 
-pub move_y : (m : Place) → IsDisplacement m → IsAtMostInSize (of_whole (pos 16)) m.y
+pub move_y : (m : Position) → IsDisplacement m → IsAtMostInSize (of_whole (pos 16)) m.y
 move_y m h = coordinates m.y m.x m.z 16 (≤ʳ_trans (m.y *ʳ m.y +ʳ m.x *ʳ m.x +ʳ m.z *ʳ m.z) (square m) (of_whole (pos 256)) (turned_round m.x m.y m.z) h)
 
-pub move_z : (m : Place) → IsDisplacement m → IsAtMostInSize (of_whole (pos 16)) m.z
+pub move_z : (m : Position) → IsDisplacement m → IsAtMostInSize (of_whole (pos 16)) m.z
 move_z m h = coordinates m.z m.y m.x 16 (≤ʳ_trans (m.z *ʳ m.z +ʳ m.y *ʳ m.y +ʳ m.x *ʳ m.x) (square m) (of_whole (pos 256)) (turned_about m.x m.y m.z) h)
 
 -- what an end of a coordinate is at most, in plain powers

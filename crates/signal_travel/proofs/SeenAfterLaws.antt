@@ -13,7 +13,7 @@ use Rattle.iv_core.specs.Intervals.{Holds}
 use Rattle.trig_box.specs.AnglePairs.{Pair, IsAnglePair}
 use Rattle.trig_box.proofs.PairLaws.{sharp_law}
 use Rattle.orbit_model.specs.Elements.{earth_rate}
-use Rattle.orbit_model.specs.SeenPlaces.{Place, difference, square, turned_back, point_of, IsSeenPlace, over_light_speed_squared, range_of}
+use Rattle.orbit_model.specs.SeenPlaces.{Position, difference, square, turned_back, point_of, IsSeenPlace, over_light_speed_squared, range_of}
 use Rattle.orbit_model.proofs.Orders.{root_r}
 use Rattle.orbit_model.proofs.NearRoots.{range_root, near_high, near_low, root_nn}
 use Rattle.orbit_model.proofs.Apart.{IsBetween, turned_square, loosely, vector_square}
@@ -58,13 +58,13 @@ near_turns d a b p q w hp hq =
 
 -- ---- the times of light after them
 -- the squared distance, with the Earth turned and at the seen place
-record IsGap (sent point : Place) (turn : Pair) (seen : Place) : Type 0 where
+record IsGap (sent point : Position) (turn : Pair) (seen : Position) : Type 0 where
   bounds : IsBetween 141000000000000 2040000000000000 (square (difference (turned_back turn sent) point))
   same : square (difference seen point) ≈ square (difference (turned_back turn sent) point)
 
-gap : (sent point seen : Place) (a t : Rational) → AreApart sent point → (x : IsSeenAfter sent point a t seen) → IsGap sent point x.turn seen
+gap : (sent point seen : Position) (a t : Rational) → AreApart sent point → (x : IsSeenAfter sent point a t seen) → IsGap sent point x.turn seen
 gap sent point seen a t h x =
-    let place : Place = turned_back x.turn sent in
+    let place : Position = turned_back x.turn sent in
     record {
       bounds = vector_square place point (loosely (square place) (turned_square sent (earth_rate *ʳ a) x.turn h.is_sent x.turn_is)) h.is_receiver;
       same = square_same (difference seen point) (difference place point) (difference_same seen place point x.seen_is);
@@ -74,7 +74,7 @@ rate_most : of_whole (pos 1000000000000000) *ʳ earth_rate ≤ʳ of_whole (pos 7
 rate_most = le_pos (1000000000000000 * 72921151467) (72921151467 * 1000000000000000) (lit≤ tt)
 
 -- 1000 |t - s| ≤ d + 2^-50 for times of light t and s after turns in times within d of each other
-pub closer : (sent point seen other : Place) (d a b t s : Rational) → AreApart sent point → of_whole (pos 0) ≤ʳ d → AreWithin d a b →
+pub closer : (sent point seen other : Position) (d a b t s : Rational) → AreApart sent point → of_whole (pos 0) ≤ʳ d → AreWithin d a b →
     IsSeenAfter sent point a t seen → IsSeenAfter sent point b s other → of_whole (pos 1000) *ʳ (t -ʳ s) ≤ʳ d +ʳ two_to_minus 50
 unfolding half_move
 closer sent point seen other d a b t s h o w x y =
@@ -107,15 +107,15 @@ closer sent point seen other d a b t s h o w x y =
     enough d o = rate_enough d earth_rate (two_to_minus 68) (two_to_minus 50) o rate_most (le_pos (2 ^ 68) (2 ^ 68) (lit≤ tt)) (le_pos (2 ^ 50) (2 ^ 50) (lit≤ tt))
 
 -- ---- light comes from somewhere after each turn
-record HasLight (sent point : Place) (turned : Rational) : Type 0 where
-  seen : Place
+record HasLight (sent point : Position) (turned : Rational) : Type 0 where
+  seen : Position
   travel : Rational
   is_seen : IsSeenAfter sent point turned travel seen
 
-light_after : (sent point : Place) (l : ℤ) → AreApart sent point → pos 0 ≤ℤ l → l ≤ℤ pos 192153584101141163 → HasLight sent point (of_scale 60 l)
+light_after : (sent point : Position) (l : ℤ) → AreApart sent point → pos 0 ≤ℤ l → l ≤ℤ pos 192153584101141163 → HasLight sent point (of_scale 60 l)
 light_after sent point l h l0 l1 =
     let some_turn_exists = some_turn l l0 l1 in
-    let place : Place = turned_back some_turn_exists.turn sent in
+    let place : Position = turned_back some_turn_exists.turn sent in
     let square_length : Rational = square (difference place point) in
     let bounds = vector_square place point (loosely (square place) (turned_square sent (earth_rate *ʳ of_scale 60 l) some_turn_exists.turn h.is_sent some_turn_exists.is_pair)) h.is_receiver in
     let has_root = near_root_exists (over_light_speed_squared square_length) (positive square_length bounds.low) in
@@ -128,15 +128,15 @@ light_after sent point l h l0 l1 =
         go n d p h = omega (arith, ints)
 
 -- ---- a pass that leads near where it began
-is_after : (sent point seen : Place) (t : Rational) → IsSeenPlace sent point t seen → IsSeenAfter sent point t t seen
+is_after : (sent point seen : Position) (t : Rational) → IsSeenPlace sent point t seen → IsSeenAfter sent point t t seen
 is_after sent point seen t h = record { turn = h.turn; turn_is = h.turn_is; seen_is = h.seen_is; travel_is = h.travel_is }
 
 reach_enough : of_whole (pos 1000) *ʳ of_scale 60 (pos 4080) +ʳ two_to_minus 50 ≤ʳ of_whole (pos 999) *ʳ of_scale 60 (pos 4096)
 reach_enough = omega (arith, ints)
 
-pub settled : (sent point seen : Place) (g lo hi l h : ℤ) (t : Rational) → AreApart sent point → pos 0 ≤ℤ g → g ≤ℤ pos 192153584101141163 →
+pub settled : (sent point seen : Position) (g lo hi l h : ℤ) (t : Rational) → AreApart sent point → pos 0 ≤ℤ g → g ≤ℤ pos 192153584101141163 →
     l ≡ g -ℤ pos 4096 → h ≡ g +ℤ pos 4096 →
-    ((other : Place) (s : Rational) → IsSeenAfter sent point (of_scale 60 g) s other → InBox 60 lo hi s) →
+    ((other : Position) (s : Rational) → IsSeenAfter sent point (of_scale 60 g) s other → InBox 60 lo hi s) →
     (hi -ℤ g) ≤ℤ pos 4080 → (g -ℤ lo) ≤ℤ pos 4080 → IsSeenPlace sent point t seen → InBox 60 l h t
 settled sent point seen g lo hi l h t k g0 g1 el eh holds above below is =
     let light = light_after sent point g k g0 g1 in
@@ -181,11 +181,11 @@ settled sent point seen g lo hi l h t k g0 g1 el eh holds above below is =
 -- ---- in the code's terms: a pass from the times around x leads near x, so that the times around it are all
 pub all_around : (sent : SentBox) (point : Point) (box travel : Iv 60) (x : ℤ) → pos 4096 ≤ℤ x → (x +ℤ pos 4096) ≤ℤ pos 192153584101141163 →
     box.lo ≡ x -ℤ pos 4096 → box.hi ≡ x +ℤ pos 4096 →
-    ((p seen : Place) (u t : Rational) → HoldsVector sent.place p → Holds box u → IsSeenAfter p (point_of point.x point.y point.z) u t seen → Holds travel t) →
+    ((p seen : Position) (u t : Rational) → HoldsVector sent.place p → Holds box u → IsSeenAfter p (point_of point.x point.y point.z) u t seen → Holds travel t) →
     (travel.hi -ℤ x) ≤ℤ pos 4080 → (x -ℤ travel.lo) ≤ℤ pos 4080 →
-    (p seen : Place) (t : Rational) → HoldsVector sent.place p → IsSeenPlace p (point_of point.x point.y point.z) t seen → Holds box t
+    (p seen : Position) (t : Rational) → HoldsVector sent.place p → IsSeenPlace p (point_of point.x point.y point.z) t seen → Holds box t
 all_around sent point box travel x low high el eh light above below p seen t h s =
-    let place : Place = point_of point.x point.y point.z in
+    let place : Position = point_of point.x point.y point.z in
     settled p place seen x travel.lo travel.hi box.lo box.hi t (record { is_sent = sent.away p.x p.y p.z h.0 h.1 h.2; is_receiver = point_place point })
     (least x low) (most x high) el eh
     (λ other u r. light p other (of_scale 60 x) u h (end_in 60 box.lo box.hi x (first box.lo x el) (last box.hi x eh)) r) above below s

@@ -16,7 +16,7 @@ use Rattle.trig_box.specs.AnglePairs.{Pair, IsAnglePair}
 use Rattle.trig_box.proofs.PairLaws.{canonical_exists, canonical_is_pair}
 use Rattle.orbit_model.specs.Elements.{earth_rate}
 use Rattle.orbit_model.specs.Places.{IsBetweenDistances, IsSentPlace, IsReceiverPlace}
-use Rattle.orbit_model.specs.SeenPlaces.{Place, difference, square, turned_back, point_of, AreSamePlace}
+use Rattle.orbit_model.specs.SeenPlaces.{Position, difference, square, turned_back, point_of, AreSamePlace}
 use Rattle.orbit_model.proofs.Apart.{IsBetween, turned_square, loosely, vector_square}
 use Rattle.orbit_model.proofs.DistanceCertificates.{place_far, place_near}
 use Rattle.obs_rows.specs.ReceiverPoints.{IsReceiverPoint}
@@ -25,7 +25,7 @@ use Rattle.signal_travel.specs.declared.sent.Point.{Point}
 use Rattle.signal_travel.specs.VectorBoxes.{HoldsVector, IsVectorAtMostWide, HasVectorBetween}
 
 -- equal places lie in the same boxes
-pub held_along : (b : VectorBox) (p q : Place) → AreSamePlace p q → HoldsVector b q → HoldsVector b p
+pub held_along : (b : VectorBox) (p q : Position) → AreSamePlace p q → HoldsVector b q → HoldsVector b p
 held_along b p q e h = (
   InBox-along 36 b.x.lo b.x.hi q.x p.x (≈_sym p.x q.x e.0) h.0,
   InBox-along 36 b.y.lo b.y.hi q.y p.y (≈_sym p.y q.y e.1) h.1,
@@ -33,7 +33,7 @@ held_along b p q e h = (
 )
 
 -- the place of the lower ends
-pub lowest : VectorBox → Place
+pub lowest : VectorBox → Position
 lowest b = record { x = of_scale 36 b.x.lo; y = of_scale 36 b.y.lo; z = of_scale 36 b.z.lo }
 
 pub lowest_held : (b : VectorBox) → HoldsVector b (lowest b)
@@ -72,15 +72,15 @@ some_turn l h k =
 
 -- a place in the box of turned places, with its distance from the Earth's centre
 pub record HasTurned (b : VectorBox) : Type 0 where
-  pub place : Place
+  pub place : Position
   pub held : HoldsVector b place
   pub bounds : IsBetween 360990000000000 1444030000000000 (square place)
 
 pub turned_in : (sent b : VectorBox) (tl th : ℤ) → IsBetweenDistances 19000000 38000000 sent.x sent.y sent.z → pos 0 ≤ℤ tl → tl ≤ℤ th → th ≤ℤ pos 192153584101141163 →
-    ((t : Rational) (pair : Pair) → InBox 60 tl th t → IsAnglePair 5 (earth_rate *ʳ t) pair.cos pair.sin → (p : Place) → HoldsVector sent p → HoldsVector b (turned_back pair p)) → HasTurned b
+    ((t : Rational) (pair : Pair) → InBox 60 tl th t → IsAnglePair 5 (earth_rate *ʳ t) pair.cos pair.sin → (p : Position) → HoldsVector sent p → HoldsVector b (turned_back pair p)) → HasTurned b
 turned_in sent b tl th away t0 o t1 holds =
     let some_turn_exists = some_turn tl t0 (through tl th o t1) in
-    let lowest_place : Place = lowest sent in
+    let lowest_place : Position = lowest sent in
     record {
       place = turned_back some_turn_exists.turn lowest_place;
       held = holds (of_scale 60 tl) some_turn_exists.turn (end_in 60 tl th tl (le_refl_ℤ tl) o) some_turn_exists.is_pair lowest_place (lowest_held sent);
@@ -91,7 +91,7 @@ turned_in sent b tl th away t0 o t1 holds =
     through a b h k = omega (arith, ints)
 
 -- the vector from the point to it
-pub between : (b v : VectorBox) (p : Point) → HasTurned b → ((q : Place) → HoldsVector b q → HoldsVector v (difference q (point_of p.x p.y p.z))) → HasVectorBetween 141000000000000 2040000000000000 v
+pub between : (b v : VectorBox) (p : Point) → HasTurned b → ((q : Position) → HoldsVector b q → HoldsVector v (difference q (point_of p.x p.y p.z))) → HasVectorBetween 141000000000000 2040000000000000 v
 between b v p h holds =
     let square_between = vector_square h.place (point_of p.x p.y p.z) (loosely (square h.place) h.bounds) (point_place p) in
     record { vector = difference h.place (point_of p.x p.y p.z); held = holds h.place h.held; far = square_between.low; near = square_between.high }
@@ -108,7 +108,7 @@ near b p q w h k = apart p q (of_scale 36 b.hi) (of_scale 36 b.lo) h.1 k.0 (go b
 
 pub all_away : (b : VectorBox) → HasTurned b → IsVectorAtMostWide (pos (2 ^ 19)) b → IsBetweenDistances 18900000 38100000 b.x b.y b.z
 all_away b r n x y z ix iy iz =
-    let place : Place = r.place in
+    let place : Position = r.place in
     let is_held = r.held in (
       place_far place.x place.y place.z x y z r.bounds.low r.bounds.high (near b.x x place.x n.0 ix is_held.0) (near b.x place.x x n.0 is_held.0 ix) (near b.y y place.y n.1 iy is_held.1)
           (near b.y place.y y n.1 is_held.1 iy) (near b.z z place.z n.2 iz is_held.2) (near b.z place.z z n.2 is_held.2 iz),

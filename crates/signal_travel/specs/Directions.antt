@@ -1,7 +1,7 @@
 -- What a spread says of a number, and three of a direction.
 use Rattle.std.specs.Prelude.{◌^◌, List, [], ◌∷◌, pos}
 use Rattle.whole_math.specs.Rational.{Rational, Near, of_whole, ◌*ʳ◌}
-use Rattle.orbit_model.specs.SeenPlaces.{Place}
+use Rattle.orbit_model.specs.SeenPlaces.{Position}
 use Rattle.obs_rows.specs.declared.units.TheConstants.{DIRECTION_EXPONENT}
 use Rattle.signal_travel.specs.declared.spread.Spread.{Spread}
 
@@ -17,5 +17,5 @@ AreInSpreads (s ∷ ss) [] = ⊥
 AreInSpreads (s ∷ ss) (q ∷ qs) = IsInSpread s q × AreInSpreads ss qs
 
 -- each coordinate is in its spread
-abbrev pub HoldsDirection : List Spread → Place → Type 0
+abbrev pub HoldsDirection : List Spread → Position → Type 0
 HoldsDirection spreads q = AreInSpreads spreads (q.x ∷ q.y ∷ q.z ∷ [])

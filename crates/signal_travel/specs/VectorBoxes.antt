@@ -5,7 +5,7 @@ use Rattle.whole_math.specs.Rational.{Rational, ◌≤ʳ◌, of_whole, divided}
 use Rattle.iv_core.specs.declared.Iv.{Iv}
 use Rattle.iv_core.specs.Intervals.{Holds, width_of, IsWithin}
 use Rattle.iv_core.specs.Boxes.{near_end, far_end}
-use Rattle.orbit_model.specs.SeenPlaces.{Place, square}
+use Rattle.orbit_model.specs.SeenPlaces.{Position, square}
 use Rattle.signal_travel.specs.declared.places.VectorBox.{VectorBox}
 
 -- a coordinate in units of 0.1 mm, in metres
@@ -13,7 +13,7 @@ abbrev pub coordinate_of : ℤ → Rational
 coordinate_of c = divided (of_whole c) 10000 (lit< tt)
 
 -- each coordinate lies in its box
-abbrev pub HoldsVector : VectorBox → Place → Type 0
+abbrev pub HoldsVector : VectorBox → Position → Type 0
 HoldsVector b p = Holds b.x p.x × Holds b.y p.y × Holds b.z p.z
 
 abbrev pub IsVectorWithin : ℕ → VectorBox → Type 0
@@ -28,7 +28,7 @@ IsVectorAtMostWide w b = (width_of b.x ≤ℤ w) × (width_of b.y ≤ℤ w) × (
 
 -- some vector of the box has a squared length from `least` to `most`
 pub record HasVectorBetween (least most : ℕ) (b : VectorBox) : Type 0 where
-  pub vector : Place
+  pub vector : Position
   pub held : HoldsVector b vector
   pub far : of_whole (pos least) ≤ʳ square vector
   pub near : square vector ≤ʳ of_whole (pos most)

@@ -3,12 +3,12 @@ ghost use Rattle.std.specs.Prelude.{◌≡◌, ◌+◌, ◌*◌, ◌^◌, ◌≤
 ghost use Rattle.whole_math.specs.Rational.{Rational, ◌≈◌, ◌≤ʳ◌, of_whole, ◌+ʳ◌, ◌-ʳ◌, ◌*ʳ◌, IsAtMostInSize};
 ghost use Rattle.iv_core.specs.Intervals.{Holds, width_of, IsWithin};
 ghost use Rattle.orbit_model.specs.Places.{IsBetweenDistances};
-ghost use Rattle.orbit_model.specs.SeenPlaces.{Place, difference, point_of, IsDisplacement, IsMeanDirection};
+ghost use Rattle.orbit_model.specs.SeenPlaces.{Position, difference, point_of, IsDisplacement, IsMeanDirection};
 ghost use Rattle.obs_rows.specs.declared.units.TheConstants.{DIRECTION_EXPONENT};
 ghost use Rattle.signal_travel.specs.VectorBoxes.{HoldsVector, IsVectorAtMostWide};
 ghost use Rattle.signal_travel.specs.Directions.{IsInSpread};
 
-use crate::passes::Sight;
+use crate::passes::SightBoxes;
 use crate::sent::{Point, SeenPlace};
 use crate::spread::Spread;
 use crate::vectors::{length_by, vector_from};
@@ -121,15 +121,15 @@ fn coordinate_spread(x: &Iv<36>, range: &Iv<36>, inverses: &Inverses) -> Spread
 
 /// The spreads of a direction's coordinates.
 #[derive(Clone, Copy)]
-pub struct Direction {
+pub struct DirectionSpreads {
     pub x: Spread,
     pub y: Spread,
     pub z: Spread,
 }
 
 /// The mean directions from the point to the places of the box.
-pub fn direction_to(seen: &SeenPlace, point: &Point) -> Direction
-    ensures { (place move direction : Place) → HoldsVector seen.now.place place →
+pub fn direction_to(seen: &SeenPlace, point: &Point) -> DirectionSpreads
+    ensures { (place move direction : Position) → HoldsVector seen.now.place place →
         IsDisplacement move →
         IsMeanDirection place (point_of point.now.x point.now.y point.now.z) move direction →
         IsInSpread result.x direction.x × IsInSpread result.y direction.y
@@ -138,7 +138,7 @@ pub fn direction_to(seen: &SeenPlace, point: &Point) -> Direction
     let vector = vector_from(point, &seen.place);
     let range = length_by(&vector, 0);
     let inverses = sum_of_ranges(&range).inverses();
-    Direction {
+    DirectionSpreads {
         x: coordinate_spread(&vector.x, &range, &inverses),
         y: coordinate_spread(&vector.y, &range, &inverses),
         z: coordinate_spread(&vector.z, &range, &inverses),
@@ -146,22 +146,22 @@ pub fn direction_to(seen: &SeenPlace, point: &Point) -> Direction
 }
 
 /// The mean directions from the point of a sight to its places, by the vector and the range that it has.
-pub fn direction_of(sight: &Sight, point: &Point) -> Direction
-    requires vector { (p : Place) → HoldsVector sight.now.place p →
+pub fn direction_of(sight: &SightBoxes, point: &Point) -> DirectionSpreads
+    requires vector { (p : Position) → HoldsVector sight.now.place p →
         HoldsVector sight.now.vector (difference p (point_of point.now.x point.now.y point.now.z)) }
     requires narrow { IsVectorAtMostWide (pos (2 ^ 19)) sight.now.place }
     requires range_narrow { width_of sight.now.range ≤ℤ pos (2 ^ 19) }
     requires far { pos (10000000 * 2 ^ 36) ≤ℤ sight.now.range.lo }
     requires away { IsBetweenDistances 18900000 38100000 sight.now.place.x sight.now.place.y
         sight.now.place.z }
-    ensures { (place move direction : Place) → HoldsVector sight.now.place place →
+    ensures { (place move direction : Position) → HoldsVector sight.now.place place →
         IsDisplacement move →
         IsMeanDirection place (point_of point.now.x point.now.y point.now.z) move direction →
         IsInSpread result.x direction.x × IsInSpread result.y direction.y
         × IsInSpread result.z direction.z }
 {
     let inverses = sum_of_ranges(&sight.range).inverses();
-    Direction {
+    DirectionSpreads {
         x: coordinate_spread(&sight.vector.x, &sight.range, &inverses),
         y: coordinate_spread(&sight.vector.y, &sight.range, &inverses),
         z: coordinate_spread(&sight.vector.z, &sight.range, &inverses),

@@ -18,7 +18,7 @@ ghost use Rattle.iv_core.specs.declared.Iv.{Iv};
 ghost use Rattle.iv_core.specs.Intervals.{Holds, width_of};
 ghost use Rattle.orbit_model.specs.Places.{IsBetweenDistances, HasSeenPlace, HoldsPlace};
 ghost use Rattle.whole_math.specs.Rational.{Rational};
-ghost use Rattle.orbit_model.specs.SeenPlaces.{Place, point_of, IsSeenPlace, range_of, IsDisplacement, IsMeanDirection, IsAboveMask, IsBelowMask};
+ghost use Rattle.orbit_model.specs.SeenPlaces.{Position, point_of, IsSeenPlace, range_of, IsDisplacement, IsMeanDirection, IsAboveMask, IsBelowMask};
 ghost use Rattle.obs_rows.specs.ReceiverPoints.{IsReceiverPoint};
 ghost use Rattle.signal_travel.specs.Boxes.{HasNearPlace};
 ghost use Rattle.signal_travel.specs.Directions.{HoldsDirection};
@@ -67,18 +67,18 @@ pub struct SeenBox {
 /// range and the travel time. It takes no memory and is never refused.
 pub fn seen_from(sv: &SvBox, point: &[i64; 3]) -> SeenBox
     requires { IsReceiverPoint point.now }
-    ensures place { (a b c : ℤ) (sent seen : Place) (travel : Rational) →
+    ensures place { (a b c : ℤ) (sent seen : Position) (travel : Rational) →
         point.now ≡ a ∷ b ∷ c ∷ [] → HoldsPlace sv.now.place sent →
         IsSeenPlace sent (point_of a b c) travel seen → HoldsPlace result.place seen }
-    ensures range { (a b c : ℤ) (sent seen : Place) (travel : Rational) →
+    ensures range { (a b c : ℤ) (sent seen : Position) (travel : Rational) →
         point.now ≡ a ∷ b ∷ c ∷ [] → HoldsPlace sv.now.place sent →
         IsSeenPlace sent (point_of a b c) travel seen → Holds result.range (range_of travel) }
-    ensures time { (a b c : ℤ) (sent seen : Place) (travel : Rational) →
+    ensures time { (a b c : ℤ) (sent seen : Position) (travel : Rational) →
         point.now ≡ a ∷ b ∷ c ∷ [] → HoldsPlace sv.now.place sent →
         IsSeenPlace sent (point_of a b c) travel seen → Holds result.travel travel }
 
     // The equations of each place of `sv` have a solution.
-    ensures exists { (a b c : ℤ) (sent : Place) → point.now ≡ a ∷ b ∷ c ∷ [] →
+    ensures exists { (a b c : ℤ) (sent : Position) → point.now ≡ a ∷ b ∷ c ∷ [] →
         HoldsPlace sv.now.place sent → HasSeenPlace sent (point_of a b c) }
 {
     seen_by_guess(sv, point, travel_guess(&sent_box(sv), &point_at(point)))
@@ -88,13 +88,13 @@ pub fn seen_from(sv: &SvBox, point: &[i64; 3]) -> SeenBox
 /// boxes that hold the same.
 pub fn seen_by_guess(sv: &SvBox, point: &[i64; 3], guess: i64) -> SeenBox
     requires { IsReceiverPoint point.now }
-    ensures place { (a b c : ℤ) (sent seen : Place) (travel : Rational) →
+    ensures place { (a b c : ℤ) (sent seen : Position) (travel : Rational) →
         point.now ≡ a ∷ b ∷ c ∷ [] → HoldsPlace sv.now.place sent →
         IsSeenPlace sent (point_of a b c) travel seen → HoldsPlace result.place seen }
-    ensures range { (a b c : ℤ) (sent seen : Place) (travel : Rational) →
+    ensures range { (a b c : ℤ) (sent seen : Position) (travel : Rational) →
         point.now ≡ a ∷ b ∷ c ∷ [] → HoldsPlace sv.now.place sent →
         IsSeenPlace sent (point_of a b c) travel seen → Holds result.range (range_of travel) }
-    ensures time { (a b c : ℤ) (sent seen : Place) (travel : Rational) →
+    ensures time { (a b c : ℤ) (sent seen : Position) (travel : Rational) →
         point.now ≡ a ∷ b ∷ c ∷ [] → HoldsPlace sv.now.place sent →
         IsSeenPlace sent (point_of a b c) travel seen → Holds result.travel travel }
 {
@@ -118,10 +118,10 @@ pub struct Aim {
 
 /// The range of `seen_from` and the direction of `mean_direction` at one point. It takes no memory and is never refused.
 pub fn aim_from(sv: &SvBox, point: &Point) -> Aim
-    ensures range { (sent seen : Place) (travel : Rational) → HoldsPlace sv.now.place sent →
+    ensures range { (sent seen : Position) (travel : Rational) → HoldsPlace sv.now.place sent →
         IsSeenPlace sent (point_of point.now.x point.now.y point.now.z) travel seen →
         Holds result.range (range_of travel) }
-    ensures direction { (sent seen move direction : Place) (travel : Rational) →
+    ensures direction { (sent seen move direction : Position) (travel : Rational) →
         HoldsPlace sv.now.place sent →
         IsSeenPlace sent (point_of point.now.x point.now.y point.now.z) travel seen →
         IsDisplacement move →
@@ -166,7 +166,7 @@ pub fn above(seen: &SeenBox, point: &[i64; 3], mask: u32) -> bool
 /// the point may be another one than the box was made with.
 pub fn mean_direction(seen: &SeenBox, point: &[i64; 3]) -> [Spread; 3]
     requires { IsReceiverPoint point.now }
-    ensures { (a b c : ℤ) (place move direction : Place) → point.now ≡ a ∷ b ∷ c ∷ [] →
+    ensures { (a b c : ℤ) (place move direction : Position) → point.now ≡ a ∷ b ∷ c ∷ [] →
         HoldsPlace seen.now.place place → IsDisplacement move →
         IsMeanDirection place (point_of a b c) move direction → HoldsDirection result direction }
 {

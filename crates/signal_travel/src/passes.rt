@@ -3,7 +3,7 @@ ghost use Rattle.std.specs.Prelude.{◌≡◌, ◌+◌, ◌*◌, ◌^◌, ◌<�
 ghost use Rattle.whole_math.specs.Rational.{Rational, IsNearRoot};
 ghost use Rattle.iv_core.specs.Intervals.{Holds, width_of};
 ghost use Rattle.orbit_model.specs.Places.{IsBetweenDistances};
-ghost use Rattle.orbit_model.specs.SeenPlaces.{Place, difference, square, point_of, IsSeenPlace, range_of};
+ghost use Rattle.orbit_model.specs.SeenPlaces.{Position, difference, square, point_of, IsSeenPlace, range_of};
 ghost use Rattle.signal_travel.specs.SeenAfter.{IsSeenAfter};
 ghost use Rattle.signal_travel.specs.VectorBoxes.{HoldsVector, IsVectorWithin, AreEndsWithin, IsVectorAtMostWide, IsTravel};
 
@@ -71,7 +71,7 @@ fn range_guess(travel: &Iv<60>) -> u64
 
 /// Where a receiver sees what was sent from a place, after which time, and the vector from the receiver to it.
 #[derive(Clone, Copy)]
-pub struct Sight {
+pub struct SightBoxes {
     pub place: VectorBox,
     pub vector: VectorBox,
     pub range: Iv<36>,
@@ -79,7 +79,7 @@ pub struct Sight {
     pub ghost size: { IsVectorWithin (45200000 * 2 ^ 36) vector },
     pub ghost width: { (w : ℤ) → IsVectorAtMostWide w place →
         IsVectorAtMostWide (w +ℤ pos 1) vector },
-    pub ghost lengths: { (p : Place) (r : Rational) → HoldsVector vector p →
+    pub ghost lengths: { (p : Position) (r : Rational) → HoldsVector vector p →
         IsNearRoot r (square p) → Holds range r },
     pub ghost near: { range.hi ≤ℤ pos (45200000 * 2 ^ 36) },
     pub ghost reach: { (w : ℤ) → IsVectorAtMostWide w vector →
@@ -87,21 +87,21 @@ pub struct Sight {
 }
 
 /// The sights at the point after the travel times of the box.
-pub fn sight_after(sent: &SentBox, point: &Point, travel: &Iv<60>) -> Sight
+pub fn sight_after(sent: &SentBox, point: &Point, travel: &Iv<60>) -> SightBoxes
     requires { IsTravel travel.now }
-    ensures place { (p seen : Place) (t : Rational) → HoldsVector sent.now.place p →
+    ensures place { (p seen : Position) (t : Rational) → HoldsVector sent.now.place p →
         Holds travel.now t → IsSeenPlace p (point_of point.now.x point.now.y point.now.z) t seen →
         HoldsVector result.place seen }
-    ensures range { (p seen : Place) (t : Rational) → HoldsVector sent.now.place p →
+    ensures range { (p seen : Position) (t : Rational) → HoldsVector sent.now.place p →
         Holds travel.now t → IsSeenPlace p (point_of point.now.x point.now.y point.now.z) t seen →
         Holds result.range (range_of t) }
-    ensures time { (p seen : Place) (t : Rational) → HoldsVector sent.now.place p →
+    ensures time { (p seen : Position) (t : Rational) → HoldsVector sent.now.place p →
         Holds travel.now t → IsSeenPlace p (point_of point.now.x point.now.y point.now.z) t seen →
         Holds result.travel t }
-    ensures vector { (p : Place) → HoldsVector result.place p →
+    ensures vector { (p : Position) → HoldsVector result.place p →
         HoldsVector result.vector (difference p (point_of point.now.x point.now.y point.now.z)) }
     // Light takes a time of `travel` after a turn in any time of the box, not only in its own.
-    ensures light { (p seen : Place) (u t : Rational) → HoldsVector sent.now.place p →
+    ensures light { (p seen : Position) (u t : Rational) → HoldsVector sent.now.place p →
         Holds travel.now u → IsSeenAfter p (point_of point.now.x point.now.y point.now.z) u t seen →
         Holds result.travel t }
     ensures travel { IsTravel result.travel }
@@ -122,7 +122,7 @@ pub fn sight_after(sent: &SentBox, point: &Point, travel: &Iv<60>) -> Sight
     let vector = vector_from(point, &place);
     let range = length_by(&vector, range_guess(travel));
     let travel = time_over(&range);
-    Sight {
+    SightBoxes {
         place,
         vector,
         range,
@@ -140,7 +140,7 @@ fn any_travel() -> Iv<60>
 
 // Every travel time, by three passes
 fn times_by_passes(sent: &SentBox, point: &Point) -> Iv<60>
-    ensures holds { (p seen : Place) (t : Rational) → HoldsVector sent.now.place p →
+    ensures holds { (p seen : Position) (t : Rational) → HoldsVector sent.now.place p →
         IsSeenPlace p (point_of point.now.x point.now.y point.now.z) t seen → Holds result t }
     ensures travel { IsTravel result }
     ensures width { width_of result ≤ℤ pos (2 ^ 19) }
@@ -187,17 +187,17 @@ fn is_settled(travel: &Iv<60>, time: i64) -> bool
 }
 
 /// The sights at the point, by one pass from the guess, or by four where the guess is poor.
-pub fn sight_of(sent: &SentBox, point: &Point, guess: i64) -> Sight
-    ensures place { (p seen : Place) (t : Rational) → HoldsVector sent.now.place p →
+pub fn sight_of(sent: &SentBox, point: &Point, guess: i64) -> SightBoxes
+    ensures place { (p seen : Position) (t : Rational) → HoldsVector sent.now.place p →
         IsSeenPlace p (point_of point.now.x point.now.y point.now.z) t seen →
         HoldsVector result.place seen }
-    ensures range { (p seen : Place) (t : Rational) → HoldsVector sent.now.place p →
+    ensures range { (p seen : Position) (t : Rational) → HoldsVector sent.now.place p →
         IsSeenPlace p (point_of point.now.x point.now.y point.now.z) t seen →
         Holds result.range (range_of t) }
-    ensures time { (p seen : Place) (t : Rational) → HoldsVector sent.now.place p →
+    ensures time { (p seen : Position) (t : Rational) → HoldsVector sent.now.place p →
         IsSeenPlace p (point_of point.now.x point.now.y point.now.z) t seen →
         Holds result.travel t }
-    ensures vector { (p : Place) → HoldsVector result.place p →
+    ensures vector { (p : Position) → HoldsVector result.place p →
         HoldsVector result.vector (difference p (point_of point.now.x point.now.y point.now.z)) }
     ensures narrow { IsVectorAtMostWide (pos (2 ^ 19)) result.place }
     ensures range_narrow { width_of result.range ≤ℤ pos (2 ^ 19) }

@@ -7,7 +7,7 @@ ghost use Rattle.iv_core.specs.Intervals.{Holds, width_of, IsWithin};
 ghost use Rattle.trig_box.specs.AnglePairs.{Pair, IsAnglePair};
 ghost use Rattle.trig_box.specs.PairBoxes.{HoldsPair, AreAtMostWide};
 ghost use Rattle.orbit_model.specs.Elements.{earth_rate};
-ghost use Rattle.orbit_model.specs.SeenPlaces.{Place, turned_back};
+ghost use Rattle.orbit_model.specs.SeenPlaces.{Position, turned_back};
 ghost use Rattle.orbit_model.specs.declared.rotation.TheConstants.{EARTH_ROTATION};
 ghost use Rattle.signal_travel.specs.VectorBoxes.{HoldsVector, IsVectorWithin, IsVectorAtMostWide, IsTravel};
 ghost use Rattle.signal_travel.specs.declared.passes.TheConstants.{LATEST};
@@ -53,7 +53,7 @@ fn over_scale(turn: u128) -> u64
 }
 
 // The angle by which the Earth turns in the time, from units of 2^-60 s to units of 2^-56 rad, rounded down
-fn angle_in(time: i64) -> i64
+fn earth_turn_in(time: i64) -> i64
     requires low { pos 0 ≤ℤ time }
     requires high { time ≤ℤ LATEST }
     ensures value { result ≡ floor_div (pos EARTH_ROTATION *ℤ time) 16000000000000000 }
@@ -108,7 +108,7 @@ pub fn turn_in(travel: &Iv<60>) -> PairBox
         ≤ℤ (pos (2 ^ 12) *ℤ w) → AreAtMostWide w result }
 {
     let middle = middle_of(travel);
-    let angle = angle_in(middle);
+    let angle = earth_turn_in(middle);
     let pair = pairs_of(angle);
     let pad = pad_for(travel.hi - middle);
     PairBox {
@@ -118,7 +118,7 @@ pub fn turn_in(travel: &Iv<60>) -> PairBox
 }
 
 // C · x
-fn cos_part(cos: &Iv<60>, x: &Iv<36>) -> Iv<36>
+fn cosine_times(cos: &Iv<60>, x: &Iv<36>) -> Iv<36>
     requires cos_size { IsWithin (2 ^ 60 + 2 ^ 46) cos.now }
     requires size { IsWithin (38000000 * 2 ^ 36) x.now }
     requires narrow { width_of x.now ≤ℤ pos (2 ^ 18) }
@@ -131,7 +131,7 @@ fn cos_part(cos: &Iv<60>, x: &Iv<36>) -> Iv<36>
 }
 
 // S · x
-fn sin_part(sin: &Iv<60>, x: &Iv<36>) -> Iv<36>
+fn sine_times(sin: &Iv<60>, x: &Iv<36>) -> Iv<36>
     requires sin_size { IsWithin (2 ^ 46) sin.now }
     requires size { IsWithin (38000000 * 2 ^ 36) x.now }
     requires narrow { width_of x.now ≤ℤ pos (2 ^ 18) }
@@ -147,7 +147,7 @@ fn sin_part(sin: &Iv<60>, x: &Iv<36>) -> Iv<36>
 pub fn turned_box(turn: &PairBox, sent: &SentBox) -> VectorBox
     requires cos_size { IsWithin (2 ^ 60 + 2 ^ 46) turn.now.cos }
     requires sin_size { IsWithin (2 ^ 46) turn.now.sin }
-    ensures holds { (p : Place) (pair : Pair) → HoldsVector sent.now.place p →
+    ensures holds { (p : Position) (pair : Pair) → HoldsVector sent.now.place p →
         HoldsPair turn.now pair.cos pair.sin → HoldsVector result (turned_back pair p) }
     ensures size { IsVectorWithin (38100000 * 2 ^ 36) result }
     ensures width { (w v : ℤ) → AreAtMostWide w turn.now →
@@ -156,8 +156,8 @@ pub fn turned_box(turn: &PairBox, sent: &SentBox) -> VectorBox
 {
     let VectorBox { x, y, z } = sent.place;
     VectorBox {
-        x: cos_part(&turn.cos, &x).sum_of(&sin_part(&turn.sin, &y)),
-        y: cos_part(&turn.cos, &y).difference_of(&sin_part(&turn.sin, &x)),
+        x: cosine_times(&turn.cos, &x).sum_of(&sine_times(&turn.sin, &y)),
+        y: cosine_times(&turn.cos, &y).difference_of(&sine_times(&turn.sin, &x)),
         z,
     }
 }

@@ -4,7 +4,7 @@ ghost use Rattle.whole_math.specs.Rounding.{floor_div, ceil_div};
 ghost use Rattle.whole_math.specs.Rational.{Rational, ◌-ʳ◌, ◌*ʳ◌, IsNearRoot};
 ghost use Rattle.iv_core.specs.Boxes.{near_end, far_end};
 ghost use Rattle.iv_core.specs.Intervals.{Holds, width_of, IsWithin};
-ghost use Rattle.orbit_model.specs.SeenPlaces.{Place, square};
+ghost use Rattle.orbit_model.specs.SeenPlaces.{Position, square};
 ghost use Rattle.signal_travel.specs.VectorBoxes.{coordinate_of, HoldsVector, IsVectorWithin, AreEndsWithin, IsVectorAtMostWide, HasVectorBetween, near_square, far_square};
 ghost use Rattle.obs_rows.specs.declared.limits.TheConstants.{MOST_COORDINATE};
 
@@ -73,7 +73,7 @@ fn offset_from(x: &Iv<36>, coordinate: &Iv<36>) -> Iv<36>
 /// The place less the point.
 pub fn vector_from(point: &Point, place: &VectorBox) -> VectorBox
     requires { IsVectorWithin (38100000 * 2 ^ 36) place.now }
-    ensures holds { (p : Place) → HoldsVector place.now p → HoldsVector result (record {
+    ensures holds { (p : Position) → HoldsVector place.now p → HoldsVector result (record {
       x = p.x -ʳ coordinate_of point.now.x;
       y = p.y -ʳ coordinate_of point.now.y;
       z = p.z -ʳ coordinate_of point.now.z;
@@ -105,7 +105,7 @@ fn square_of(x: &Iv<36>) -> Iv<9>
 // x² + y² + z²
 fn squared_length(v: &VectorBox) -> Iv<9>
     requires { IsVectorWithin (45200000 * 2 ^ 36) v.now }
-    ensures holds { (p : Place) → HoldsVector v.now p → Holds result (square p) }
+    ensures holds { (p : Position) → HoldsVector v.now p → Holds result (square p) }
     ensures low { pos 0 ≤ℤ result.lo }
     ensures near { near_square v.now ≤ℤ (pos (2 ^ 63) *ℤ (result.lo +ℤ pos 3)) }
     ensures far { (pos (2 ^ 63) *ℤ (result.hi -ℤ pos 3)) ≤ℤ far_square v.now }
@@ -132,7 +132,7 @@ pub fn length_by(v: &VectorBox, guess: u64) -> Iv<36>
     requires size { IsVectorWithin (45200000 * 2 ^ 36) v.now }
     requires narrow { IsVectorAtMostWide (pos (2 ^ 48)) v.now }
     requires between { HasVectorBetween 141000000000000 2040000000000000 v.now }
-    ensures holds { (p : Place) (r : Rational) → HoldsVector v.now p → IsNearRoot r (square p) →
+    ensures holds { (p : Position) (r : Rational) → HoldsVector v.now p → IsNearRoot r (square p) →
         Holds result r }
     ensures far { pos (10000000 * 2 ^ 36) ≤ℤ result.lo }
     ensures near { result.hi ≤ℤ pos (45200000 * 2 ^ 36) }

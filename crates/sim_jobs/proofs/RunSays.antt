@@ -2,11 +2,10 @@
 use Rattle.std.proofs.Common.{◌≡◌, ℕ, Bool, true, false, codes, refl, sym, subst}
 use Rattle.std.specs.Io.KnownBytes.{Appends}
 use Rattle.report_text.specs.OutcomeText.{is_fixed}
-use Rattle.job_answers.specs.Statuses.{IsVerdictStatus, IsJobStatus, verdict_status}
+use Rattle.job_answers.specs.Statuses.{IsVerdictStatus, verdict_status}
 use Rattle.job_answers.specs.Endings.{Ending}
 use Rattle.job_answers.specs.Delivered.{SinkChange}
 use Rattle.job_answers.proofs.EndingLaws.{verdict_at}
-use Rattle.job_answers.proofs.TextLaws.{job_of_verdict}
 use Rattle.sim_jobs.specs.SimRunJobs.{run_text, SimRunEnds}
 use Rattle.sim_jobs.specs.SimRunSays.{HaveOutcome, SaysMatch, SaysOfSimRun}
 
@@ -17,9 +16,6 @@ verdict_of false = tt
 
 pub sim_run_verdict : (seed epochs sats bands system : ℕ) (end : Ending) → SimRunEnds seed epochs sats bands system end → IsVerdictStatus end.status
 sim_run_verdict seed epochs sats bands system end run = verdict_at end _ run.ends.end_is (verdict_of (is_fixed run.ends.outcome.answer))
-
-pub sim_run_status : (seed epochs sats bands system : ℕ) (end : Ending) → SimRunEnds seed epochs sats bands system end → IsJobStatus end.status
-sim_run_status seed epochs sats bands system end run = job_of_verdict end.status (sim_run_verdict seed epochs sats bands system end run)
 
 -- ---- what is said
 says_at : (seed epochs sats bands system : ℕ) (end t : Ending) (out : SinkChange) → end ≡ t → SaysOfSimRun seed epochs sats bands system t.status out

@@ -2,15 +2,12 @@
 use Rattle.std.proofs.Common.{ℕ, sym, subst}
 use Rattle.std.specs.Io.KnownBytes.{Appends}
 use Rattle.command_words.specs.declared.sims.File.{File}
-use Rattle.job_answers.specs.Statuses.{IsVerdictStatus, IsJobStatus}
+use Rattle.job_answers.specs.Statuses.{IsVerdictStatus}
 use Rattle.job_answers.specs.Endings.{Ending}
 use Rattle.job_answers.specs.Delivered.{SinkChange}
-use Rattle.job_answers.proofs.EndingLaws.{verdict_at, job_status_at}
+use Rattle.job_answers.proofs.EndingLaws.{verdict_at}
 use Rattle.sim_jobs.specs.Sims.{SimEnds}
 use Rattle.sim_jobs.specs.SimRuns.{SaysOfSim}
-
-pub sim_status : (which : File) (seed epochs sats bands system : ℕ) (end : Ending) → SimEnds which seed epochs sats bands system end → IsJobStatus end.status
-sim_status which seed epochs sats bands system end ends = job_status_at end _ ends.end_is tt
 
 pub sim_verdict : (which : File) (seed epochs sats bands system : ℕ) (end : Ending) → SimEnds which seed epochs sats bands system end → IsVerdictStatus end.status
 sim_verdict which seed epochs sats bands system end ends = verdict_at end _ ends.end_is tt

@@ -19,7 +19,7 @@ pub record IsDatumOf (arcs : List Arc) (k d : ℕ) (e : Arc) : Type 0 where
 
 -- the shift of arc number k, which is a, on the band of phase s, and its entry of z, less the shift of its datum e
 abbrev pub found : List Arc → List ℕ → List ℤ → ℕ → Arc → Arc → ℕ → ℤ
-found arcs ss z k a e s = (slice_index_or a.shift (band s) (pos 0) +ℤ integer arcs ss z k s) -ℤ slice_index_or e.shift (band s) (pos 0)
+found arcs signals z k a e s = (slice_index_or a.shift (band s) (pos 0) +ℤ integer arcs signals z k s) -ℤ slice_index_or e.shift (band s) (pos 0)
 
 -- the cycles of the arc's satellite on that band less those of its datum's
 abbrev pub wanted : List ℤ → List ℤ → ℕ → ℤ
@@ -27,27 +27,27 @@ wanted of_arc of_datum s = slice_index_or of_arc (band s) (pos 0) -ℤ slice_ind
 
 -- against its datum e, arc number k has in each phase the cycles that it was made with. Those of satellite number n stand at
 -- place n - 1 of the truth, by bands
-pub record AgreesWith (truth : List (List ℤ)) (arcs : List Arc) (ss : List ℕ) (z : List ℤ) (k : ℕ) (a e : Arc) : Type 0 where
+pub record AgreesWith (truth : List (List ℤ)) (arcs : List Arc) (signals : List ℕ) (z : List ℤ) (k : ℕ) (a e : Arc) : Type 0 where
   pub of_arc : List ℤ
   pub of_arc_is : slice_get truth (a.sat - 1) ≡ Some of_arc
   pub of_datum : List ℤ
   pub of_datum_is : slice_get truth (e.sat - 1) ≡ Some of_datum
-  pub cycles : All (λ s. IsTrue (is_phase s) → found arcs ss z k a e s ≡ wanted of_arc of_datum s) ss
+  pub cycles : All (λ s. IsTrue (is_phase s) → found arcs signals z k a e s ≡ wanted of_arc of_datum s) signals
 
 -- so it does against the datum of its linked set
-pub record HasTruth (truth : List (List ℤ)) (arcs : List Arc) (ss : List ℕ) (z : List ℤ) (k : ℕ) (a : Arc) : Type 0 where
+pub record HasTruth (truth : List (List ℤ)) (arcs : List Arc) (signals : List ℕ) (z : List ℤ) (k : ℕ) (a : Arc) : Type 0 where
   pub place : ℕ
   pub datum : Arc
   pub is_datum : IsDatumOf arcs k place datum
-  pub agrees : AgreesWith truth arcs ss z k a datum
+  pub agrees : AgreesWith truth arcs signals z k a datum
 
 -- each free arc does
 abbrev pub HaveTruth : List (List ℤ) → List Arc → List ℕ → List ℤ → Type 0
-HaveTruth truth arcs ss z = (k : ℕ) (a : Arc) → slice_get arcs k ≡ Some a → IsTrue (is_free a) → HasTruth truth arcs ss z k a
+HaveTruth truth arcs signals z = (k : ℕ) (a : Arc) → slice_get arcs k ≡ Some a → IsTrue (is_free a) → HasTruth truth arcs signals z k a
 
 abbrev pub IsMatchedTail : List (List ℤ) → List Arc → List ℕ → Tail → Type 0
-IsMatchedTail truth arcs ss (Fixed h moved best top) = HaveTruth truth arcs ss (first_of best)
-IsMatchedTail truth arcs ss _ = ⊥
+IsMatchedTail truth arcs signals (Fixed h moved best top) = HaveTruth truth arcs signals (first_of best)
+IsMatchedTail truth arcs signals _ = ⊥
 
 -- the answer is a fix, whose integers are those of the truth
 abbrev pub IsMatched : List (List ℤ) → Answer → Type 0

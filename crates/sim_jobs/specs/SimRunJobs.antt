@@ -19,7 +19,7 @@ use Rattle.report_text.specs.OutcomeText.{is_fixed}
 use Rattle.job_answers.specs.Endings.{Ending, ending}
 use Rattle.job_answers.specs.SessionFiles.{AreFilesOf}
 use Rattle.job_answers.specs.Refusals.{IsPairRefused}
-use Rattle.session_jobs.specs.FixJobs.{IsOutcomeFor, status_of}
+use Rattle.session_jobs.specs.FixJobs.{IsProvedOutcome, status_of}
 use Rattle.sim_jobs.specs.Matches.{IsMatched}
 
 -- under these three names the files of a session of the seed stand, with these bands of the system with that letter
@@ -31,10 +31,10 @@ pub record AreMadeFiles (seed epochs sats bands system : ℕ) (text_of : List �
   pub nav_told : text_of (codes "nav") ≡ Some session.nav.items
 
 -- the options of a run on these bands of that system which is asked for nothing else
-pub record AreOptionsOn (bands system : ℕ) (o : Options) : Type 0 where
+pub record AreOptionsOn (bands system : ℕ) (options : Options) : Type 0 where
   pub defaults : Options
   pub are_defaults : AreDefaults defaults
-  pub numbers : numbers_of o ≡ record (numbers_of defaults) { bands = bands; system = system }
+  pub numbers : numbers_of options ≡ record (numbers_of defaults) { bands = bands; system = system }
 
 -- the cycles of each satellite with which the session was made, by bands: the rover's less the base's
 abbrev pub truth_in : ℕ → ℕ → ℕ → List (List ℤ)
@@ -63,16 +63,16 @@ abbrev pub run_text : ℕ → ℕ → ℕ → Answer → Bool → List ℕ
 run_text seed epochs sats a matched = made_line seed epochs sats ++ found_lines a matched
 
 -- the outcome of the files, with all that `fix` says of one, and whether it is a fix with the integers of the truth
-pub record EndsWithMatch (o : Options) (seed epochs sats bands : ℕ) (b r : ObsFile) (n : Records) (end : Ending) : Type 0 where
+pub record EndsWithMatch (options : Options) (seed epochs sats bands : ℕ) (base rover : ObsFile) (nav : Records) (end : Ending) : Type 0 where
   pub outcome : Outcome
-  pub holds : IsOutcomeFor b r n o outcome
+  pub holds : IsProvedOutcome base rover nav options outcome
   pub matched : Bool
   pub matched_is : IsTrue matched ↔ IsMatched (truth_in seed sats bands) outcome.answer
   pub end_is : end ≡ ending (status_of outcome.answer) (run_text seed epochs sats outcome.answer matched) []
 
 -- what any three files end with
 abbrev pub SimRunEnd : Options → ℕ → ℕ → ℕ → ℕ → ObsFile → ObsFile → Records → Ending → Type 0
-SimRunEnd o seed epochs sats bands b r n end = EndsWithMatch o seed epochs sats bands b r n end ⊎ IsPairRefused b r o end
+SimRunEnd options seed epochs sats bands base rover nav end = EndsWithMatch options seed epochs sats bands base rover nav end ⊎ IsPairRefused base rover options end
 
 -- what the texts of the session end with, processed on the same bands of the same system with no other option given: they stand for
 -- a session, and aren't refused together

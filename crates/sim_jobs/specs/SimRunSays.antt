@@ -12,17 +12,17 @@ use Rattle.obs_store.specs.declared.file.ObsFile.{ObsFile}
 use Rattle.eph_store.specs.File.{Records}
 use Rattle.rinex_head.specs.Systems.{system_of}
 use Rattle.job_answers.specs.SessionFiles.{AreFilesOf}
-use Rattle.session_jobs.specs.FixJobs.{IsOutcomeFor}
+use Rattle.session_jobs.specs.FixJobs.{IsProvedOutcome}
 use Rattle.sim_jobs.specs.Matches.{IsMatched}
 use Rattle.sim_jobs.specs.SimRunJobs.{AreMadeFiles, AreOptionsOn, truth_in, run_text}
 
 -- the three texts stand for a session of the options' system, whose outcome is this, with all that `fix` says of one
-pub record HaveOutcome (text_of : List ℕ → Option (List ℕ)) (base rover nav : List ℕ) (o : Options) (outcome : Outcome) : Type 0 where
+pub record HaveOutcome (text_of : List ℕ → Option (List ℕ)) (base rover nav : List ℕ) (options : Options) (outcome : Outcome) : Type 0 where
   pub base_file : ObsFile
   pub rover_file : ObsFile
   pub records : Records
-  pub are_files : AreFilesOf (system_of o.system) text_of base rover nav base_file rover_file records
-  pub holds : IsOutcomeFor base_file rover_file records o outcome
+  pub are_files : AreFilesOf (system_of options.system) text_of base rover nav base_file rover_file records
+  pub holds : IsProvedOutcome base_file rover_file records options outcome
 
 -- the made texts stand for a session, whose outcome is a fix or not; out has gained what it is, and `match yes` exactly where it is
 -- a fix with the integers of the truth

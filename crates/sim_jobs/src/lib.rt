@@ -3,7 +3,7 @@
 //!
 //! `sim run` ends with the outcome of the simulated texts, which is that of `fix` on them with the bands and the system
 //! that they were made for and no other option given, with all that `fix` says of one, fixed or declined
-//! (`IsOutcomeFor`): the three are read, whatever the seed, and the two are never refused together (`ends`).
+//! (`IsProvedOutcome`): the three are read, whatever the seed, and the two are never refused together (`ends`).
 //! `is_matched`, and so the line `match yes`, is exact: the answer is a fix, and each free arc has on each of the
 //! bands, against the datum of its linked set, the cycles that its satellite was made with. That datum is found as the
 //! last one at or before the arc, and proved to be the one that a chain of arcs leads to, each of which shares a pair

@@ -21,7 +21,7 @@ fn cycles_of(shift: i64, integer: i64) -> i128
     i128::from(shift) + i128::from(integer)
 }
 
-fn less(cycles: i128, shift: i64) -> i128
+fn minus_shift(cycles: i128, shift: i64) -> i128
     requires { unsigned_abs cycles ≤ 2 ^ 64 }
     ensures { result ≡ cycles -ℤ shift }
 {
@@ -47,7 +47,7 @@ fn found(
 {
     let integer = integer_of(arcs, signals, z, k, phase);
     let band = BANDS[phase];
-    less(cycles_of(arc.shift[band], integer), datum.shift[band])
+    minus_shift(cycles_of(arc.shift[band], integer), datum.shift[band])
 }
 
 // The cycles that an arc and its datum were made with, by bands.

@@ -9,7 +9,7 @@ use Rattle.eph_store.specs.declared.ephemeris.Eph.{Eph}
 use Rattle.orbit_model.specs.Elements.{Constants, sent_at, elements_of}
 use Rattle.orbit_model.specs.Solution.{Quantities, IsNearSolution}
 use Rattle.sim_session.specs.declared.signals.Signals.{Signals}
-use Rattle.orbit_model.specs.SeenPlaces.{Place, point_of, IsSeenPlace, range_of, sent_place}
+use Rattle.orbit_model.specs.SeenPlaces.{Position, point_of, IsSeenPlace, range_of, sent_place}
 
 -- the range less c times what the satellite's clock is ahead, in metres
 abbrev pub distance : Rational → Rational → Rational
@@ -24,7 +24,7 @@ pub record IsSolvedDistance (world : Constants) (eph : Eph) (tag : ℕ) (code : 
   pub z : ℤ
   pub point_is : point ≡ x ∷ y ∷ z ∷ []
   pub travel : Rational
-  pub seen : Place
+  pub seen : Position
   pub is_seen : IsSeenPlace (sent_place solution) (point_of x y z) travel seen
   pub distance_is : v ≡ distance travel solution.clock
 

@@ -5,13 +5,13 @@ ghost use Rattle.obs_rows.specs.UsedSats.{IsSmall};
 ghost use Rattle.slip_arcs.specs.declared.phase.TheConstants.{LONGEST};
 ghost use Rattle.slip_arcs.specs.Used.{change, growth, jump_of, does_jump};
 
-use obs_rows::{UsedSat, WAVELENGTHS, phase_of};
+use obs_rows::{L5_PHASE, UsedSat, WAVELENGTHS, phase_of};
 
 /// One κ, 23 ι, in thousandths of ι: a cycle on L1 is 60 κ and one on L2 77.
 const KAPPA: u64 = 23_000;
 
 /// The longest wavelength, that on L5, in ι.
-const LONGEST: u64 = WAVELENGTHS[4] as u64;
+const LONGEST: u64 = WAVELENGTHS[L5_PHASE] as u64;
 
 // By how much the phase on a band grows.
 fn change_on(before: &UsedSat, now: &UsedSat, band: usize) -> i64

@@ -7,7 +7,7 @@ use Rattle.whole_math.proofs.Certificates.{◌≼◌, hy, nm, sq, ◌⊞◌, ◌
 use Rattle.whole_math.specs.Rational.{Rational, ◌≤ʳ◌, of_whole, ◌+ʳ◌, ◌-ʳ◌, ◌*ʳ◌}
 use Rattle.whole_math.proofs.RationalLaws.{≤ʳ_trans}
 use Rattle.whole_math.proofs.RationalSizes.{positive_above}
-use Rattle.orbit_model.specs.SeenPlaces.{Place, difference, square, IsDisplacement}
+use Rattle.orbit_model.specs.SeenPlaces.{Position, difference, square, IsDisplacement}
 use Rattle.orbit_model.specs.Places.{HasLengthBetween}
 use Rattle.orbit_model.proofs.Apart.{whole_le}
 use Rattle.orbit_model.proofs.Orders.{cert_r, cancel_r, root_r}
@@ -35,10 +35,10 @@ sum_least : (u v : Rational) → of_whole (pos 1000000) ≤ʳ u → of_whole (po
 sum_least u v least v0 =
     cert_r (u ∷ v ∷ []) (((ko (pos 1000000)) ≼ (va 0)) ∷ ((ko (pos 0)) ≼ (va 1)) ∷ []) (ko (pos 1000000)) ((va 0) ⊕ (va 1)) ((hy 0) ⊞ (hy 1)) refl (least, (v0, tt))
 
-pub mean_direction : (seen point move : Place) → HasLengthBetween 11800000 45200000 (difference seen point) → IsDisplacement move → HasMeanDirection seen point move
+pub mean_direction : (seen point move : Position) → HasLengthBetween 11800000 45200000 (difference seen point) → IsDisplacement move → HasMeanDirection seen point move
 mean_direction seen point move far short =
-    let d : Place = difference seen point in
-    let moved : Place = difference d move in
+    let d : Position = difference seen point in
+    let moved : Position = difference d move in
     let before = near_root_exists (square d) (positive_above (of_whole (pos 139240000000000)) (square d) (lt_pos 0 139240000000000 (lit< tt)) far.0) in
     let after = near_root_exists (square moved) (positive_above (of_whole (pos 1)) (square moved) (lt_pos 0 1 (lit< tt)) (far_after d.x d.y d.z move.x move.y move.z far.0 short)) in
     let u : Rational = before.root in

@@ -4,8 +4,8 @@ pub mod RootOfMuCertificates
 pub mod Quotients
 pub mod FirstBounds
 pub mod NearMean
-pub mod Shares
-pub mod ShareCertificates
+pub mod ScaledClocks
+pub mod ScaledClockCertificates
 pub mod Least
 pub mod Shift
 pub mod Certs

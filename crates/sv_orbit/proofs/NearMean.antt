@@ -12,24 +12,24 @@ use Rattle.whole_math.proofs.RationalOrders.{order_r, equal_r, cancel_r, ◌≐�
 use Rattle.whole_math.proofs.RationalSizes.{size_mul, size_along, size_looser}
 use Rattle.whole_math.proofs.Ends.{size_of_box}
 use Rattle.orbit_model.specs.Elements.{Elements}
-use Rattle.sv_orbit.specs.ClockTerms.{part, correction}
-use Rattle.sv_orbit.proofs.Values.{times_is, part_is}
+use Rattle.sv_orbit.specs.ClockTerms.{per_ten_thousand, correction}
+use Rattle.sv_orbit.proofs.Values.{times_is, per_ten_thousand_is}
 
 cancel_equal : (c p q : Rational) → pos 0 <ℤ c.num → c *ʳ p ≈ c *ʳ q → p ≈ q
 cancel_equal c p q h e = ≤ʳ_antisym p q (cancel_r c p q h (≤ʳ_from_same (c *ʳ p) (c *ʳ q) e)) (cancel_r c q p h (≤ʳ_from_same (c *ʳ q) (c *ʳ p) (≈_sym (c *ʳ p) (c *ʳ q) e)))
 
 -- tk over 10^4
-pub epoch_time_is : (sent toe k t tk : Rational) → t ≈ sent -ʳ k → tk ≈ t -ʳ toe → part (sent -ʳ toe) -ʳ part k ≈ part tk
-epoch_time_is sent toe k t tk e f = cancel_equal (of_whole (pos 10000)) (part (sent -ʳ toe) -ʳ part k) (part tk) (omega (arith, ints))
-    (equal_r (sent ∷ toe ∷ k ∷ t ∷ tk ∷ part (sent -ʳ toe) ∷ part k ∷ part tk ∷ [])
+pub epoch_time_is : (sent toe k t tk : Rational) → t ≈ sent -ʳ k → tk ≈ t -ʳ toe → per_ten_thousand (sent -ʳ toe) -ʳ per_ten_thousand k ≈ per_ten_thousand tk
+epoch_time_is sent toe k t tk e f = cancel_equal (of_whole (pos 10000)) (per_ten_thousand (sent -ʳ toe) -ʳ per_ten_thousand k) (per_ten_thousand tk) (omega (arith, ints))
+    (equal_r (sent ∷ toe ∷ k ∷ t ∷ tk ∷ per_ten_thousand (sent -ʳ toe) ∷ per_ten_thousand k ∷ per_ten_thousand tk ∷ [])
     ((va 5 ⊗ ko (pos 10000) ≐ va 0 ⊖ va 1) ∷ (va 6 ⊗ ko (pos 10000) ≐ va 2) ∷ (va 7 ⊗ ko (pos 10000) ≐ va 4) ∷ (va 4 ≐ va 3 ⊖ va 1) ∷ (va 3 ≐ va 0 ⊖ va 2) ∷ [])
     (ko (pos 1) ∷ ng (ko (pos 1)) ∷ ng (ko (pos 1)) ∷ ng (ko (pos 1)) ∷ ng (ko (pos 1)) ∷ [])
-    (ko (pos 10000) ⊗ (va 5 ⊖ va 6)) (ko (pos 10000) ⊗ va 7) refl (part_is (sent -ʳ toe), (part_is k, (part_is tk, (f, (e, tt))))))
+    (ko (pos 10000) ⊗ (va 5 ⊖ va 6)) (ko (pos 10000) ⊗ va 7) refl (per_ten_thousand_is (sent -ʳ toe), (per_ten_thousand_is k, (per_ten_thousand_is tk, (f, (e, tt))))))
 
 -- M0 + n tk
-pub mean_is : (m m0 n tk : Rational) → m ≈ m0 +ʳ n *ʳ tk → m0 +ʳ times 10000 n *ʳ part tk ≈ m
-mean_is m m0 n tk e = equal_r (m ∷ m0 ∷ n ∷ tk ∷ times 10000 n ∷ part tk ∷ []) ((va 0 ≐ va 1 ⊕ va 2 ⊗ va 3) ∷ (va 4 ≐ ko (pos 10000) ⊗ va 2) ∷ (va 5 ⊗ ko (pos 10000) ≐ va 3) ∷ [])
-    (ng (ko (pos 1)) ∷ va 5 ∷ va 2 ∷ []) (va 1 ⊕ va 4 ⊗ va 5) (va 0) refl (e, (times_is 10000 n, (part_is tk, tt)))
+pub mean_is : (m m0 n tk : Rational) → m ≈ m0 +ʳ n *ʳ tk → m0 +ʳ times 10000 n *ʳ per_ten_thousand tk ≈ m
+mean_is m m0 n tk e = equal_r (m ∷ m0 ∷ n ∷ tk ∷ times 10000 n ∷ per_ten_thousand tk ∷ []) ((va 0 ≐ va 1 ⊕ va 2 ⊗ va 3) ∷ (va 4 ≐ ko (pos 10000) ⊗ va 2) ∷ (va 5 ⊗ ko (pos 10000) ≐ va 3) ∷ [])
+    (ng (ko (pos 1)) ∷ va 5 ∷ va 2 ∷ []) (va 1 ⊕ va 4 ⊗ va 5) (va 0) refl (e, (times_is 10000 n, (per_ten_thousand_is tk, tt)))
 
 -- the clock is its own correction
 pub clock_is : (d : Elements) (sent t k y : Rational) → t ≈ sent -ʳ k →
@@ -44,18 +44,18 @@ clock_is d sent t k y e f =
 
 -- ---- the mean anomaly at a clock d
 abbrev pub mean_at : Rational → Rational → Rational → Rational → Rational → Rational
-mean_at m0 n sent toe d = m0 +ʳ times 10000 n *ʳ (part (sent -ʳ toe) -ʳ part d)
+mean_at m0 n sent toe d = m0 +ʳ times 10000 n *ʳ (per_ten_thousand (sent -ʳ toe) -ʳ per_ten_thousand d)
 
 mean_gap : (m m0 n sent toe k t tk d : Rational) → m ≈ m0 +ʳ n *ʳ tk → tk ≈ t -ʳ toe → t ≈ sent -ʳ k →
-    times 10000 n *ʳ part (d -ʳ k) ≈ m -ʳ mean_at m0 n sent toe d
+    times 10000 n *ʳ per_ten_thousand (d -ʳ k) ≈ m -ʳ mean_at m0 n sent toe d
 mean_gap m m0 n sent toe k t tk d e f g =
     let step : Ex = (va 10 ⊖ va 11) ⊕ va 12 in
-    equal_r (m0 ∷ n ∷ sent ∷ toe ∷ k ∷ d ∷ m ∷ tk ∷ t ∷ times 10000 n ∷ part (sent -ʳ toe) ∷ part d ∷ part (d -ʳ k) ∷ [])
+    equal_r (m0 ∷ n ∷ sent ∷ toe ∷ k ∷ d ∷ m ∷ tk ∷ t ∷ times 10000 n ∷ per_ten_thousand (sent -ʳ toe) ∷ per_ten_thousand d ∷ per_ten_thousand (d -ʳ k) ∷ [])
     ((va 6 ≐ va 0 ⊕ va 1 ⊗ va 7) ∷ (va 7 ≐ va 8 ⊖ va 3) ∷ (va 8 ≐ va 2 ⊖ va 4) ∷ (va 9 ≐ ko (pos 10000) ⊗ va 1)
     ∷ (va 10 ⊗ ko (pos 10000) ≐ va 2 ⊖ va 3) ∷ (va 11 ⊗ ko (pos 10000) ≐ va 5) ∷ (va 12 ⊗ ko (pos 10000) ≐ va 5 ⊖ va 4) ∷ [])
     (ng (ko (pos 1)) ∷ ng (va 1) ∷ ng (va 1) ∷ step ∷ va 1 ∷ ng (va 1) ∷ va 1 ∷ [])
     (va 9 ⊗ va 12) (va 6 ⊖ (va 0 ⊕ va 9 ⊗ (va 10 ⊖ va 11))) refl
-    (e, (f, (g, (times_is 10000 n, (part_is (sent -ʳ toe), (part_is d, (part_is (d -ʳ k), tt)))))))
+    (e, (f, (g, (times_is 10000 n, (per_ten_thousand_is (sent -ʳ toe), (per_ten_thousand_is d, (per_ten_thousand_is (d -ʳ k), tt)))))))
 
 half_gap : (p l w : ℤ) → ((p -ℤ l) +ℤ (p -ℤ l)) ≤ℤ w → of_scale 60 p -ʳ of_scale 60 l ≤ʳ of_scale 61 w
 half_gap p l w h = cert (p ∷ l ∷ w ∷ []) (((va 0 ⊖ va 1) ⊕ (va 0 ⊖ va 1) ≼ va 2) ∷ [])
@@ -75,16 +75,16 @@ pub mean_near : (m m0 n sent toe k t tk : Rational) (lo hi p nl nh : ℤ) → m 
 mean_near m m0 n sent toe k t tk lo hi p nl nh e f g i a b j nlow nhigh =
     let d : Rational = of_scale 60 p in
     let far = middle_near lo hi p (pos 224698263229) k i a b in
-    let share : IsAtMostInSize ((record { num = pos 1; den = 10000; positive = lit< tt }) *ʳ of_scale 61 (pos 224698263229)) (part (d -ʳ k)) =
+    let share : IsAtMostInSize ((record { num = pos 1; den = 10000; positive = lit< tt }) *ʳ of_scale 61 (pos 224698263229)) (per_ten_thousand (d -ʳ k)) =
     size_along ((record { num = pos 1; den = 10000; positive = lit< tt }) *ʳ of_scale 61 (pos 224698263229))
-    ((record { num = pos 1; den = 10000; positive = lit< tt }) *ʳ (d -ʳ k)) (part (d -ʳ k)) (tenth_is (d -ʳ k))
+    ((record { num = pos 1; den = 10000; positive = lit< tt }) *ʳ (d -ʳ k)) (per_ten_thousand (d -ʳ k)) (tenth_is (d -ʳ k))
     (size_mul (record { num = pos 1; den = 10000; positive = lit< tt }) (of_scale 61 (pos 224698263229)) (record { num = pos 1; den = 10000; positive = lit< tt }) (d -ʳ k) (own, negative) far) in
     let fast = size_of_box 60 2527203938098207432 nl nh (times 10000 n) nlow nhigh j in
     let gap = size_along
     (of_scale 60 (pos 2527203938098207432) *ʳ ((record { num = pos 1; den = 10000; positive = lit< tt }) *ʳ of_scale 61 (pos 224698263229)))
-    (times 10000 n *ʳ part (d -ʳ k)) (m -ʳ mean_at m0 n sent toe d) (mean_gap m m0 n sent toe k t tk d e f g)
+    (times 10000 n *ʳ per_ten_thousand (d -ʳ k)) (m -ʳ mean_at m0 n sent toe d) (mean_gap m m0 n sent toe k t tk d e f g)
     (size_mul (of_scale 60 (pos 2527203938098207432)) ((record { num = pos 1; den = 10000; positive = lit< tt }) *ʳ of_scale 61 (pos 224698263229))
-    (times 10000 n) (part (d -ʳ k)) fast share) in
+    (times 10000 n) (per_ten_thousand (d -ʳ k)) fast share) in
     let small = size_looser
     (of_scale 60 (pos 2527203938098207432) *ʳ ((record { num = pos 1; den = 10000; positive = lit< tt }) *ʳ of_scale 61 (pos 224698263229)))
     (two_to_minus 35) (m -ʳ mean_at m0 n sent toe d) (le_pos _ _ (lit≤ tt)) gap in
@@ -96,5 +96,5 @@ mean_near m m0 n sent toe k t tk lo hi p nl nh e f g i a b j nlow nhigh =
     negative : (neg_ℤ (pos 1) *ℤ pos 10000) ≤ℤ (pos 1 *ℤ pos 10000)
     negative = omega (arith, ints)
 
-    tenth_is : (y : Rational) → (record { num = pos 1; den = 10000; positive = lit< tt }) *ʳ y ≈ part y
+    tenth_is : (y : Rational) → (record { num = pos 1; den = 10000; positive = lit< tt }) *ʳ y ≈ per_ten_thousand y
     tenth_is y = same_by (y.num ∷ pos y.den ∷ []) (λ a d. (nat 1 ⊗ a ⊗ (nat 10000 ⊗ d), a ⊗ (nat 10000 ⊗ d))) refl

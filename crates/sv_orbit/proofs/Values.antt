@@ -16,7 +16,7 @@ use Rattle.iv_core.specs.declared.Iv.{Iv}
 use Rattle.iv_core.specs.Intervals.{Holds, width_of}
 use Rattle.eph_store.specs.Decimals.{decimal, value_of, IsFromTo, IsWithin, with_exponent}
 use Rattle.orbit_model.specs.Elements.{Elements, sent_at, seconds}
-use Rattle.sv_orbit.specs.ClockTerms.{part, correction}
+use Rattle.sv_orbit.specs.ClockTerms.{per_ten_thousand, correction}
 use Rattle.sv_orbit.specs.LeastBoxes.{IsLeastBox}
 
 pub zero_value : (d : Dec) → d.mant ≡ pos 0 → value_of d ≈ of_whole (pos 0)
@@ -97,11 +97,11 @@ scaled_sum n n0 dn h =
     (ko (pos 1) ∷ ko (pos 1) ∷ ng (ko (pos 1)) ∷ ng (ko (pos 10000)) ∷ []) (va 0 ⊕ va 1) (va 2) refl (times_is 10000 n0, (times_is 10000 dn, (times_is 10000 n, (h, tt))))
 
 -- 10^4 times a 10^4th
-pub part_is : (x : Rational) → part x *ʳ of_whole (pos 10000) ≈ x
-part_is x = same_by (x.num ∷ pos x.den ∷ []) (λ a d. (a ⊗ nat 10000 ⊗ d, a ⊗ (nat 10000 ⊗ d ⊗ nat 1))) refl
+pub per_ten_thousand_is : (x : Rational) → per_ten_thousand x *ʳ of_whole (pos 10000) ≈ x
+per_ten_thousand_is x = same_by (x.num ∷ pos x.den ∷ []) (λ a d. (a ⊗ nat 10000 ⊗ d, a ⊗ (nat 10000 ⊗ d ⊗ nat 1))) refl
 
 -- (tag - epoch) - code / c, over 10^4 s
-pub sent_ratio : (t e : ℕ) (code n d : ℤ) → n ≡ (pos t -ℤ pos e) *ℤ pos 149896229 -ℤ code *ℤ pos 5000 → d ≡ pos 14989622900000000000 → IsRatio (part (sent_at t code -ʳ seconds e)) n d
+pub sent_ratio : (t e : ℕ) (code n d : ℤ) → n ≡ (pos t -ℤ pos e) *ℤ pos 149896229 -ℤ code *ℤ pos 5000 → d ≡ pos 14989622900000000000 → IsRatio (per_ten_thousand (sent_at t code -ʳ seconds e)) n d
 sent_ratio t e code n d f g = rw (f, g)
     (same_by (pos t ∷ pos e ∷ code ∷ []) (λ t e k. (
       ((t ⊗ nat 149896229 ⊖ k ⊗ nat 5000) ⊗ nat 10000000 ⊖ e ⊗ nat 1498962290000000) ⊗ nat 14989622900000000000,
@@ -113,16 +113,16 @@ abbrev pub stepped : Rational → Rational → Rational → Rational → Rationa
 stepped bias drift aging time effect = bias +ʳ time *ʳ (drift +ʳ aging *ʳ time) +ʳ effect
 
 pub correction_is : (eph : Elements) (sent x y : Rational) →
-    stepped eph.af0 (times (10 ^ 4) eph.af1) (times (10 ^ 8) eph.af2) (part (sent -ʳ eph.toc) -ʳ part x) y ≈ correction eph sent x y
+    stepped eph.af0 (times (10 ^ 4) eph.af1) (times (10 ^ 8) eph.af2) (per_ten_thousand (sent -ʳ eph.toc) -ʳ per_ten_thousand x) y ≈ correction eph sent x y
 correction_is eph sent x y =
-    let values : List Rational = eph.af0 ∷ eph.af1 ∷ eph.af2 ∷ sent ∷ eph.toc ∷ x ∷ y ∷ part (sent -ʳ eph.toc) ∷ part x ∷ times (10 ^ 4) eph.af1 ∷ times (10 ^ 8) eph.af2 ∷ [] in
+    let values : List Rational = eph.af0 ∷ eph.af1 ∷ eph.af2 ∷ sent ∷ eph.toc ∷ x ∷ y ∷ per_ten_thousand (sent -ʳ eph.toc) ∷ per_ten_thousand x ∷ times (10 ^ 4) eph.af1 ∷ times (10 ^ 8) eph.af2 ∷ [] in
     let time : Ex = va 7 ⊖ va 8 in
     let since : Ex = (va 3 ⊖ va 5) ⊖ va 4 in
     let slope : Ex = va 1 ⊕ va 2 ⊗ (ko (pos 10000) ⊗ time ⊕ since) in
     equal_r values ((va 7 ⊗ ko (pos 10000) ≐ va 3 ⊖ va 4) ∷ (va 8 ⊗ ko (pos 10000) ≐ va 5) ∷ (va 9 ≐ ko (pos 10000) ⊗ va 1) ∷ (va 10 ≐ ko (pos 100000000) ⊗ va 2) ∷ [])
     (slope ∷ ng slope ∷ time ∷ (time ⊗ time) ∷ [])
     ((va 0 ⊕ time ⊗ (va 9 ⊕ va 10 ⊗ time)) ⊕ va 6) (((va 0 ⊕ va 1 ⊗ since) ⊕ va 2 ⊗ (since ⊗ since)) ⊕ va 6) refl
-    (part_is (sent -ʳ eph.toc), (part_is x, (times_is (10 ^ 4) eph.af1, (times_is (10 ^ 8) eph.af2, tt))))
+    (per_ten_thousand_is (sent -ʳ eph.toc), (per_ten_thousand_is x, (times_is (10 ^ 4) eph.af1, (times_is (10 ^ 8) eph.af2, tt))))
 
 -- 10^4 F in 10^-15, where F is in 10^-19
 pub factor_ratio : (rel n d : ℤ) → n ≡ rel → d ≡ pos 1000000000000000 → IsRatio (times (10 ^ 4) (decimal rel 19)) n d

@@ -7,15 +7,15 @@ use Rattle.orbit_model.specs.Elements.{Elements}
 use Rattle.sv_orbit.specs.declared.correction.Terms.{Terms}
 
 -- q / 10^4
-abbrev pub part : Rational → Rational
-part q = divided q 10000 (lit< tt)
+abbrev pub per_ten_thousand : Rational → Rational
+per_ten_thousand q = divided q 10000 (lit< tt)
 
 -- each term lies in its box; sent is the satellite's clock time of sending
 pub record HoldsTerms (b : Terms) (eph : Elements) (sent : Rational) : Type 0 where
   pub bias : Holds b.bias.held eph.af0
   pub drift : Holds b.drift.held (times (10 ^ 4) eph.af1)
   pub aging : Holds b.aging.held (times (10 ^ 8) eph.af2)
-  pub offset : Holds b.offset.held (part (sent -ʳ eph.toc))
+  pub offset : Holds b.offset.held (per_ten_thousand (sent -ʳ eph.toc))
 
 -- af0 + af1 x + af2 x² + effect, where x is the time since toc, and `effect` the relativistic term
 abbrev pub polynomial : Elements → Rational → Rational → Rational

@@ -5,7 +5,7 @@ ghost use Rattle.whole_math.specs.Rational.{Rational, ◌-ʳ◌, two_to_minus, I
 ghost use Rattle.iv_core.specs.Intervals.{Holds};
 ghost use Rattle.orbit_model.specs.Elements.{Elements, sent_at, elements_of, seconds};
 ghost use Rattle.orbit_model.specs.Solution.{with_share};
-ghost use Rattle.sv_orbit.specs.ClockTerms.{HoldsTerms, part, correction};
+ghost use Rattle.sv_orbit.specs.ClockTerms.{HoldsTerms, per_ten_thousand, correction};
 
 use crate::clock_record::ClockRecord;
 use crate::quotient::quotient;
@@ -36,7 +36,7 @@ pub const CLOCK: u64 = 1 << 54;
 pub const EFFECT: u64 = 110_000_000_000;
 
 // CLOCK over 10^4, and the steps of the polynomial
-pub const SHARE: u64 = 1_801_439_850_949;
+pub const SCALED_CLOCK: u64 = 1_801_439_850_949;
 
 const TIME: u64 = ONE / 10_000 * 14_403;
 
@@ -81,7 +81,7 @@ pub fn time_since<const TICKS: u64, const SIZE: u64>(
     requires code_high { code ≤ℤ pos (10 ^ 11) }
     requires size { (TICKS * 149896229 + 5 * 10 ^ 14) * 2 ^ 60 ≤ SIZE * 14989622900000000000 }
     requires limit { SIZE ≤ 2 ^ 62 }
-    ensures { Holds result.held (part (sent_at tag.0 code -ʳ seconds epoch.0)) }
+    ensures { Holds result.held (per_ten_thousand (sent_at tag.0 code -ʳ seconds epoch.0)) }
 {
     quotient(sent_since(epoch, tag, code), 14_989_622_900_000_000_000)
 }
@@ -89,35 +89,35 @@ pub fn time_since<const TICKS: u64, const SIZE: u64>(
 // 10^4 · 2^41, which makes a clock positive
 const CLOCK_OFFSET: i64 = 21_990_232_555_520_000;
 
-const OFFSET_SHARE: i64 = 1 << 41;
+const OFFSET_QUOTIENT: i64 = 1 << 41;
 
 // ⌊clock / 10^4⌋. The divisor is known when the program is built, which then multiplies in place of dividing.
-fn share_below(clock: i64) -> i64
+fn per_ten_thousand_below(clock: i64) -> i64
     requires { unsigned_abs clock ≤ 2 ^ 54 }
     ensures low { (result *ℤ pos 10000) ≤ℤ clock }
     ensures high { clock <ℤ ((result *ℤ pos 10000) +ℤ pos 10000) }
 {
-    ((clock + CLOCK_OFFSET) as u64 / 10_000) as i64 - OFFSET_SHARE
+    ((clock + CLOCK_OFFSET) as u64 / 10_000) as i64 - OFFSET_QUOTIENT
 }
 
 // ⌈clock / 10^4⌉
-fn share_above(clock: i64) -> i64
+fn per_ten_thousand_above(clock: i64) -> i64
     requires { unsigned_abs clock ≤ 2 ^ 54 }
     ensures low { clock ≤ℤ (result *ℤ pos 10000) }
     ensures high { (result *ℤ pos 10000) <ℤ (clock +ℤ pos 10000) }
 {
-    -share_below(-clock)
+    -per_ten_thousand_below(-clock)
 }
 
 // A clock over 10^4
-pub fn share_of<const WIDTH: u64, const TO: u64>(
+pub fn per_ten_thousand<const WIDTH: u64, const TO: u64>(
     clock: &SizedBox<60, CLOCK, WIDTH>,
-) -> SizedBox<60, SHARE, TO>
+) -> SizedBox<60, SCALED_CLOCK, TO>
     requires width { WIDTH + 20000 ≤ (TO + 1) * 10000 }
-    ensures { (x : Rational) → Holds clock.now.held x → Holds result.held (part x) }
+    ensures { (x : Rational) → Holds clock.now.held x → Holds result.held (per_ten_thousand x) }
 {
-    let low = share_below(clock.held.lo);
-    let high = share_above(clock.held.hi);
+    let low = per_ten_thousand_below(clock.held.lo);
+    let high = per_ten_thousand_above(clock.held.hi);
     SizedBox::new(Iv::from_ends(low, high))
 }
 
@@ -131,8 +131,8 @@ fn offset_of(
     requires near { abs_diff tag.0 made.now.eph.toe.0 ≤ 72010000000 }
     requires code_low { pos 0 ≤ℤ code }
     requires code_high { code ≤ℤ pos (10 ^ 11) }
-    requires sent { Holds sent.now.held (part (sent_at tag.0 code -ʳ seconds made.now.eph.toe.0)) }
-    ensures { Holds result.held (part (sent_at tag.0 code -ʳ seconds made.now.eph.toc.0)) }
+    requires sent { Holds sent.now.held (per_ten_thousand (sent_at tag.0 code -ʳ seconds made.now.eph.toe.0)) }
+    ensures { Holds result.held (per_ten_thousand (sent_at tag.0 code -ʳ seconds made.now.eph.toc.0)) }
 {
     if made.eph.toc.0 == made.eph.toe.0 {
         sent.loose()
@@ -148,7 +148,7 @@ impl Terms {
         requires code_low { pos 0 ≤ℤ code }
         requires code_high { code ≤ℤ pos (10 ^ 11) }
         requires sent { Holds sent.now.held
-            (part (sent_at tag.0 code -ʳ seconds made.now.eph.toe.0)) }
+            (per_ten_thousand (sent_at tag.0 code -ʳ seconds made.now.eph.toe.0)) }
         ensures { (share : Rational) → IsAtMostInSize (two_to_minus 44) share →
             HoldsTerms result (with_share (elements_of made.now.eph) share) (sent_at tag.0 code) }
     {
@@ -163,9 +163,9 @@ impl Terms {
 
 /// The clock that the correction gives at each clock in a box, with a relativistic term in another; the numbers are the widths
 /// of the boxes and of the steps between them.
-pub fn pass<
+pub fn corrected_clock<
     const WIDTH: u64,
-    const SHARE_WIDTH: u64,
+    const SCALED_WIDTH: u64,
     const TIME_WIDTH: u64,
     const AGED_WIDTH: u64,
     const SLOPE_WIDTH: u64,
@@ -178,8 +178,8 @@ pub fn pass<
     clock: &SizedBox<60, CLOCK, WIDTH>,
     effect: &SizedBox<60, EFFECT, EFFECT_WIDTH>,
 ) -> SizedBox<60, CLOCK, TO_WIDTH>
-    requires share { WIDTH + 20000 ≤ (SHARE_WIDTH + 1) * 10000 }
-    requires time { SHARE_WIDTH + 1 ≤ TIME_WIDTH }
+    requires scaled { WIDTH + 20000 ≤ (SCALED_WIDTH + 1) * 10000 }
+    requires time { SCALED_WIDTH + 1 ≤ TIME_WIDTH }
     requires aged { AGING * TIME_WIDTH + TIME * 1 + 2 * 2 ^ 60 ≤ (AGED_WIDTH + 1) * 2 ^ 60 }
     requires slope { AGED_WIDTH + 1 ≤ SLOPE_WIDTH }
     requires turn { TIME * SLOPE_WIDTH + SLOPE * TIME_WIDTH + 2 * 2 ^ 60
@@ -190,8 +190,8 @@ pub fn pass<
         Holds clock.now.held x → Holds effect.now.held y →
         Holds result.held (correction eph sent x y) }
 {
-    let share: SizedBox<60, SHARE, SHARE_WIDTH> = share_of(clock);
-    let time: SizedBox<60, TIME, TIME_WIDTH> = terms.offset.sub(&share);
+    let scaled: SizedBox<60, SCALED_CLOCK, SCALED_WIDTH> = per_ten_thousand(clock);
+    let time: SizedBox<60, TIME, TIME_WIDTH> = terms.offset.sub(&scaled);
     let aged: SizedBox<60, AGED, AGED_WIDTH> = terms.aging.mul(&time);
     let slope: SizedBox<60, SLOPE, SLOPE_WIDTH> = terms.drift.add(&aged);
     let turn: SizedBox<60, TURN, TURN_WIDTH> = time.mul(&slope);

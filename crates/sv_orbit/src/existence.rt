@@ -5,7 +5,7 @@
 ghost use Rattle.std.specs.Prelude.{pos};
 ghost use Rattle.whole_math.specs.Rational.{Rational, ◌≈◌, of_whole};
 ghost use Rattle.orbit_model.specs.Elements.{Elements, Constants};
-ghost use Rattle.orbit_model.specs.SeenPlaces.{Place, difference, IsDisplacement};
+ghost use Rattle.orbit_model.specs.SeenPlaces.{Position, difference, IsDisplacement};
 ghost use Rattle.orbit_model.specs.Places.{HasLengthBetween};
 ghost use Rattle.orbit_model.specs.Solution.{Quantities, IsSatelliteSolution, IsNearSolution, HasNearSolution};
 ghost use Rattle.sv_orbit.specs.Directions.{HasMeanDirection};
@@ -35,7 +35,7 @@ pub fn solutions_exist()
 /// A place has a mean direction over each displacement from a point that it is 11,800 km to 45,200 km from, as each seen place is from its
 /// receiver (`seen_places` of orbit_model).
 pub fn mean_direction_exists()
-    ensures { (seen point move : Place) →
+    ensures { (seen point move : Position) →
         HasLengthBetween 11800000 45200000 (difference seen point) → IsDisplacement move →
         HasMeanDirection seen point move }
 {}

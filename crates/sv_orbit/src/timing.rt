@@ -8,11 +8,13 @@ ghost use Rattle.trig_box.specs.AnglePairs.{SolvesKepler};
 ghost use Rattle.orbit_model.specs.Elements.{sent_at, elements_of};
 ghost use Rattle.orbit_model.specs.Solution.{Quantities, IsNearSolution};
 ghost use Rattle.sv_orbit.specs.Records.{constants_of};
-ghost use Rattle.sv_orbit.specs.ClockTerms.{part};
+ghost use Rattle.sv_orbit.specs.ClockTerms.{per_ten_thousand};
 ghost use Rattle.sv_orbit.specs.Timings.{HoldsTiming};
 
 use crate::clock_record::ClockRecord;
-use crate::correction::{CLOCK, EFFECT, SENT, SHARE, Terms, pass, share_of, time_since};
+use crate::correction::{
+    CLOCK, EFFECT, SCALED_CLOCK, SENT, Terms, corrected_clock, per_ten_thousand, time_since,
+};
 use crate::shape::ECCENTRICITY;
 use gps_time::Tick;
 use iv_core::{Iv, middle_between};
@@ -61,10 +63,10 @@ fn time_at<const WIDTH: u64>(
 ) -> SizedBox<60, EPOCH_TIME, 3>
     requires { WIDTH ≤ 10000 }
     ensures { (s x : Rational) → Holds sent.now.held s → Holds clock.now.held x →
-        Holds result.held (s -ʳ part x) }
+        Holds result.held (s -ʳ per_ten_thousand x) }
 {
-    let share: SizedBox<60, SHARE, 2> = share_of(clock);
-    sent.sub(&share)
+    let scaled: SizedBox<60, SCALED_CLOCK, 2> = per_ten_thousand(clock);
+    sent.sub(&scaled)
 }
 
 // M0 + n tk
@@ -134,7 +136,7 @@ fn effect_of(
 ) -> SizedBox<60, EFFECT, EFFECT_WIDTH>
     ensures { (s : Rational) (q : Quantities) →
         IsNearSolution (constants_of made.now.world) (elements_of made.now.eph) s q →
-        Holds sent.now.held (part (s -ʳ (elements_of made.now.eph).toe)) →
+        Holds sent.now.held (per_ten_thousand (s -ʳ (elements_of made.now.eph).toe)) →
         Holds first.now.held q.clock → Holds result.held
         ((constants_of made.now.world).relativity *ʳ (elements_of made.now.eph).ecc *ʳ
         (elements_of made.now.eph).root_a *ʳ q.eccentric_pair.sin) }
@@ -156,7 +158,7 @@ pub fn timing_at(made: &ClockRecord, tag: Tick, code: i64) -> Timing
 {
     let sent = time_since::<72_010_000_000, SENT>(made.eph.toe, tag, code);
     let terms = Terms::of(made, tag, code, &sent);
-    let first: SizedBox<60, CLOCK, FIRST_WIDTH> = pass::<
+    let first: SizedBox<60, CLOCK, FIRST_WIDTH> = corrected_clock::<
         36_028_797_018_963_968,
         3_602_879_701_898,
         3_602_879_701_899,
@@ -168,7 +170,7 @@ pub fn timing_at(made: &ClockRecord, tag: Tick, code: i64) -> Timing
         FIRST_WIDTH,
     >(&terms, &any_clock(), &any_effect());
     let effect = effect_of(made, &sent, &first);
-    let second = pass::<
+    let second = corrected_clock::<
         FIRST_WIDTH,
         22_469_828,
         22_469_829,
@@ -179,7 +181,7 @@ pub fn timing_at(made: &ClockRecord, tag: Tick, code: i64) -> Timing
         EFFECT_WIDTH,
         SECOND_WIDTH,
     >(&terms, &first, &effect);
-    let clock = pass::<SECOND_WIDTH, 4, 5, 3, 4, 7, 10, EFFECT_WIDTH, CLOCK_WIDTH>(
+    let clock = corrected_clock::<SECOND_WIDTH, 4, 5, 3, 4, 7, 10, EFFECT_WIDTH, CLOCK_WIDTH>(
         &terms, &second, &effect,
     );
     let epoch_time = time_at(&sent, &clock);

@@ -14,22 +14,22 @@ abbrev pub track_tail_of_vectors : Bool → ℕ → List (List ℤ) → TwoBest 
 track_tail_of_vectors fixed h moves best top = if fixed then Fixed h moves best top else Unseparated h moves best top
 
 -- the ranges of a tail with vectors
-pub record AreTrackVectors (ss : List ℕ) (arcs : List Arc) (pairs : List PairRows) (h : ℕ) (moves : List (List ℤ)) (best : TwoBest) (top : ℤ) : Type 0 where
+pub record AreTrackVectors (signals : List ℕ) (arcs : List Arc) (pairs : List PairRows) (h : ℕ) (moves : List (List ℤ)) (best : TwoBest) (top : ℤ) : Type 0 where
   pub move_each : length moves ≡ length pairs
   pub moves_in : All IsMove moves
-  pub values : AreValues ss arcs h best top
+  pub values : AreValues signals arcs h best top
 
 -- a tail of a certificate of these signals, arcs and pairs, and this budget
 abbrev pub IsTrackTailOf : List ℕ → List Arc → List PairRows → ℕ → TrackTail → Type 0
-IsTrackTailOf ss arcs pairs budget (Fixed h moves best top) = AreTrackVectors ss arcs pairs h moves best top
-IsTrackTailOf ss arcs pairs budget (Unseparated h moves best top) = AreTrackVectors ss arcs pairs h moves best top
-IsTrackTailOf ss arcs pairs budget (Weak column pivot) = IsWeak column pivot
-IsTrackTailOf ss arcs pairs budget (Overwidth place) = Unit {0}
-IsTrackTailOf ss arcs pairs budget (Spent spent) = spent ≡ budget
+IsTrackTailOf signals arcs pairs budget (Fixed h moves best top) = AreTrackVectors signals arcs pairs h moves best top
+IsTrackTailOf signals arcs pairs budget (Unseparated h moves best top) = AreTrackVectors signals arcs pairs h moves best top
+IsTrackTailOf signals arcs pairs budget (Weak column pivot) = IsWeak column pivot
+IsTrackTailOf signals arcs pairs budget (Overwidth place) = Unit {0}
+IsTrackTailOf signals arcs pairs budget (Spent spent) = spent ≡ budget
 
-pub IsTrackTailOf-prop : (ss : List ℕ) (arcs : List Arc) (pairs : List PairRows) (budget : ℕ) (tail : TrackTail) → IsProp (IsTrackTailOf ss arcs pairs budget tail)
-IsTrackTailOf-prop ss arcs pairs budget (Fixed h moves best top) = Prim.hlevel props
-IsTrackTailOf-prop ss arcs pairs budget (Unseparated h moves best top) = Prim.hlevel props
-IsTrackTailOf-prop ss arcs pairs budget (Weak column pivot) = Prim.hlevel props
-IsTrackTailOf-prop ss arcs pairs budget (Overwidth place) = Prim.hlevel props
-IsTrackTailOf-prop ss arcs pairs budget (Spent spent) = Prim.hlevel props
+pub IsTrackTailOf-prop : (signals : List ℕ) (arcs : List Arc) (pairs : List PairRows) (budget : ℕ) (tail : TrackTail) → IsProp (IsTrackTailOf signals arcs pairs budget tail)
+IsTrackTailOf-prop signals arcs pairs budget (Fixed h moves best top) = Prim.hlevel props
+IsTrackTailOf-prop signals arcs pairs budget (Unseparated h moves best top) = Prim.hlevel props
+IsTrackTailOf-prop signals arcs pairs budget (Weak column pivot) = Prim.hlevel props
+IsTrackTailOf-prop signals arcs pairs budget (Overwidth place) = Prim.hlevel props
+IsTrackTailOf-prop signals arcs pairs budget (Spent spent) = Prim.hlevel props

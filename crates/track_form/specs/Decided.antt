@@ -18,7 +18,7 @@ use Rattle.track_form.specs.SumDecided.{IsTrackForm, IsFinishRefused, AreFound, 
 
 -- the rows have no form: the front of some pair is refused, the first of these with this fault, or none is and the finish of their sum is
 abbrev pub IsFormRefused : List Arc → List ℕ → List PairRows → LowerFault → Type 0
-IsFormRefused arcs ss pairs why = IsFirstRefused arcs ss pairs why ⊎ IsFinishRefused arcs ss pairs why
+IsFormRefused arcs signals pairs why = IsFirstRefused arcs signals pairs why ⊎ IsFinishRefused arcs signals pairs why
 
 -- a refusal as a tail
 abbrev pub track_tail_of : LowerFault → TrackTail
@@ -26,31 +26,31 @@ track_tail_of (fault.Weak column pivot) = Weak column pivot
 track_tail_of (fault.Overwidth place) = Overwidth place
 
 -- the search over the rows' form ends so without an answer
-pub record IsSearchEnded (arcs : List Arc) (ss : List ℕ) (pairs : List PairRows) (budget : ℕ) (without : Form → ℕ → Type 0) : Type 0 where
+pub record IsSearchEnded (arcs : List Arc) (signals : List ℕ) (pairs : List PairRows) (budget : ℕ) (without : Form → ℕ → Type 0) : Type 0 where
   pub fronts : List FrontForm
   pub form : Form
-  pub of_rows : IsTrackForm arcs ss pairs fronts form
+  pub of_rows : IsTrackForm arcs signals pairs fronts form
   pub ended : without form budget
 
 -- the decision ends with a number that is too large there
 abbrev pub IsTrackWideAt : List Arc → List ℕ → List PairRows → ℕ → Place → Type 0
-IsTrackWideAt arcs ss pairs budget Search = IsSearchEnded arcs ss pairs budget IsTooWide
-IsTrackWideAt arcs ss pairs budget Float = IsMoveWide arcs ss pairs budget
-IsTrackWideAt arcs ss pairs budget Sum = IsSumWide arcs ss pairs budget
-IsTrackWideAt arcs ss pairs budget place = IsFormRefused arcs ss pairs (fault.Overwidth place)
+IsTrackWideAt arcs signals pairs budget Search = IsSearchEnded arcs signals pairs budget IsTooWide
+IsTrackWideAt arcs signals pairs budget Float = IsMoveWide arcs signals pairs budget
+IsTrackWideAt arcs signals pairs budget Sum = IsSumWide arcs signals pairs budget
+IsTrackWideAt arcs signals pairs budget place = IsFormRefused arcs signals pairs (fault.Overwidth place)
 
 -- The decision, in its order: the fronts of the pairs, the finish of their sum, the search, the moves, the upper sums, the ratio
 abbrev pub IsTrackDecision : List Arc → List ℕ → List PairRows → ℕ → ℕ → TrackTail → Type 0
-IsTrackDecision arcs ss pairs ratio budget (Fixed h moves best top) = AreFound arcs ss pairs budget h moves best top × IsSeparated (pos ratio) top best.p2
-IsTrackDecision arcs ss pairs ratio budget (Unseparated h moves best top) = AreFound arcs ss pairs budget h moves best top × (IsSeparated (pos ratio) top best.p2 → ⊥)
-IsTrackDecision arcs ss pairs ratio budget (Weak column pivot) = IsFormRefused arcs ss pairs (fault.Weak column pivot)
-IsTrackDecision arcs ss pairs ratio budget (Overwidth place) = IsTrackWideAt arcs ss pairs budget place
-IsTrackDecision arcs ss pairs ratio budget (Spent spent) = (spent ≡ budget) × IsSearchEnded arcs ss pairs budget IsSpent
+IsTrackDecision arcs signals pairs ratio budget (Fixed h moves best top) = AreFound arcs signals pairs budget h moves best top × IsSeparated (pos ratio) top best.p2
+IsTrackDecision arcs signals pairs ratio budget (Unseparated h moves best top) = AreFound arcs signals pairs budget h moves best top × (IsSeparated (pos ratio) top best.p2 → ⊥)
+IsTrackDecision arcs signals pairs ratio budget (Weak column pivot) = IsFormRefused arcs signals pairs (fault.Weak column pivot)
+IsTrackDecision arcs signals pairs ratio budget (Overwidth place) = IsTrackWideAt arcs signals pairs budget place
+IsTrackDecision arcs signals pairs ratio budget (Spent spent) = (spent ≡ budget) × IsSearchEnded arcs signals pairs budget IsSpent
 
 -- where the integers are fixed, they are with their moves best by the ratio for all data in the boxes
 abbrev pub IsTrackBestWhereFixed : ℕ → List Arc → List ℕ → List PairRows → TrackTail → Type 0
-IsTrackBestWhereFixed ratio arcs ss pairs (Fixed h moves best top) = IsBestByRatio ratio arcs ss pairs (first_of best) moves
-IsTrackBestWhereFixed ratio arcs ss pairs _ = Unit {0}
+IsTrackBestWhereFixed ratio arcs signals pairs (Fixed h moves best top) = IsBestByRatio ratio arcs signals pairs (first_of best) moves
+IsTrackBestWhereFixed ratio arcs signals pairs _ = Unit {0}
 
 -- a decision other than that the search ended without an answer: no greater budget changes it
 abbrev pub IsFinal : TrackTail → Type 0

@@ -13,12 +13,12 @@ abbrev pub move_by : List ℤ → PairFactors → List ℤ
 move_by z k = baseline_at k.d k.l k.columns z
 
 -- of the front of the pair's rows
-pub record AreOfPair (arcs : List Arc) (ss : List ℕ) (p : PairRows) (k : PairFactors) : Type 0 where
+pub record AreOfPair (arcs : List Arc) (signals : List ℕ) (p : PairRows) (k : PairFactors) : Type 0 where
   pub front : FrontForm
-  pub is : IsFrontOfPair arcs ss p front
+  pub is : IsFrontOfPair arcs signals p front
   pub columns : k.columns ≡ front.columns
   pub d : k.d ≡ front.d
   pub l : k.l ≡ front.l
 
 abbrev pub AreFactors : List Arc → List ℕ → List PairRows → List PairFactors → Type 0
-AreFactors arcs ss pairs ks = AllZip (AreOfPair arcs ss) pairs ks
+AreFactors arcs signals pairs ks = AllZip (AreOfPair arcs signals) pairs ks

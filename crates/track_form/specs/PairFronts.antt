@@ -17,31 +17,31 @@ use Rattle.lower_form.specs.Fronts.{front_of}
 use Rattle.track_form.specs.Fronts.{Front}
 
 -- the front of the normal matrix of a pair's rows
-pub record IsFrontOfPair (arcs : List Arc) (ss : List ℕ) (p : PairRows) (f : FrontForm) : Type 0 where
+pub record IsFrontOfPair (arcs : List Arc) (signals : List ℕ) (p : PairRows) (f : FrontForm) : Type 0 where
   pub normal : Normal
-  pub of_rows : IsNormalOf arcs ss (p ∷ []) normal
+  pub of_rows : IsNormalOf arcs signals (p ∷ []) normal
   pub front : IsFrontOf normal f
 
 -- that matrix, over the least power of 2 that serves, has no front, for this reason
-pub record IsRefusedPair (arcs : List Arc) (ss : List ℕ) (p : PairRows) (fault : LowerFault) : Type 0 where
+pub record IsRefusedPair (arcs : List Arc) (signals : List ℕ) (p : PairRows) (fault : LowerFault) : Type 0 where
   pub normal : Normal
-  pub of_rows : IsNormalOf arcs ss (p ∷ []) normal
+  pub of_rows : IsNormalOf arcs signals (p ∷ []) normal
   pub h : ℕ
   pub exponent : IsExponent h (form_of normal)
   pub reported : IsReportedAs fault (front_of h normal)
 
 abbrev pub HasFront : List Arc → List ℕ → PairRows → Type 0
-HasFront arcs ss p = (f : FrontForm) × IsFrontOfPair arcs ss p f
+HasFront arcs signals p = (f : FrontForm) × IsFrontOfPair arcs signals p f
 
 abbrev pub AreFronts : List Arc → List ℕ → List PairRows → List FrontForm → Type 0
-AreFronts arcs ss pairs fs = AllZip (IsFrontOfPair arcs ss) pairs fs
+AreFronts arcs signals pairs fs = AllZip (IsFrontOfPair arcs signals) pairs fs
 
 -- of the pairs that have no front, the first has none for this reason
-pub record IsFirstRefused (arcs : List Arc) (ss : List ℕ) (pairs : List PairRows) (fault : LowerFault) : Type 0 where
+pub record IsFirstRefused (arcs : List Arc) (signals : List ℕ) (pairs : List PairRows) (fault : LowerFault) : Type 0 where
   pub place : ℕ
   pub inside : place < length pairs
-  pub refused : (d : PairRows) → IsRefusedPair arcs ss (get_or pairs place d) fault
-  pub before : (k : ℕ) → k < place → (d : PairRows) → HasFront arcs ss (get_or pairs k d)
+  pub refused : (d : PairRows) → IsRefusedPair arcs signals (get_or pairs place d) fault
+  pub before : (k : ℕ) → k < place → (d : PairRows) → HasFront arcs signals (get_or pairs k d)
 
 -- a front by its exponent and the entries of its form
 abbrev pub brief : FrontForm → Front

@@ -12,14 +12,14 @@ use Rattle.track_form.specs.declared.sums.NoSum.TheVariants.{Refused, Over}
 
 -- the exponents of all fronts
 abbrev pub AreAtMost : List Arc → List ℕ → List PairRows → ℕ → Type 0
-AreAtMost arcs ss pairs most = (k : ℕ) → k < length pairs → (d : PairRows) (f : FrontForm) → IsFrontOfPair arcs ss (get_or pairs k d) f → f.h ≤ most
+AreAtMost arcs signals pairs most = (k : ℕ) → k < length pairs → (d : PairRows) (f : FrontForm) → IsFrontOfPair arcs signals (get_or pairs k d) f → f.h ≤ most
 
 -- the table of the fronts, over 2^h
 abbrev pub HoldsSums : List Arc → List ℕ → List PairRows → ℕ → List (List ℤ) → Type 0
-HoldsSums arcs ss pairs h t = (fs : List FrontForm) → AreFronts arcs ss pairs fs → (r c : ℕ) → r ≤ c → c < 1 + integer_count arcs ss →
-    entry t (3 + r) (3 + c) ≡ track_entry (1 + integer_count arcs ss) h (map brief fs) r c
+HoldsSums arcs signals pairs h t = (fs : List FrontForm) → AreFronts arcs signals pairs fs → (r c : ℕ) → r ≤ c → c < 1 + integer_count arcs signals →
+    entry t (3 + r) (3 + c) ≡ track_entry (1 + integer_count arcs signals) h (map brief fs) r c
 
 -- the sum isn't made: some pair has no front, the first with this fault, or Q holds
 abbrev pub IsStopped : List Arc → List ℕ → List PairRows → Type 0 → NoSum → Type 0
-IsStopped arcs ss pairs Q (Refused fault) = IsFirstRefused arcs ss pairs fault
-IsStopped arcs ss pairs Q Over = Q
+IsStopped arcs signals pairs Q (Refused fault) = IsFirstRefused arcs signals pairs fault
+IsStopped arcs signals pairs Q Over = Q

@@ -23,17 +23,17 @@ IsSaidOf (Overwidth place) t v = v ≡ Not (cause.Overwidth place)
 IsSaidOf (Spent budget) t v = v ≡ Not cause.Spent
 
 -- The rows are decided from themselves alone, and the text is compared with what they say
-pub record IsTrackVerdict (arcs : List Arc) (ss : List ℕ) (pairs : List PairRows) (ratio budget : ℕ) (t : TrackTail) (v : Verdict) : Type 0 where
+pub record IsTrackVerdict (arcs : List Arc) (signals : List ℕ) (pairs : List PairRows) (ratio budget : ℕ) (t : TrackTail) (v : Verdict) : Type 0 where
   pub decided : TrackTail
-  pub decision : IsTrackDecision arcs ss pairs ratio budget decided
+  pub decision : IsTrackDecision arcs signals pairs ratio budget decided
   pub said : IsSaidOf decided t v
 
 -- the text says that the rows are fixed, and its first integers with its moves are strictly best for the rows
 abbrev pub IsTrackBestIn : List Arc → List ℕ → List PairRows → TrackTail → Type 0
-IsTrackBestIn arcs ss pairs (Fixed h moves best top) = IsStrictlyBest arcs ss pairs (first_of best) moves
-IsTrackBestIn arcs ss pairs _ = ⊥
+IsTrackBestIn arcs signals pairs (Fixed h moves best top) = IsStrictlyBest arcs signals pairs (first_of best) moves
+IsTrackBestIn arcs signals pairs _ = ⊥
 
 -- the same, and best by the ratio
 abbrev pub IsTrackBestByRatioIn : ℕ → List Arc → List ℕ → List PairRows → TrackTail → Type 0
-IsTrackBestByRatioIn ratio arcs ss pairs (Fixed h moves best top) = IsBestByRatio ratio arcs ss pairs (first_of best) moves
-IsTrackBestByRatioIn ratio arcs ss pairs _ = ⊥
+IsTrackBestByRatioIn ratio arcs signals pairs (Fixed h moves best top) = IsBestByRatio ratio arcs signals pairs (first_of best) moves
+IsTrackBestByRatioIn ratio arcs signals pairs _ = ⊥

@@ -9,11 +9,11 @@ ghost use Rattle.obs_rows.specs.Integers.{integer_count};
 ghost use Rattle.integer_form.specs.declared.front_form.FrontForm.{FrontForm};
 ghost use Rattle.integer_form.specs.Kept.{form_of_table};
 ghost use Rattle.lower_form.specs.Fronts.{BoundsAllData};
-ghost use Rattle.lower_form.specs.Rooms.{IsClean};
+ghost use Rattle.lower_form.specs.CleanSteps.{IsClean};
 ghost use Rattle.track_form.specs.PairFronts.{IsFrontOfPair, IsRefusedPair};
 ghost use Rattle.track_form.specs.Sums.{AreAtMost};
 
-use lower_form::{FrontForm, FrontRoom, LowerFault, exponent, front, refill_front};
+use lower_form::{BaselineSteps, FrontForm, LowerFault, exponent, front, refill_front};
 use normal_sum::{Normal, refill_pair, sum_pair};
 use obs_rows::{Arc, PairRows, Signals, fine_signals, integer_count};
 use quadratic_form::{BASELINE_COLUMNS, FormTable};
@@ -36,7 +36,7 @@ pub fn pair_front(arcs: &[Arc], signals: Signals, pair: &PairRows) -> Result<Fro
 #[derive(Clone, Copy, Debug)]
 pub struct PairRoom {
     normal: Normal,
-    room: FrontRoom,
+    room: BaselineSteps,
     /// The front of the last pair that had one.
     pub front: FrontForm,
     pub ghost clean: { IsClean front.columns room },
@@ -49,7 +49,7 @@ impl PairRoom {
         ensures { result.front.columns ≡ 4 + integer_count arcs.now (fine_signals signals) }
     {
         let columns = BASELINE_COLUMNS + integer_count(arcs, fine_signals(signals)) + 1;
-        let room = FrontRoom::empty();
+        let room = BaselineSteps::empty();
         let front = FrontForm::of(columns, 0, &FormTable::zeros());
         PairRoom {
             normal: Normal::empty(),

@@ -28,7 +28,7 @@ use quadratic_form::{BASELINE_COLUMNS, NormalTable};
 use std::alloc::{AllocError, Global};
 
 /// sum + part
-fn plus(sum: i128, part: i128) -> i128
+fn with_part(sum: i128, part: i128) -> i128
     requires sum_size { unsigned_abs sum ≤ MOST_PAIRS * 2 ^ 64 }
     requires part_size { unsigned_abs part ≤ 2 ^ 64 }
     ensures value { result ≡ sum +ℤ part }
@@ -50,7 +50,7 @@ fn add_part(table: &mut NormalTable, part: i128, r: usize, c: usize)
         entry table.new i j ≡ entry table.old i j }
 {
     let old = table.at(BASELINE_COLUMNS + r, BASELINE_COLUMNS + c);
-    let sum = plus(old, part);
+    let sum = with_part(old, part);
     table.set(BASELINE_COLUMNS + r, BASELINE_COLUMNS + c, sum);
 }
 

@@ -15,7 +15,7 @@ use Rattle.track_job.specs.declared.answers.TrackAnswer.{TrackAnswer}
 use Rattle.track_job.specs.declared.answers.TrackAnswer.TheVariants.{Full}
 use Rattle.track_rows.proofs.StandsLaws.{track_stands}
 use Rattle.track_job.specs.TrackOutcomes.{IsTrackable, IsTrackAnswer, IsTrackOutcome, tracked_with}
-use Rattle.track_job.specs.TrackJobs.{TrackStandsForIts}
+use Rattle.track_job.specs.TrackJobs.{TrackCertStandsForFiles}
 
 pub some_length : {X : Type 0} (xs : List X) → (xs ≡ [] → ⊥) → 1 ≤ length xs
 some_length [] none = absurd (none refl)
@@ -32,7 +32,7 @@ decided_at base rover nav o outcome cert is full =
     subst (λ (a : TrackAnswer). IsTrackAnswer is.screened is.kept is.position is.signals o outcome.taken outcome.lost a) full is.answer_is
 
 pub track_stands_for : (base rover : ObsFile) (nav : Records) (o : Options) (outcome : TrackOutcome) (cert : TrackCert) → IsTrackOutcome base rover nav o outcome → outcome.answer ≡ Full cert
-    → TrackStandsForIts base rover nav o cert
+    → TrackCertStandsForFiles base rover nav o cert
 track_stands_for base rover nav o outcome cert is full =
     let decided = decided_at base rover nav o outcome cert is full in
     let arcs = is.arcs_are in

@@ -40,27 +40,27 @@ pub record IsTrackFix (cert : TrackCert) : Type 0 where
 -- The certificate's track stands for the files: each of its pairs has exactly one row for each kept arc that holds it, and each
 -- box holds all solutions of the user algorithm with the constants of the options' system, seen from the base's position and
 -- from the pair's own point.
-pub record TrackStandsForIts (b r : ObsFile) (n : Records) (o : Options) (cert : TrackCert) : Type 0 where
-  pub ratio_is : cert.ratio ≡ o.ratio
-  pub budget_is : cert.budget ≡ o.budget
+pub record TrackCertStandsForFiles (base rover : ObsFile) (nav : Records) (options : Options) (cert : TrackCert) : Type 0 where
+  pub ratio_is : cert.ratio ≡ options.ratio
+  pub budget_is : cert.budget ≡ options.budget
   pub position : List ℤ
-  pub position_is : IsPosition b position
+  pub position_is : IsPosition base position
   pub signals : Signals
-  pub signals_are : AreSignals (bands_of o.bands) b r signals
+  pub signals_are : AreSignals (bands_of options.bands) base rover signals
   pub taken : List PairOf
-  pub taken_are : AreTaken b r o taken
-  pub stands : TrackStands (origin_of b r n o position signals taken) cert.track
+  pub taken_are : AreTaken base rover options taken
+  pub stands : TrackStands (origin_of base rover nav options position signals taken) cert.track
 
 -- The answer is the certificate of a track that says `fixed` and stands for the files. All other integers have a sum of squares
 -- that is greater by the ratio. A check of it says that it is certified.
-pub record IsTrackFixedFor (b r : ObsFile) (n : Records) (o : Options) (answer : TrackAnswer) : Type 0 where
+pub record IsTrackFixedFor (base rover : ObsFile) (nav : Records) (options : Options) (answer : TrackAnswer) : Type 0 where
   pub cert : TrackCert
   pub answer_is : answer ≡ Full cert
   pub fix : IsTrackFix cert
   pub by_ratio : IsBestByRatio cert.ratio cert.track.arcs (fine_signals cert.track.signals) cert.track.pairs (first_of fix.best) fix.moves
   pub certified : IsTrackVerdict cert.track.arcs (fine_signals cert.track.signals) cert.track.pairs cert.ratio cert.budget cert.tail Certified
   pub only : (v : Verdict) → IsTrackVerdict cert.track.arcs (fine_signals cert.track.signals) cert.track.pairs cert.ratio cert.budget cert.tail v → v ≡ Certified
-  pub stands : TrackStandsForIts b r n o cert
+  pub stands : TrackCertStandsForFiles base rover nav options cert
 
 -- done for a fix, else declined
 abbrev pub track_status_of : TrackAnswer → Status
@@ -68,10 +68,10 @@ track_status_of a = verdict_status (is_track_fixed a)
 
 -- The outcome of the files, in its two texts. A certificate that is printed stands for the files, whatever it says, and is the only
 -- one with its text.
-pub record AnswersTrack (o : Options) (b r : ObsFile) (n : Records) (end : Ending) : Type 0 where
+pub record AnswersTrack (options : Options) (base rover : ObsFile) (nav : Records) (end : Ending) : Type 0 where
   pub outcome : TrackOutcome
-  pub is : IsTrackOutcome b r n o outcome
-  pub fixed : is_track_fixed outcome.answer ≡ true → IsTrackFixedFor b r n o outcome.answer
-  pub stands : (cert : TrackCert) → outcome.answer ≡ Full cert → TrackStandsForIts b r n o cert
+  pub is : IsTrackOutcome base rover nav options outcome
+  pub fixed : is_track_fixed outcome.answer ≡ true → IsTrackFixedFor base rover nav options outcome.answer
+  pub stands : (cert : TrackCert) → outcome.answer ≡ Full cert → TrackCertStandsForFiles base rover nav options cert
   pub whole : IsWholeTrackAnswer outcome.answer
   pub end_is : end ≡ ending (track_status_of outcome.answer) (track_answer_text outcome.answer) (track_outcome_text outcome)

@@ -71,7 +71,7 @@ track_verdict_text _ = verdict_line false
 
 -- the text for err
 abbrev pub track_outcome_text : TrackOutcome → List ℕ
-track_outcome_text o = counts_text o.taken o.all o.kept ++ (lost_lines o.lost ++ (delta_text o.delta ++ track_verdict_text o.answer))
+track_outcome_text outcome = counts_text outcome.taken outcome.all outcome.kept ++ (lost_lines outcome.lost ++ (delta_text outcome.delta ++ track_verdict_text outcome.answer))
 
 -- whether the track is a fix
 abbrev pub is_fixed_track : TrackTail → Bool

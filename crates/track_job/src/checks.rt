@@ -15,7 +15,7 @@ pub struct TrackCheck;
 impl TextCommand for TrackCheck {
     ghost job = { λ _. check_track_job };
 
-    fn answer(&self, alloc: Global, text: &[u8]) -> Result<JobOutput, TextFault> {
+    fn answer_text(&self, alloc: Global, text: &[u8]) -> Result<JobOutput, TextFault> {
         let cert = read_track(alloc, text)?;
         let verdict = check_track(alloc, &cert)?;
         Ok(verdict_output(alloc, &verdict)?)

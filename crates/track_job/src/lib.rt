@@ -6,7 +6,7 @@
 //! (`IsTrackFixedFor`) that for all data in the printed boxes its integers with its moves have a sum of squares that is lesser,
 //! and lesser by the ratio, than that of all other integers with any baselines, one for each tracked pair; and that a check of
 //! it answers `Certified`. Each certificate that is printed, of a fix or of a decline, stands for the
-//! files (`TrackStandsForIts`): its boxes hold all solutions for them, each pair's seen from a point of its own. Each of its
+//! files (`TrackCertStandsForFiles`): its boxes hold all solutions for them, each pair's seen from a point of its own. Each of its
 //! pairs has a front. Each taken pair is tracked, or lost for the first cause that holds; a decline is the outcome of the
 //! files, with its cause.
 //!

@@ -66,7 +66,7 @@ fn decided(
 }
 
 // Too few satellites, too many arcs, or what is decided of the track.
-fn answer(
+fn answer_of_track(
     alloc: Global,
     files: &ScreenedArcs,
     begun: &SessionStart,
@@ -128,7 +128,7 @@ pub(crate) fn track_outcome(
     let delta = have_delta(&files.base, &files.rover);
     // What was screened is enough from here on, so the files' memory goes first.
     drop(files);
-    let answered = answer(alloc, &cut, &begun, taken, options)?;
+    let answered = answer_of_track(alloc, &cut, &begun, taken, options)?;
     Ok(TrackOutcome {
         taken,
         all: begun.all,

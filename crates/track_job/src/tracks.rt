@@ -16,7 +16,7 @@ pub struct MovingRover;
 impl SessionCommand for MovingRover {
     ghost answers = { AnswersTrack };
 
-    fn answer(
+    fn answer_files(
         &self,
         alloc: Global,
         files: SessionFiles,

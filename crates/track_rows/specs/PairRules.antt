@@ -9,7 +9,7 @@ use Rattle.obs_rows.specs.Ranges.{IsSystem}
 use Rattle.obs_rows.specs.ReceiverPoints.{IsReceiverPoint}
 use Rattle.slip_arcs.specs.Linked.{IsCutOf}
 use Rattle.screening.specs.declared.sv_pair.SvPair.{SvPair}
-use Rattle.row_build.specs.Halves.{AreBaseHalves}
+use Rattle.row_build.specs.BasePseudoranges.{AreBasePseudoranges}
 use Rattle.row_build.specs.Rows.{RowSetting, setting}
 use Rattle.row_build.specs.PairRows.{ArePairRows}
 use Rattle.row_build.specs.Far.{HasFarRow}
@@ -64,7 +64,7 @@ pub record AreReady (f : TrackFiles) : Type 0 where
   pub arcs : AreArcs f.kept.now
   pub unshifted : AreUnshifted f.kept.now
   pub position_in : IsReceiverPoint f.position
-  pub halves : AreBaseHalves f.screened.now.boxes f.position f.halves.now
+  pub base_pseudoranges : AreBasePseudoranges f.screened.now.boxes f.position f.base_pseudoranges.now
   pub system_is : IsSystem f.system
 
 -- the pair of this number may be tried with these arcs: it is one of those that were screened, and they are the kept ones, with shifts

@@ -20,8 +20,8 @@ pub struct TrackFiles<'a> {
     pub signals: Signals,
     /// The satellites' system, by its letter.
     pub system: u8,
-    /// The base's half of each entry's computed term, which no pair changes.
-    pub halves: &'a [Pseudorange],
+    /// The base's pseudorange of each entry, which no pair changes.
+    pub base_pseudoranges: &'a [Pseudorange],
 }
 
 /// The coarse rounds of one pair.

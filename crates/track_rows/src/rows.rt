@@ -35,7 +35,7 @@ pub fn rows_of(
 {
     let from = RowSource {
         screened: files.screened,
-        halves: files.halves,
+        base_pseudoranges: files.base_pseudoranges,
         arcs,
         base: &files.position,
         point,

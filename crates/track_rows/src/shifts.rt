@@ -44,7 +44,7 @@ fn tried_arc(
     }
     let from = RowSource {
         screened: files.screened,
-        halves: files.halves,
+        base_pseudoranges: files.base_pseudoranges,
         arcs: files.kept,
         base: &files.position,
         point,

@@ -10,7 +10,7 @@ ghost use Rattle.track_rows.specs.Tracks.{unshifted, IsTrackOf};
 use crate::files::TrackFiles;
 use crate::walks::walked;
 use obs_rows::{Arc, ArcList, PHASES, PairList, Signals};
-use row_build::{Screened, base_halves};
+use row_build::{Screened, base_pseudoranges};
 use std::alloc::{AllocError, Global};
 use track_data::{Items, Track, Tracked};
 
@@ -59,14 +59,14 @@ pub fn track_at(
     ensures arcs { IfOk result (λ t. AreSameArcs arcs.now t.track.arcs) }
 {
     let kept = unshifted_arcs(alloc, arcs)?;
-    let halves = base_halves(alloc, screened, base)?;
+    let base_pseudoranges = base_pseudoranges(alloc, screened, base)?;
     let files = TrackFiles {
         screened,
         kept: kept.as_slice(),
         position: *base,
         signals,
         system,
-        halves: halves.as_slice(),
+        base_pseudoranges: base_pseudoranges.as_slice(),
     };
     let walk = walked(alloc, &files)?;
     let track = Track {

@@ -25,12 +25,12 @@ use Rattle.cert_lines.specs.declared.version.Version.TheVariants.{Two}
 use Rattle.cert_lines.specs.declared.pairs.PairHead.{PairHead}
 use Rattle.cert_lines.specs.declared.tails.FormValues.{FormValues}
 use Rattle.cert_lines.specs.Lengths.{IsWholePair}
-use Rattle.cert_lines.specs.Lines.{count_line, vector_line, system_line, signals_line, counted_arcs, pair_line, row_lines, values_line, weak_line, last_line}
+use Rattle.cert_lines.specs.Lines.{count_line, vector_line, system_line, signals_line, counted_arcs, pair_line, row_lines, values_line, weak_line, decision_line}
 use Rattle.cert_lines.specs.Forms.{count_in, vector_in, system_in, signals_in, pair_head, pair_in}
-use Rattle.cert_lines.specs.TailForms.{begins, form_values, values_in, last_in}
+use Rattle.cert_lines.specs.TailForms.{begins, form_values, values_in, decision_line_in}
 use Rattle.cert_lines.proofs.Sizes.{entries_small, pair_small, values_small, weak_small}
 use Rattle.cert_lines.proofs.LineSpells.{line_length, count_spells, vector_spells, pair_spells, point_spells, point_length, entries_in}
-use Rattle.cert_lines.proofs.TailSpells.{values_spell, last_read, last_length}
+use Rattle.cert_lines.proofs.TailSpells.{values_spell, decision_read, decision_length}
 use Rattle.cert_lines.proofs.LetterLaws.{not_one, letters_of_signals, letters_spell, letters_length, system_spells}
 use Rattle.cert_lines.proofs.Spreading.{signals_good}
 use Rattle.cert_data.specs.Tails.{IsMove}
@@ -49,16 +49,16 @@ use Rattle.track_text.specs.TailForms.{move_in, declined_in}
 use Rattle.track_text.specs.Rules.{Frame, frame, Form, Ratio, Budget, SystemLine, Base, Letters, ArcCount, PairCount, PairPoint, Tail, Second, Values, Last, End}
 use Rattle.track_text.specs.Rules.{numbers_of, track_rules, track_reading, admit, before_arcs, before_pairs, before_rows, before_moves}
 use Rattle.track_text.proofs.LineLaws.{ratio_taken, budget_taken, system_taken, base_taken, behind_letters, letters_taken, arc_count_taken, arcs_taken, pair_count_taken, pair_taken, point_taken, rows_taken}
-use Rattle.track_text.proofs.LineLaws.{second_taken, move_taken, values_taken, last_taken, admits_vectors, admits_declined}
+use Rattle.track_text.proofs.LineLaws.{second_taken, move_taken, values_taken, decision_taken, admits_vectors, admits_declined}
 use Rattle.track_text.proofs.Feeds.{move_small, track_feed}
 use Rattle.track_text.proofs.TailSpells.{move_spells, weak_read, spent_read, place_line, place_read}
 
 -- ---- pairs with their points
 
-pairs_accepted : (f : Frame) (arcs : List Arc) (least : ℕ) (pairs : List PairRows) (points : List (List ℤ)) (numbers : List ℕ) (rest : List (List ℕ)) → length f.ss ≤ SIGNALS → length arcs ≤ MOST_ARCS
+pairs_accepted : (f : Frame) (arcs : List Arc) (least : ℕ) (pairs : List PairRows) (points : List (List ℤ)) (numbers : List ℕ) (rest : List (List ℕ)) → length f.signals ≤ SIGNALS → length arcs ≤ MOST_ARCS
     → length points ≡ length pairs → All (HasItsArcs arcs) pairs → All IsWholePair pairs → All IsPoint points → AreTriples points → RisesFrom (λ (p : PairRows). p.number) least pairs
     → AreAccepted track_rules (Tail f arcs (numbers ++ numbers_of pairs)) rest
-    → AreAccepted track_rules (before_pairs f arcs (length pairs) least numbers) (all_placed_pairs f.ss pairs points ++ rest)
+    → AreAccepted track_rules (before_pairs f arcs (length pairs) least numbers) (all_placed_pairs f.signals pairs points ++ rest)
 pairs_accepted f arcs least [] points numbers rest few_signals few each has whole are triples rising behind =
     subst (λ (ns : List ℕ). AreAccepted track_rules (Tail f arcs ns) rest) (append-nil numbers) behind
 pairs_accepted f arcs least (p ∷ pairs) [] numbers rest few_signals few each has whole are triples rising behind = absurd (omega (arith, each))
@@ -71,14 +71,14 @@ pairs_accepted f arcs least (p ∷ pairs) (x ∷ points) numbers rest few_signal
     let fewer : suc (length pairs) - 1 ≡ length pairs = omega arith in
     let count = length p.rows in
     let now : List ℕ = numbers ++ p.number ∷ [] in
-    let rows = row_lines f.ss p.rows in
-    let others = all_placed_pairs f.ss pairs points ++ rest in
+    let rows = row_lines f.signals p.rows in
+    let others = all_placed_pairs f.signals pairs points ++ rest in
     let head = pair_line p.number p.tag.0 p.group count in
     let at_point = vector_line (codes "at") x in
     let with_this = subst (λ (ns : List ℕ). AreAccepted track_rules (Tail f arcs ns) rest) (sym (append_assoc numbers (p.number ∷ []) (numbers_of pairs))) behind in
     let later = pairs_accepted f arcs (p.number + 1) pairs points now rest few_signals few (omega (arith, each)) (All-tail (HasItsArcs arcs) p pairs has) (All-tail IsWholePair p pairs whole)
     (All-tail IsPoint x points are) (All-tail (λ (m : List ℤ). length m ≡ 3) x points triples) rising.1 with_this in
-    let rows_pass = rows_accepted track_rules f.ss arcs p.number (λ (n k : ℕ). before_rows f arcs (length pairs) p.number n k numbers) (before_pairs f arcs (length pairs) (p.number + 1) now) 0 p.rows others
+    let rows_pass = rows_accepted track_rules f.signals arcs p.number (λ (n k : ℕ). before_rows f arcs (length pairs) p.number n k numbers) (before_pairs f arcs (length pairs) (p.number + 1) now) 0 p.rows others
     (rows_taken f arcs (length pairs) p.number numbers) few_signals few own wide (rises (λ (r : Row). r.arc) 0 p.rows p.arcs_rise (λ d some. omega arith)) later in
     let point_passes = line_accepted track_rules (PairPoint f arcs (length pairs) p.number count numbers) (vector_in (codes "at") 3 COORDINATES)
     (λ (z : List ℤ). before_rows f arcs (length pairs) p.number count 0 numbers) x at_point (rows ++ others)
@@ -88,7 +88,7 @@ pairs_accepted f arcs least (p ∷ pairs) (x ∷ points) numbers rest few_signal
     let short = line_length (codes "pair") (pos p.number ∷ pos p.tag.0 ∷ p.group ∷ pos count ∷ []) (lit≤ tt) (lit≤ tt) (pair_small p) in
     let head_passes = line_accepted track_rules (before_pairs f arcs left least numbers) (pair_in Two least) (λ (h : PairHead). PairPoint f arcs (left - 1) h.number h.count numbers)
     (pair_head p.number p.tag.0 p.group count) head (at_point ∷ (rows ++ others)) (pair_taken f arcs left least numbers (omega arith)) short reads point_still_passes in
-    subst (AreAccepted track_rules (before_pairs f arcs left least numbers)) (sym (append_assoc (placed_pair_lines f.ss p x) (all_placed_pairs f.ss pairs points) rest)) head_passes
+    subst (AreAccepted track_rules (before_pairs f arcs left least numbers)) (sym (append_assoc (placed_pair_lines f.signals p x) (all_placed_pairs f.signals pairs points) rest)) head_passes
 
 -- ---- tails
 
@@ -108,8 +108,8 @@ moves_accepted (p ∷ pairs) (m ∷ moves) rest each are triples behind =
 
 -- the lines of a tail with vectors, and the last one
 vectors_accepted : (f : Frame) (arcs : List Arc) (pairs : List PairRows) (h : ℕ) (moves : List (List ℤ)) (best : TwoBest) (top : ℤ) (fixed : Bool)
-    → AreTrackVectors f.ss arcs pairs h moves best top → AreWholeTrackVectors moves best
-    → AreAccepted track_rules (Tail f arcs (numbers_of pairs)) (track_vectors_lines pairs h moves best top ++ last_line fixed ∷ [])
+    → AreTrackVectors f.signals arcs pairs h moves best top → AreWholeTrackVectors moves best
+    → AreAccepted track_rules (Tail f arcs (numbers_of pairs)) (track_vectors_lines pairs h moves best top ++ decision_line fixed ∷ [])
 vectors_accepted f arcs pairs h moves best top fixed are whole =
     let n = best.size in
     let values_fit = are.values in
@@ -127,17 +127,17 @@ vectors_accepted f arcs pairs h moves best top fixed are whole =
     admits_vectors f n arcs numbers (vector_line (codes "z1") first) values_fit.size refl ∙ ap (λ (r : Result (List ℤ) Flaw). and_then r (λ z. Ok (Second n numbers))) z1_read in
     let z2_read = vector_spells (codes "z2") n ENTRIES second second_long second_small (entries_in n best.second values_fit.second_in) in
     let values_read = values_spell h best.p1 best.p2 top values_fit.h_to values_fit.p1_in values_fit.p2_in values_fit.top_in in
-    let last_passes = line_accepted track_rules Last last_in (λ (b : Bool). End) fixed (last_line fixed) [] last_taken (last_length fixed) (last_read fixed) (end_accepted track_rules End refl) in
-    let values_pass = line_accepted track_rules Values values_in (λ (x : FormValues). Last) (form_values h best.p1 best.p2 top) line (last_line fixed ∷ []) values_taken
+    let last_passes = line_accepted track_rules Last decision_line_in (λ (b : Bool). End) fixed (decision_line fixed) [] decision_taken (decision_length fixed) (decision_read fixed) (end_accepted track_rules End refl) in
+    let values_pass = line_accepted track_rules Values values_in (λ (x : FormValues). Last) (form_values h best.p1 best.p2 top) line (decision_line fixed ∷ []) values_taken
     (line_length (codes "values") (pos h ∷ best.p1 ∷ best.p2 ∷ top ∷ []) (lit≤ tt) (lit≤ tt) values_are_small) values_read last_passes in
-    let moves_pass = moves_accepted pairs moves (line ∷ last_line fixed ∷ []) are.move_each are.moves_in whole.move_each values_pass in
+    let moves_pass = moves_accepted pairs moves (line ∷ decision_line fixed ∷ []) are.move_each are.moves_in whole.move_each values_pass in
     let second_passes = line_accepted track_rules (Second n numbers) (vector_in (codes "z2") n ENTRIES) (λ (z : List ℤ). before_moves numbers) second (vector_line (codes "z2") second)
-    (move_lines pairs moves ++ (line ∷ last_line fixed ∷ [])) (second_taken n numbers) (line_length (codes "z2") second (lit≤ tt) (omega (arith, second_long, best.size_to)) second_small) z2_read moves_pass in
-    let all = step track_rules (Tail f arcs numbers) (Second n numbers) (vector_line (codes "z1") first) (vector_line (codes "z2") second ∷ (move_lines pairs moves ++ (line ∷ last_line fixed ∷ [])))
+    (move_lines pairs moves ++ (line ∷ decision_line fixed ∷ [])) (second_taken n numbers) (line_length (codes "z2") second (lit≤ tt) (omega (arith, second_long, best.size_to)) second_small) z2_read moves_pass in
+    let all = step track_rules (Tail f arcs numbers) (Second n numbers) (vector_line (codes "z1") first) (vector_line (codes "z2") second ∷ (move_lines pairs moves ++ (line ∷ decision_line fixed ∷ [])))
     (line_length (codes "z1") first (lit≤ tt) (omega (arith, first_long, best.size_to)) first_small) first_admitted second_passes in
-    let split : track_vectors_lines pairs h moves best top ++ last_line fixed ∷ []
-    ≡ vector_line (codes "z1") first ∷ vector_line (codes "z2") second ∷ (move_lines pairs moves ++ (line ∷ last_line fixed ∷ [])) =
-    ap (λ (l : List (List ℕ)). vector_line (codes "z1") first ∷ vector_line (codes "z2") second ∷ l) (append_assoc (move_lines pairs moves) (line ∷ []) (last_line fixed ∷ [])) in
+    let split : track_vectors_lines pairs h moves best top ++ decision_line fixed ∷ []
+    ≡ vector_line (codes "z1") first ∷ vector_line (codes "z2") second ∷ (move_lines pairs moves ++ (line ∷ decision_line fixed ∷ [])) =
+    ap (λ (l : List (List ℕ)). vector_line (codes "z1") first ∷ vector_line (codes "z2") second ∷ l) (append_assoc (move_lines pairs moves) (line ∷ []) (decision_line fixed ∷ [])) in
     subst (AreAccepted track_rules (Tail f arcs numbers)) (sym split) all
 
 -- a line that is no vector, and what it says
@@ -147,7 +147,7 @@ declined_accepted f arcs numbers line t short other read =
     step track_rules (Tail f arcs numbers) End line [] short (admits_declined f arcs numbers line other ∙ ap (λ (r : Result TrackTail Flaw). and_then r (λ t. Ok End)) read)
     (end_accepted track_rules End refl)
 
-tail_accepted : (f : Frame) (arcs : List Arc) (pairs : List PairRows) (t : TrackTail) → f.budget ≤ MOST_BUDGET → IsTrackTailOf f.ss arcs pairs f.budget t → IsWholeTrackTail t
+tail_accepted : (f : Frame) (arcs : List Arc) (pairs : List PairRows) (t : TrackTail) → f.budget ≤ MOST_BUDGET → IsTrackTailOf f.signals arcs pairs f.budget t → IsWholeTrackTail t
     → AreAccepted track_rules (Tail f arcs (numbers_of pairs)) (track_tail_lines pairs t)
 tail_accepted f arcs pairs (Fixed h moves best top) few fits whole = vectors_accepted f arcs pairs h moves best top true fits whole
 tail_accepted f arcs pairs (Unseparated h moves best top) few fits whole = vectors_accepted f arcs pairs h moves best top false fits whole

@@ -157,7 +157,7 @@ whole_head h = fewer_lines (head_of h) (count_line (codes "arcs") 2 ∷ []) (arc
 
 record HeldArcs (f : Frame) (left : ℕ) (arcs : List Arc) (front : List (List ℕ)) : Type 0 where
   pub head : TrackHead
-  pub signals : f.ss ≡ signals_of_head head
+  pub signals : f.signals ≡ signals_of_head head
   pub begun : AreBegun Two (signals_of_head head) left arcs
   pub are : front ≡ arcs_front head left arcs
 
@@ -172,7 +172,7 @@ Held Budget front = HeldHead front (λ h. track_form ∷ ratio_of h ∷ [])
 Held (SystemLine budget) front = HeldHead front (λ h. track_form ∷ ratio_of h ∷ budget_of h ∷ [])
 Held (Base budget) front = HeldHead front (λ h. track_form ∷ ratio_of h ∷ budget_of h ∷ system_of h ∷ [])
 Held (Letters budget) front = HeldHead front (λ h. track_form ∷ ratio_of h ∷ budget_of h ∷ system_of h ∷ base_of h ∷ [])
-Held (ArcCount f) front = (h : TrackHead) × (f.ss ≡ signals_of_head h) × (front ≡ head_of h)
+Held (ArcCount f) front = (h : TrackHead) × (f.signals ≡ signals_of_head h) × (front ≡ head_of h)
 Held (NextArc f left arcs) front = (1 ≤ left) × HeldArcs f left arcs front
 Held (PairCount f arcs) front = HeldArcs f 0 arcs front
 Held other front = ⊥
@@ -222,7 +222,7 @@ arcs_next : (f : Frame) (left : ℕ) (arcs : List Arc) (front : List (List ℕ))
 arcs_next f zero arcs front held = held
 arcs_next f (suc left) arcs front held = (omega arith, held)
 
-arc_step : (f : Frame) (left : ℕ) (arcs : List Arc) (front : List (List ℕ)) (line : List ℕ) (a : Arc) → 1 ≤ left → HeldArcs f left arcs front → arc_in Two f.ss (free_count arcs) left line ≡ Ok a
+arc_step : (f : Frame) (left : ℕ) (arcs : List Arc) (front : List (List ℕ)) (line : List ℕ) (a : Arc) → 1 ≤ left → HeldArcs f left arcs front → arc_in Two f.signals (free_count arcs) left line ≡ Ok a
     → HeldArcs f (left - 1) (arcs ++ a ∷ []) (front ++ line ∷ [])
 arc_step f left arcs front line a some held is =
     let held_head = held.head in
@@ -296,7 +296,7 @@ next_held (ArcCount f) next front line held other e =
       are = pushed front (head_of held_head) line (count_line (codes "arcs") n) held.2 read.line_is ∙ ap (λ (k : ℕ). head_of held_head ++ count_line (codes "arcs") k ∷ []) none;
     }))
 next_held (NextArc f left arcs) next front line held other e =
-    by_line (front ++ line ∷ []) (arc_in Two f.ss (free_count arcs) left line) (λ (a : Arc). before_arcs f (left - 1) (arcs ++ a ∷ [])) next e (λ a is.
+    by_line (front ++ line ∷ []) (arc_in Two f.signals (free_count arcs) left line) (λ (a : Arc). before_arcs f (left - 1) (arcs ++ a ∷ [])) next e (λ a is.
     arcs_next f (left - 1) (arcs ++ a ∷ []) (front ++ line ∷ []) (arc_step f left arcs front line a held.0 held.1 is))
 next_held (PairCount f arcs) next front line held other e =
     by_line (front ++ line ∷ []) (count_in (codes "pairs") 1 MOST_PAIRS line) (λ n. before_pairs f arcs n 0 []) next e (λ n is.

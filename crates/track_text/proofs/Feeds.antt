@@ -10,7 +10,7 @@ use Rattle.obs_rows.specs.declared.limits.TheConstants.{MOST_RATIO, MOST_BUDGET,
 use Rattle.int_search.specs.declared.answer.TwoBest.{TwoBest}
 use Rattle.cert_words.proofs.NumberLaws.{AreSmall}
 use Rattle.cert_words.proofs.TextLaws.{AreLines, lines-append}
-use Rattle.cert_lines.specs.Lines.{counted_arcs, values_line, last_line}
+use Rattle.cert_lines.specs.Lines.{counted_arcs, values_line, decision_line}
 use Rattle.cert_lines.specs.declared.version.Version.TheVariants.{Two}
 use Rattle.cert_lines.proofs.Sizes.{moves_small}
 use Rattle.cert_lines.proofs.Feeds.{worded, count_feed, point_feed, entries_feed, counted_arcs_feed, rows_feed, pair_line_feed, values_feed, weak_feed}
@@ -63,9 +63,9 @@ vectors_feed ss arcs pairs h moves best top are =
 
 tail_feed : (ss : List ℕ) (arcs : List Arc) (pairs : List PairRows) (budget : ℕ) (t : TrackTail) → budget ≤ MOST_BUDGET → IsTrackTailOf ss arcs pairs budget t → AreLines (track_tail_lines pairs t)
 tail_feed ss arcs pairs budget (Fixed h moves best top) few fits =
-    lines-append (track_vectors_lines pairs h moves best top) (last_line true ∷ []) (vectors_feed ss arcs pairs h moves best top fits) (refl, tt)
+    lines-append (track_vectors_lines pairs h moves best top) (decision_line true ∷ []) (vectors_feed ss arcs pairs h moves best top fits) (refl, tt)
 tail_feed ss arcs pairs budget (Unseparated h moves best top) few fits =
-    lines-append (track_vectors_lines pairs h moves best top) (last_line false ∷ []) (vectors_feed ss arcs pairs h moves best top fits) (refl, tt)
+    lines-append (track_vectors_lines pairs h moves best top) (decision_line false ∷ []) (vectors_feed ss arcs pairs h moves best top fits) (refl, tt)
 tail_feed ss arcs pairs budget (Weak column pivot) few fits = (weak_feed (codes "declined weak") column pivot refl (omega (arith, fits.column_to)) fits.pivot_in, tt)
 tail_feed ss arcs pairs budget (Overwidth place) few fits = (place_feed (codes "declined overwidth ") place refl, tt)
 tail_feed ss arcs pairs budget (Spent spent) few fits = (count_feed (codes "declined spent") spent refl (omega (arith, fits)), tt)

@@ -6,7 +6,7 @@ use Rattle.obs_rows.specs.Integers.{integer_count}
 use Rattle.obs_rows.specs.declared.limits.TheConstants.{MOST_PAIRS, MOST_RATIO, MOST_BUDGET, MOST_ARCS}
 use Rattle.rinex_head.specs.Places.{and_then}
 use Rattle.cert_lines.specs.Forms.{count_in, vector_in, system_in, Letters as LettersOf, signals_in, signals_of, arc_in, pair_in, row_in}
-use Rattle.cert_lines.specs.TailForms.{begins, values_in, last_in}
+use Rattle.cert_lines.specs.TailForms.{begins, values_in, decision_line_in}
 use Rattle.cert_lines.specs.declared.ranges.TheConstants.{COORDINATES, ENTRIES}
 use Rattle.cert_lines.specs.declared.version.Version.TheVariants.{Two}
 use Rattle.cert_text.specs.LineParts.{word_in, TakesLine, IsEnd}
@@ -46,11 +46,11 @@ pub arc_count_taken : (f : Frame) → TakesLine track_rules (ArcCount f) (count_
 arc_count_taken f = record { admits = λ line. refl; ends = refl }
 
 arc_taken : (f : Frame) (left : ℕ) (arcs : List Arc) → 1 ≤ left
-    → TakesLine track_rules (before_arcs f left arcs) (arc_in Two f.ss (free_count arcs) left) (λ a. before_arcs f (left - 1) (arcs ++ a ∷ []))
+    → TakesLine track_rules (before_arcs f left arcs) (arc_in Two f.signals (free_count arcs) left) (λ a. before_arcs f (left - 1) (arcs ++ a ∷ []))
 arc_taken f zero arcs some = absurd (omega arith)
 arc_taken f (suc left) arcs some = record { admits = λ line. refl; ends = refl }
 
-pub arcs_taken : (f : Frame) → ArcsAreTaken track_rules Two f.ss (before_arcs f)
+pub arcs_taken : (f : Frame) → ArcsAreTaken track_rules Two f.signals (before_arcs f)
 arcs_taken f = record { takes = λ left arcs some. arc_taken f left arcs some }
 
 pub pair_count_taken : (f : Frame) (arcs : List Arc) → TakesLine track_rules (PairCount f arcs) (count_in (codes "pairs") 1 MOST_PAIRS) (λ n. before_pairs f arcs n 0 [])
@@ -66,12 +66,12 @@ pub point_taken : (f : Frame) (arcs : List Arc) (pairs number count : ℕ) (numb
 point_taken f arcs pairs number count numbers = record { admits = λ line. refl; ends = refl }
 
 row_taken : (f : Frame) (arcs : List Arc) (pairs number left least : ℕ) (numbers : List ℕ) → 1 ≤ left
-    → TakesLine track_rules (before_rows f arcs pairs number left least numbers) (row_in f.ss arcs number least) (λ k. before_rows f arcs pairs number (left - 1) (k + 1) numbers)
+    → TakesLine track_rules (before_rows f arcs pairs number left least numbers) (row_in f.signals arcs number least) (λ k. before_rows f arcs pairs number (left - 1) (k + 1) numbers)
 row_taken f arcs pairs number zero least numbers some = absurd (omega arith)
 row_taken f arcs pairs number (suc left) least numbers some = record { admits = λ line. refl; ends = refl }
 
 pub rows_taken : (f : Frame) (arcs : List Arc) (pairs number : ℕ) (numbers : List ℕ)
-    → RowsAreTaken track_rules f.ss arcs number (λ left least. before_rows f arcs pairs number left least numbers) (before_pairs f arcs pairs (number + 1) (numbers ++ number ∷ []))
+    → RowsAreTaken track_rules f.signals arcs number (λ left least. before_rows f arcs pairs number left least numbers) (before_pairs f arcs pairs (number + 1) (numbers ++ number ∷ []))
 rows_taken f arcs pairs number numbers = record { takes = λ left least some. row_taken f arcs pairs number left least numbers some; ends = λ least. refl }
 
 -- ---- where a line of a tail after its first is expected, or the end
@@ -85,15 +85,15 @@ move_taken number numbers = record { admits = λ line. refl; ends = refl }
 pub values_taken : TakesLine track_rules Values values_in (λ v. Last)
 values_taken = record { admits = λ line. refl; ends = refl }
 
-pub last_taken : TakesLine track_rules Last last_in (λ f. End)
-last_taken = record { admits = λ line. refl; ends = refl }
+pub decision_taken : TakesLine track_rules Last decision_line_in (λ f. End)
+decision_taken = record { admits = λ line. refl; ends = refl }
 
 pub end_taken : IsEnd track_rules End
 end_taken = record { admits = λ line. refl; ends = refl }
 
 -- ---- the first line of a tail
 
-pub admits_vectors : (f : Frame) (n : ℕ) (arcs : List Arc) (numbers line : List ℕ) → n ≡ integer_count arcs f.ss → begins (codes "z1") line ≡ true
+pub admits_vectors : (f : Frame) (n : ℕ) (arcs : List Arc) (numbers line : List ℕ) → n ≡ integer_count arcs f.signals → begins (codes "z1") line ≡ true
     → admit (Tail f arcs numbers) line ≡ and_then (vector_in (codes "z1") n ENTRIES line) (λ z. Ok (Second n numbers))
 admits_vectors f n arcs numbers line is starts = rw (starts, is) refl
 

@@ -13,11 +13,11 @@ use Rattle.line_source.specs.EndedLines.{ended_lines}
 use Rattle.cert_words.proofs.TextLaws.{lines_of_text}
 use Rattle.cert_lines.specs.declared.version.Version.TheVariants.{Two}
 use Rattle.cert_lines.specs.Lengths.{IsWholePair}
-use Rattle.cert_lines.specs.Lines.{vector_line, counted_arcs, pair_line, row_lines, values_line, weak_line, last_line}
-use Rattle.cert_lines.specs.TailForms.{last_in}
+use Rattle.cert_lines.specs.Lines.{vector_line, counted_arcs, pair_line, row_lines, values_line, weak_line, decision_line}
+use Rattle.cert_lines.specs.TailForms.{decision_line_in}
 use Rattle.cert_lines.proofs.Sizes.{point_small}
 use Rattle.cert_lines.proofs.LetterLaws.{not_one}
-use Rattle.cert_lines.proofs.TailSpells.{last_read}
+use Rattle.cert_lines.proofs.TailSpells.{decision_read}
 use Rattle.cert_lines.proofs.SameLines.{cons_same, numbers_same, count_same, system_line_same, signals_line_same, rows_same, pair_line_same, counted_arcs_same}
 use Rattle.cert_lines.proofs.SameStructs.{pair_same}
 use Rattle.cert_data.specs.Tails.{IsMove}
@@ -134,7 +134,7 @@ moves_same (p ∷ pairs) (m ∷ moves) (n ∷ moves') rest rest' h h' e =
 -- a tail with vectors, or of one line
 data Shape (ss : List ℕ) (arcs : List Arc) (pairs : List PairRows) (budget : ℕ) (t : TrackTail) : Type 0 where
   vectors : (fixed : Bool) (h : ℕ) (moves : List (List ℤ)) (best : TwoBest) (top : ℤ) → t ≡ track_tail_of_vectors fixed h moves best top
-      → track_tail_lines pairs t ≡ track_vectors_lines pairs h moves best top ++ last_line fixed ∷ []
+      → track_tail_lines pairs t ≡ track_vectors_lines pairs h moves best top ++ decision_line fixed ∷ []
       → AreTrackVectors ss arcs pairs h moves best top → AreWholeTrackVectors moves best → Shape ss arcs pairs budget t
   single : (line : List ℕ) → track_tail_lines pairs t ≡ line ∷ [] → declined_in budget line ≡ Ok t → Shape ss arcs pairs budget t
 
@@ -168,8 +168,8 @@ vectors_same ss arcs pairs h h' moves moves' best best' top top' last last' a b 
 tails_same : (ss : List ℕ) (arcs : List Arc) (pairs : List PairRows) (budget : ℕ) (t u : TrackTail) → Shape ss arcs pairs budget t → Shape ss arcs pairs budget u
     → track_tail_lines pairs t ≡ track_tail_lines pairs u → t ≡ u
 tails_same ss arcs pairs budget t u (vectors f h m b x is lines are whole) (vectors f' h' m' b' x' is' lines' are' whole') e =
-    let parts = vectors_same ss arcs pairs h h' m m' b b' x x' (last_line f) (last_line f') are are' whole whole' (sym lines ∙ e ∙ lines') in
-    let kinds : Ok f ≡ Ok f' = sym (last_read f) ∙ ap last_in parts.4 ∙ last_read f' in
+    let parts = vectors_same ss arcs pairs h h' m m' b b' x x' (decision_line f) (decision_line f') are are' whole whole' (sym lines ∙ e ∙ lines') in
+    let kinds : Ok f ≡ Ok f' = sym (decision_read f) ∙ ap decision_line_in parts.4 ∙ decision_read f' in
     let kind : f ≡ f' = cc in
     is ∙ (λ i. track_tail_of_vectors (kind i) (parts.0 i) (parts.1 i) (parts.2 i) (parts.3 i)) ∙ sym is'
 tails_same ss arcs pairs budget t u (vectors f h m b x is lines are whole) (single line one read) e = absurd (apart (cons_same _ _ _ _ (sym lines ∙ e ∙ one)).1)

@@ -14,7 +14,7 @@ use Rattle.line_source.specs.EndedLines.{ended_lines}
 use Rattle.cert_lines.specs.Forms.{count_in, vector_in, system_in, signals_in, signals_of, arc_in, pair_in, row_in}
 use Rattle.cert_lines.specs.declared.ranges.TheConstants.{COORDINATES, ENTRIES}
 use Rattle.cert_lines.specs.declared.version.Version.TheVariants.{Two}
-use Rattle.cert_lines.specs.TailForms.{begins, values_in, last_in}
+use Rattle.cert_lines.specs.TailForms.{begins, values_in, decision_line_in}
 use Rattle.cert_text.specs.LineParts.{word_in}
 use Rattle.track_text.specs.Spelling.{track_form}
 use Rattle.track_text.specs.TailForms.{move_in, declined_in}
@@ -25,10 +25,10 @@ numbers_of pairs = map (λ p. p.number) pairs
 -- what the head says of the lines after it: the budget, and the signals that count
 pub record Frame : Type 0 where
   pub budget : ℕ
-  pub ss : List ℕ
+  pub signals : List ℕ
 
 abbrev pub frame : ℕ → List ℕ → Frame
-frame budget ss = record { budget = budget; ss = ss }
+frame budget signals = record { budget = budget; signals = signals }
 
 -- What may be expected: the lines of the head, with the budget from its line on; a number of arcs after these; the
 -- number of pairs; a number of pairs, with numbers from a least one on; a number of other pairs after the point and the
@@ -88,18 +88,18 @@ admit (SystemLine budget) line = and_then (system_in line) (λ s. Ok (Base budge
 admit (Base budget) line = and_then (vector_in (codes "base") 3 COORDINATES line) (λ p. Ok (Letters budget))
 admit (Letters budget) line = and_then (signals_in Two line) (λ s. Ok (ArcCount (frame budget (signals_of s))))
 admit (ArcCount f) line = and_then (count_in (codes "arcs") 2 MOST_ARCS line) (λ n. Ok (before_arcs f n []))
-admit (NextArc f left arcs) line = and_then (arc_in Two f.ss (free_count arcs) left line) (λ a. Ok (before_arcs f (left - 1) (arcs ++ a ∷ [])))
+admit (NextArc f left arcs) line = and_then (arc_in Two f.signals (free_count arcs) left line) (λ a. Ok (before_arcs f (left - 1) (arcs ++ a ∷ [])))
 admit (PairCount f arcs) line = and_then (count_in (codes "pairs") 1 MOST_PAIRS line) (λ n. Ok (before_pairs f arcs n 0 []))
 admit (NextPair f arcs left least numbers) line = and_then (pair_in Two least line) (λ p. Ok (PairPoint f arcs (left - 1) p.number p.count numbers))
 admit (PairPoint f arcs pairs number count numbers) line =
     and_then (vector_in (codes "at") 3 COORDINATES line) (λ p. Ok (before_rows f arcs pairs number count 0 numbers))
 admit (NextRow f arcs pairs number left least numbers) line =
-    and_then (row_in f.ss arcs number least line) (λ k. Ok (before_rows f arcs pairs number (left - 1) (k + 1) numbers))
-admit (Tail f arcs numbers) line = admit_tail f (integer_count arcs f.ss) numbers line
+    and_then (row_in f.signals arcs number least line) (λ k. Ok (before_rows f arcs pairs number (left - 1) (k + 1) numbers))
+admit (Tail f arcs numbers) line = admit_tail f (integer_count arcs f.signals) numbers line
 admit (Second integers numbers) line = and_then (vector_in (codes "z2") integers ENTRIES line) (λ z. Ok (before_moves numbers))
 admit (NextMove number numbers) line = and_then (move_in number line) (λ m. Ok (before_moves numbers))
 admit Values line = and_then (values_in line) (λ v. Ok Last)
-admit Last line = and_then (last_in line) (λ f. Ok End)
+admit Last line = and_then (decision_line_in line) (λ f. Ok End)
 admit End line = flawed 1 BadLine
 
 -- the text may end after its tail alone

@@ -8,7 +8,7 @@ use Rattle.int_search.specs.declared.answer.TwoBest.{TwoBest}
 use Rattle.cert_data.specs.Places.{name_of_place}
 use Rattle.cert_words.specs.Spelling.{text_of_lines}
 use Rattle.cert_lines.specs.declared.version.Version.TheVariants.{Two}
-use Rattle.cert_lines.specs.Lines.{count_line, vector_line, system_line, signals_line, counted_arcs, pair_line, row_lines, values_line, weak_line, named_line, last_line}
+use Rattle.cert_lines.specs.Lines.{count_line, vector_line, system_line, signals_line, counted_arcs, pair_line, row_lines, values_line, weak_line, named_line, decision_line}
 use Rattle.cert_text.specs.Spelling.{spent_line}
 use Rattle.track_data.specs.declared.tracks.Track.{Track}
 use Rattle.track_data.specs.declared.tails.TrackTail.{TrackTail}
@@ -27,16 +27,16 @@ track_head_lines ratio budget system base signals =
 
 -- the lines of a pair, of its point and of its rows
 abbrev pub placed_pair_lines : List ℕ → PairRows → List ℤ → List (List ℕ)
-placed_pair_lines ss p point = pair_line p.number p.tag.0 p.group (length p.rows) ∷ vector_line (codes "at") point ∷ row_lines ss p.rows
+placed_pair_lines signals p point = pair_line p.number p.tag.0 p.group (length p.rows) ∷ vector_line (codes "at") point ∷ row_lines signals p.rows
 
 -- each pair with its point and its rows
 abbrev pub all_placed_pairs : List ℕ → List PairRows → List (List ℤ) → List (List ℕ)
-all_placed_pairs ss [] points = []
-all_placed_pairs ss (p ∷ pairs) [] = []
-all_placed_pairs ss (p ∷ pairs) (point ∷ points) = placed_pair_lines ss p point ++ all_placed_pairs ss pairs points
+all_placed_pairs signals [] points = []
+all_placed_pairs signals (p ∷ pairs) [] = []
+all_placed_pairs signals (p ∷ pairs) (point ∷ points) = placed_pair_lines signals p point ++ all_placed_pairs signals pairs points
 
 abbrev pub counted_placed_pairs : List ℕ → List PairRows → List (List ℤ) → List (List ℕ)
-counted_placed_pairs ss pairs points = count_line (codes "pairs") (length pairs) ∷ all_placed_pairs ss pairs points
+counted_placed_pairs signals pairs points = count_line (codes "pairs") (length pairs) ∷ all_placed_pairs signals pairs points
 
 -- what stands before the tail
 abbrev pub track_lines : ℕ → ℕ → Track → List (List ℕ)
@@ -60,8 +60,8 @@ track_vectors_lines pairs h moves best top =
     ∷ (move_lines pairs moves ++ values_line h best.p1 best.p2 top ∷ [])
 
 abbrev pub track_tail_lines : List PairRows → TrackTail → List (List ℕ)
-track_tail_lines pairs (Fixed h moves best top) = track_vectors_lines pairs h moves best top ++ last_line true ∷ []
-track_tail_lines pairs (Unseparated h moves best top) = track_vectors_lines pairs h moves best top ++ last_line false ∷ []
+track_tail_lines pairs (Fixed h moves best top) = track_vectors_lines pairs h moves best top ++ decision_line true ∷ []
+track_tail_lines pairs (Unseparated h moves best top) = track_vectors_lines pairs h moves best top ++ decision_line false ∷ []
 track_tail_lines pairs (Weak column pivot) = weak_line (codes "declined weak") column pivot ∷ []
 track_tail_lines pairs (Overwidth place) = named_line (codes "declined overwidth ") (name_of_place place) ∷ []
 track_tail_lines pairs (Spent budget) = spent_line budget ∷ []

@@ -16,7 +16,7 @@ use crate::moves::read_moves;
 use crate::tail_lines::declined_in;
 use cert_data::TwoBest;
 use cert_lines::begins;
-use cert_text::{integers_in, next_integers, next_last, next_values};
+use cert_text::{integers_in, next_decision, next_integers, next_values};
 use line_source::Lines;
 use obs_rows::PairRows;
 use quadratic_form::MOST_INTEGERS;
@@ -46,7 +46,7 @@ fn read_vectors(
     let second = next_integers::<TrackText>(lines, b"z2", count)?;
     let moves = read_moves(alloc, lines, pairs)?;
     let values = next_values::<TrackText>(lines)?;
-    let fixed = next_last::<TrackText>(lines)?;
+    let fixed = next_decision::<TrackText>(lines)?;
     let best = TwoBest {
         first,
         second,

@@ -1,13 +1,13 @@
 //! The tail of the certificate of a track, written.
 ghost use Rattle.std.specs.Prelude.{◌≡◌, ◌++◌, ◌∷◌, [], OnOk, length};
 ghost use Rattle.cert_words.specs.Spelling.{text_of_lines};
-ghost use Rattle.cert_lines.specs.Lines.{last_line};
+ghost use Rattle.cert_lines.specs.Lines.{decision_line};
 ghost use Rattle.track_text.specs.Lengths.{AreTriples, AreWholeTrackVectors, IsWholeTrackTail};
 ghost use Rattle.track_text.specs.Spelling.{move_line, move_lines, track_vectors_lines, track_tail_lines};
 
 use cert_data::{TwoBest, name_of_place};
 use cert_lines::{
-    FormValues, push_count_line, push_last_line, push_named_line, push_values_line,
+    FormValues, push_count_line, push_decision_line, push_named_line, push_values_line,
     push_vector_line, push_weak_line,
 };
 use cert_words::{push_number, push_numbers};
@@ -56,7 +56,7 @@ fn push_vectors(
 ) -> Result<(), AllocError>
     requires { length moves.now ≡ length pairs.now }
     ensures text { OnOk result (out.new.items ≡ out.old.items ++ text_of_lines
-        (track_vectors_lines pairs.now h moves.now best.now top ++ last_line fixed ∷ [])) }
+        (track_vectors_lines pairs.now h moves.now best.now top ++ decision_line fixed ∷ [])) }
     ensures whole { OnOk result (AreWholeTrackVectors moves.now best.now) }
 {
     push_vector_line(out, b"z1", &best.first[..best.size])?;
@@ -69,7 +69,7 @@ fn push_vectors(
         top,
     };
     push_values_line(out, values)?;
-    push_last_line(out, fixed)
+    push_decision_line(out, fixed)
 }
 
 /// Appends the tail of the certificate of a track.

@@ -107,7 +107,7 @@ fn cross(p: i128, q: i128, r: i128, s: i128) -> i128
 }
 
 /// a · m
-fn times(a: i128, m: i128) -> i128
+fn product_of(a: i128, m: i128) -> i128
     requires a { unsigned_abs a ≤ 2 ^ 40 }
     requires m { unsigned_abs m ≤ 2 ^ 81 }
     ensures value { result ≡ a *ℤ m }
@@ -127,9 +127,9 @@ fn determinant_of(a: i128, b: i128, c: i128, f: i128, g: i128, h: i128) -> i128
     ensures value { result ≡ determinant a b c f g h }
     ensures size { unsigned_abs result ≤ 2 ^ 123 }
 {
-    let first = times(a, cross(b, c, h, h));
-    let second = times(f, cross(f, c, h, g));
-    let third = times(g, cross(f, h, b, g));
+    let first = product_of(a, cross(b, c, h, h));
+    let second = product_of(f, cross(f, c, h, g));
+    let third = product_of(g, cross(f, h, b, g));
     first - second + third
 }
 

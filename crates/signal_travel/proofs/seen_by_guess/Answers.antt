@@ -1,12 +1,12 @@
 use Rattle.std.proofs.Common.{◌≡◌, ◌^◌, [], ◌∷◌, ℤ, pos, sym, subst}
 use Rattle.whole_math.specs.Rational.{Rational}
-use Rattle.orbit_model.specs.SeenPlaces.{Place, point_of, IsSeenPlace}
+use Rattle.orbit_model.specs.SeenPlaces.{Position, point_of, IsSeenPlace}
 use Rattle.signal_travel.proofs.Handed.{same_point, held, all_narrow, all_between}
 use Rattle.signal_travel.proofs.seen_by_guess.Goals as goal
 
-seen_there : (c : goal.After-result-6-1) (x y z : ℤ) (sent seen : Place) (t : Rational) → c.args.point.now ≡ x ∷ y ∷ z ∷ []
+seen_there : (c : goal.After-result-6-1) (x y z : ℤ) (sent seen : Position) (t : Rational) → c.args.point.now ≡ x ∷ y ∷ z ∷ []
     → IsSeenPlace sent (point_of x y z) t seen → IsSeenPlace sent (point_of c.point_at.result.x c.point_at.result.y c.point_at.result.z) t seen
-seen_there c x y z sent seen t e s = subst (λ (p : Place). IsSeenPlace sent p t seen)
+seen_there c x y z sent seen t e s = subst (λ (p : Position). IsSeenPlace sent p t seen)
     (sym (same_point c.args.point.now x y z c.point_at.result.x c.point_at.result.y c.point_at.result.z e c.point_at.ensures)) s
 
 pub returns-clause-place : goal.returns-clause-place

@@ -1,12 +1,13 @@
 use Rattle.std.proofs.Common.{rules, refl, inl, inr, subst}
 use Rattle.line_source.proofs.OpeningLaws.{none_first}
 use Rattle.job_answers.proofs.KnownLaws.{no_more_given}
-use Rattle.job_answers.specs.Works.{file_work, IsDoneOver}
+use Rattle.job_answers.specs.Works.{file_work}
 use Rattle.job_answers.proofs.EndingLaws.{ended_weaker}
 use Rattle.command_words.specs.declared.jobs.Job.{Job}
-use Rattle.command_words.specs.Words.{texts_of, file_words, IsJob}
+use Rattle.command_words.specs.Words.{texts_of, IsJob}
 use Rattle.command_words.proofs.OneJob.{one_job}
-use Rattle.baseline_app.specs.Jobs.{JobEnds, IsLineOf}
+use Rattle.baseline_app.specs.Commands.{command_of}
+use Rattle.baseline_app.specs.Jobs.{IsCommandDone}
 use Rattle.baseline_app.proofs.top.answer_of.Goals as goal
 
 pub returns-in-Ok-clause-answer : goal.returns-in-Ok-clause-answer
@@ -16,7 +17,7 @@ returns-in-Ok-clause-answer g c =
 pub returns-in-Ok-clause-done : goal.returns-in-Ok-clause-done
 returns-in-Ok-clause-done g c = λ job asked.
     let work = file_work g.F.Files c.args.files.now c.do_job.new.files in
-    subst (λ (j : Job). IsDoneOver work (file_words j) (IsLineOf j) (JobEnds j work.text_of) c.do_job.result) (one_job (texts_of c.args.words.now) c.in-Ok.job job c.in-Ok.ensures.job asked)
+    subst (λ (j : Job). IsCommandDone work (command_of j) c.do_job.result) (one_job (texts_of c.args.words.now) c.in-Ok.job job c.in-Ok.ensures.job asked)
     c.do_job.ensures.done
 
 pub returns-in_ok-usage-in-Err-Usage-clause-answer : goal.returns-in_ok-usage-in-Err-Usage-clause-answer
@@ -32,7 +33,7 @@ returns-in_err-usage-in-Err-Usage-clause-done g c = λ job asked. absurd (c.read
 
 pub returns-in-Err-NoMemory-clause-done : goal.returns-in-Err-NoMemory-clause-done
 returns-in-Err-NoMemory-clause-done g c = λ job asked. record {
-  opened = none_first (file_words job) (g.F.Files.openings c.args.files.now) (g.F.Files.openings c.args.files.now) refl;
-  given = no_more_given (file_words job) (g.F.Files.given c.args.files.now) (g.F.Files.given c.args.files.now) refl;
+  opened = none_first (command_of job).file_words (g.F.Files.openings c.args.files.now) (g.F.Files.openings c.args.files.now) refl;
+  given = no_more_given (command_of job).file_words (g.F.Files.given c.args.files.now) (g.F.Files.given c.args.files.now) refl;
   ended = tt;
 }

@@ -1,6 +1,5 @@
 use Rattle.std.proofs.Common.{inl, inr}
-use Rattle.baseline_app.proofs.Completes.{run_complete, run_steady, run_usage, run_write}
-use Rattle.baseline_app.proofs.Says.{run_says}
+use Rattle.baseline_app.proofs.Completes.{run_complete, run_says, run_steady, run_usage, run_write}
 use Rattle.baseline_app.proofs.top.run.Goals as goal
 
 pub returns-clause-write : goal.returns-clause-write

@@ -4,7 +4,7 @@ use Rattle.std.proofs.lemmas.Result.{err_from_is_err_and}
 use Rattle.cert_data.specs.Tails.{IsMove}
 use Rattle.cert_lines.proofs.TailLaws.{word126}
 use Rattle.cert_text.specs.Rules.{Second, Move, Values, Last, End}
-use Rattle.cert_text.proofs.LineLaws.{second_taken, move_taken, values_taken, last_taken}
+use Rattle.cert_text.proofs.LineLaws.{second_taken, move_taken, values_taken, decision_taken}
 use Rattle.cert_text.proofs.TailLaws.{vectors_told, vectors_whole, vectors_column}
 use Rattle.cert_text.proofs.tail.read_vectors.Goals as goal
 
@@ -36,7 +36,7 @@ returns-in_err-fixed-clause-reads c =
     rw (refusal.1, refusal.2) (c.in_ok-second.ensures.reads (Second count) (λ z. Move) (second_taken count)
     ∙ c.in_ok-moved.ensures.reads Move (λ m. Values) move_taken
     ∙ c.in_ok-values.ensures.reads Values (λ v. Last) values_taken
-    ∙ c.in_err-fixed.ensures.reads Last (λ f. End) last_taken)
+    ∙ c.in_err-fixed.ensures.reads Last (λ f. End) decision_taken)
 
 pub returns-clause-reads : goal.returns-clause-reads
 returns-clause-reads c =
@@ -44,7 +44,7 @@ returns-clause-reads c =
     c.in_ok-second.ensures.reads (Second count) (λ z. Move) (second_taken count)
     ∙ c.in_ok-moved.ensures.reads Move (λ m. Values) move_taken
     ∙ c.in_ok-values.ensures.reads Values (λ v. Last) values_taken
-    ∙ c.in_ok-fixed.ensures.reads Last (λ f. End) last_taken
+    ∙ c.in_ok-fixed.ensures.reads Last (λ f. End) decision_taken
 
 pub returns-clause-fits : goal.returns-clause-fits
 returns-clause-fits c = λ ss arcs budget is.

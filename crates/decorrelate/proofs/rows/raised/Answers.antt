@@ -13,4 +13,4 @@ returns-clause-value c =
     let own_word : to_z w64 (of_z w64 own) ≡ own = small_w64 own (c.requires.small c.args.row c.args.c) in
     let other_word : to_z w64 (of_z w64 other) ≡ other = small_w64 other (c.requires.small c.args.from c.args.c) in
     let k_word : to_z w64 (of_z w64 c.args.k) ≡ c.args.k = to_z-of_z w64 c.args.k c.ranges.k in
-    as_w128 c.more.result (omega (arith, c.more.ensures.size)) ∙ (rw (c.at.ensures.value, c.at-added.ensures.value, own_word, other_word, k_word) at c.more.ensures.value)
+    as_w128 c.plus_multiple.result (omega (arith, c.plus_multiple.ensures.size)) ∙ (rw (c.at.ensures.value, c.at-added.ensures.value, own_word, other_word, k_word) at c.plus_multiple.ensures.value)

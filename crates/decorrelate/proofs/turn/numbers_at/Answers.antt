@@ -5,7 +5,7 @@ use Rattle.decorrelate.specs.Turning.{left_of, rest_of, IsTurnable}
 use Rattle.decorrelate.specs.TurnNumbers.{AreNumbersOf}
 use Rattle.decorrelate.specs.TurnedStates.{state_of}
 use Rattle.decorrelate.specs.declared.turn_numbers.TurnNumbers.{TurnNumbers}
-use Rattle.decorrelate.proofs.FallLaws.{rest_is}
+use Rattle.decorrelate.proofs.GaussLaws.{rest_is}
 use Rattle.decorrelate.proofs.Words.{narrow_w64}
 use Rattle.decorrelate.proofs.WeightLaws.{weight_word}
 use Rattle.decorrelate.proofs.TurnNumbers.{word}

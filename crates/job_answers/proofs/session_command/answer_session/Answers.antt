@@ -16,9 +16,9 @@ returns g c =
     let base = c.args.base.now in
     let rover = c.args.rover.now in
     let nav = c.args.nav.now in
-    files_done work base rover nav g.C.SessionCommand.answers c.args.options.now read.base read.rover read.nav c.answer_files.result c.in_ok-read.ensures.opened c.in_ok-read.ensures.gives c.in_ok-read.ensures.whole
+    files_done work base rover nav g.C.SessionCommand.answers c.args.options.now read.base read.rover read.nav c.end_on_files.result c.in_ok-read.ensures.opened c.in_ok-read.ensures.gives c.in_ok-read.ensures.whole
     (subst (λ (system : System). AreFilesOf system work.text_of base rover nav read.base read.rover read.nav) c.of_letter-system.ensures c.in_ok-read.ensures.read)
-    c.answer_files.ensures
+    c.end_on_files.ensures
 
 pub returns-in_err-read : goal.returns-in_err-read
 returns-in_err-read g c =

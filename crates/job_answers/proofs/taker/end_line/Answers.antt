@@ -5,8 +5,8 @@ use Rattle.job_answers.specs.Taking.{IsReadBy}
 use Rattle.job_answers.proofs.TakerLaws.{first_joined, long_ends}
 use Rattle.job_answers.proofs.taker.end_line.Goals as goal
 
-pub begin-requires-clause-first : goal.begin-requires-clause-first
-begin-requires-clause-first c =
+pub source_of-requires-clause-first : goal.source_of-requires-clause-first
+source_of-requires-clause-first c =
     first_joined c.args.line.now c.as_slice.result.now c.args.front.now c.args.piece.now c.requires.ends.0
     (c.as_slice.ensures.value ∙ c.in-Ok.ensures.added) c.requires.goes_on c.requires.front c.requires.ends.1
 

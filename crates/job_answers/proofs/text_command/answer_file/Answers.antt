@@ -16,8 +16,8 @@ returns g c =
     let read = c.in_ok-text.ensures in
     let job = g.C.TextCommand.job c.args.command.now in
     let known : IsKnownFrom work.text_of (g.F.Files.text_of files) (g.F.Files.given files) (g.F.Files.given files_after) = known_from (g.F.Files.text_of files) (g.F.Files.given files) (g.F.Files.given files_after) in
-    text_done work c.args.name.now _ job c.answer_bytes.result (read.text work.text_of known) read.reads.whole read.reads.opens read.given
-    (subst (λ (text : List ℕ). IfEnded c.answer_bytes.result (EndsOnText job c.args.name.now text)) c.deref.ensures.value c.answer_bytes.ensures)
+    text_done work c.args.name.now _ job c.end_on_text.result (read.text work.text_of known) read.reads.whole read.reads.opens read.given
+    (subst (λ (text : List ℕ). IfEnded c.end_on_text.result (EndsOnText job c.args.name.now text)) c.deref.ensures.value c.end_on_text.ensures)
 
 pub returns-in_err-text : goal.returns-in_err-text
 returns-in_err-text g c =

@@ -17,11 +17,11 @@ loop-row-preserved c =
     let centre_at : Row → ℤ = centre c.args.arcs.now c.args.signals.now c.args.z.now c.args.moved.now c.args.signal in
     let split : drop i rows ≡ row ∷ drop (i + 1) rows = drop_more rows i row c.loop-row-test.true ∙ ap (λ (q : Row). q ∷ drop (i + 1) rows) (sym c.row-item.is) in
     let word = as_w64 c.centre_of.result (omega (arith, c.centre_of.ensures.size)) in
-    let plus : c.plus-sum.result ≡ sum_before +ℤ centre_at row = c.plus-sum.ensures.value ∙ ap (λ (x : ℤ). sum_before +ℤ x) (word ∙ c.centre_of.ensures.value) in
-    let size : unsigned_abs c.plus-sum.result ≤ 2 ^ 62 = omega (arith, c.plus-sum.ensures.size, c.loop-row.invariant.size, c.loop-row-test.true, c.requires.few) in
-    let fits : to_z w128 (of_z w128 c.plus-sum.result) ≡ c.plus-sum.result = as_w128 c.plus-sum.result (omega (arith, size)) in
+    let plus : c.with_centre-sum.result ≡ sum_before +ℤ centre_at row = c.with_centre-sum.ensures.value ∙ ap (λ (x : ℤ). sum_before +ℤ x) (word ∙ c.centre_of.ensures.value) in
+    let size : unsigned_abs c.with_centre-sum.result ≤ 2 ^ 62 = omega (arith, c.with_centre-sum.ensures.size, c.loop-row.invariant.size, c.loop-row-test.true, c.requires.few) in
+    let fits : to_z w128 (of_z w128 c.with_centre-sum.result) ≡ c.with_centre-sum.result = as_w128 c.with_centre-sum.result (omega (arith, size)) in
     record {
       value = ap (λ (x : ℤ). x +ℤ sum (map centre_at (drop (i + 1) rows))) (fits ∙ plus) ∙ +ℤ_assoc sum_before (centre_at row) (sum (map centre_at (drop (i + 1) rows)))
           ∙ ap (λ (l : List Row). sum_before +ℤ sum (map centre_at l)) (sym split) ∙ c.loop-row.invariant.value;
-      size = rw fits (omega (arith, c.plus-sum.ensures.size, c.loop-row.invariant.size));
+      size = rw fits (omega (arith, c.with_centre-sum.ensures.size, c.loop-row.invariant.size));
     }

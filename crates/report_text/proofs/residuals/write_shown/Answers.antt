@@ -14,5 +14,5 @@ write_session-requires c =
       counted = counted_are c.args.session.now.signals 0;
       entries = length-take-le best.size best.first room ∙ c.requires.size;
       z_size = first_small best.size best.first c.requires.small;
-      m_size = at_most _ c.args.moved.now c.requires.moved;
+      moved_size = at_most _ c.args.moved.now c.requires.moved;
     }

@@ -1,7 +1,7 @@
 use Rattle.std.proofs.Common.{ℕ, List, ℤ, refl, sym, ap, ◌∙◌, subst, inl, inr}
 use Rattle.std.proofs.lemmas.Bool.{false≢true}
 use Rattle.integer_form.specs.FloatPoint.{item, HasWide}
-use Rattle.lower_form.specs.Rooms.{IsClean}
+use Rattle.lower_form.specs.CleanSteps.{IsClean}
 use Rattle.round_steps.proofs.StepLaws.{refused_elimination}
 use Rattle.round_steps.proofs.FrontNumbers.{HasNumbers, numbers_of_front, reported_by_front}
 use Rattle.round_steps.proofs.coarse.numbers_by_front.Goals as goal
@@ -14,7 +14,7 @@ refill_front-requires-clause-columns c = c.args.tables.now.columns ∙ sym c.req
 
 pub invariant_of-tables : goal.invariant_of-tables
 invariant_of-tables c = record {
-  clean = subst (λ (k : ℕ). IsClean k c.refill_front.new.room) c.requires.no_integers c.refill_front.ensures.clean;
+  clean = subst (λ (k : ℕ). IsClean k c.refill_front.new.steps) c.requires.no_integers c.refill_front.ensures.clean;
   columns = c.refill_front.ensures.columns ∙ c.requires.no_integers;
 }
 

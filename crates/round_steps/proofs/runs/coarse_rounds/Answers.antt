@@ -7,7 +7,7 @@ use Rattle.obs_rows.specs.Unused.{HasUsedShifts}
 use Rattle.round_steps.specs.Shifts.{without_shifts}
 use Rattle.round_steps.specs.Steps.{IsCoarseStep, IsSettledForm, IsMoved}
 use Rattle.round_steps.specs.Runs.{Rules, IsSessionOf, most_rounds}
-use Rattle.obs_rows.specs.Rounds.{coarse}
+use Rattle.obs_rows.specs.Rounds.{Round, coarse}
 use Rattle.round_steps.proofs.RunLaws.{session_at, one_more, coarse_begins, coarse_settles, coarse_declines, coarse_moves}
 use Rattle.round_steps.proofs.SameRules.{stays, stays_on, same_session}
 use Rattle.round_steps.proofs.runs.coarse_rounds.Goals as goal
@@ -31,6 +31,12 @@ session-requires-clause-shifts g c = c.requires.begins.shifts_in
 
 pub session-requires-clause-used : goal.session-requires-clause-used
 session-requires-clause-used g c = subst (λ (signals : Signals). All (HasUsedShifts (fine_signals signals)) c.args.arcs.now) (sym c.rounds.invariant.rules.signals) c.requires.begins.used
+
+pub coarse_step-requires : goal.coarse_step-requires
+coarse_step-requires g c =
+    let rules : Rules = g.R.Rounds.rules c.args.rounds.now in
+    let is_session : IsSessionOf rules (coarse c.rounds.point c.args.arcs.now) c.in-Some.session = session_at rules (coarse c.rounds.point c.args.arcs.now) c.in_ok-session.field-0 c.in-Some.session c.in-Some.is (same_session rules (g.R.Rounds.rules c.rounds.rounds) c.rounds.invariant.rules (coarse c.rounds.point c.args.arcs.now) c.in_ok-session.field-0 c.in_ok-session.ensures.session) in
+    record { coarse = ap (λ (r : Round). r.scale) is_session.round_is }
 
 pub returns-in-Ok-None-clause-end : goal.returns-in-Ok-None-clause-end
 returns-in-Ok-None-clause-end g c =

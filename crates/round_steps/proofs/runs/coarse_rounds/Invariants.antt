@@ -1,13 +1,13 @@
 use Rattle.std.proofs.Common.{◌≡◌, ◌+◌, ◌-◌}
 use Rattle.obs_rows.specs.declared.units.TheConstants.{COARSE_SCALE}
-use Rattle.round_steps.specs.Runs.{StayTheSame, most_rounds}
+use Rattle.round_steps.specs.Runs.{AreSameRules, most_rounds}
 use Rattle.round_steps.proofs.RunLaws.{CoarseSoFar}
 use Rattle.round_steps.proofs.runs.coarse_rounds.Given as goal
 
 abbrev pub invariant-rounds : goal.invariant-rounds
 invariant-rounds g l = record {
   so_far : CoarseSoFar (g.R.Rounds.rules l.fn.rounds) l.point l.arcs l.made;
-  rules : StayTheSame (g.R.Rounds.rules l.fn.rounds) (g.R.Rounds.rules l.rounds);
+  rules : AreSameRules (g.R.Rounds.rules l.fn.rounds) (g.R.Rounds.rules l.rounds);
   ready : g.R.Rounds.ready l.rounds;
   sessions : g.R.Rounds.made l.rounds + 1 ≡ l.made;
 }

@@ -10,13 +10,13 @@ use Rattle.row_boxes.proofs.Ends.{ArePrefitEnds, prefit_ordered, prefit_narrow, 
 use Rattle.row_boxes.proofs.Boxes.{prefit_holds}
 use Rattle.row_boxes.proofs.prefits.prefit_of.Goals as goal
 
-lo_is : (c : goal.After-less-2) → to_z w128 (of_z w128 c.less.result) ≡ c.observed_box-held.result.lo -ℤ (c.args.rover.now.hi -ℤ c.args.base.now.lo)
+lo_is : (c : goal.After-less_computed-2) → to_z w128 (of_z w128 c.less_computed.result) ≡ c.observed_box-held.result.lo -ℤ (c.args.rover.now.hi -ℤ c.args.base.now.lo)
 lo_is c = grind (arith, to_z-of_z)
 
-hi_is : (c : goal.After-less-2) → to_z w128 (of_z w128 c.less-2.result) ≡ c.observed_box-held.result.hi -ℤ (c.args.rover.now.lo -ℤ c.args.base.now.hi)
+hi_is : (c : goal.After-less_computed-2) → to_z w128 (of_z w128 c.less_computed-2.result) ≡ c.observed_box-held.result.hi -ℤ (c.args.rover.now.lo -ℤ c.args.base.now.hi)
 hi_is c = grind (arith, to_z-of_z)
 
-are : (c : goal.After-less-2) → ArePrefitEnds c.observed_box-held.result.lo c.observed_box-held.result.hi c.args.base.now.lo c.args.base.now.hi c.args.rover.now.lo c.args.rover.now.hi
+are : (c : goal.After-less_computed-2) → ArePrefitEnds c.observed_box-held.result.lo c.observed_box-held.result.hi c.args.base.now.lo c.args.base.now.hi c.args.rover.now.lo c.args.rover.now.hi
 are c = record {
   held_ordered = c.observed_box-held.result.ordered;
   held_narrow = c.observed_box-held.result.narrow;
@@ -38,7 +38,7 @@ invariant_of-result c =
       hi_size = rw (hi_is c) (prefit_size (2 ^ 67) (2 ^ 68) observed_held.result.hi rover.lo base.hi (lit≤ tt) observed_held.ensures.hi_size rover.lo_size base.hi_size);
     }
 
-plain_amount : (c : goal.After-less-2) → to_z w64 (of_z w64 c.args.amount) ≡ c.args.amount
+plain_amount : (c : goal.After-less_computed-2) → to_z w64 (of_z w64 c.args.amount) ≡ c.args.amount
 plain_amount c = to_z-of_z w64 c.args.amount c.ranges.amount
 
 pub returns-clause-holds : goal.returns-clause-holds
@@ -49,7 +49,7 @@ returns-clause-holds c = λ b r i j.
     let held : InBox iota_exponent (observed_held.result.lo -ℤ (rover.hi -ℤ base.lo)) (observed_held.result.hi -ℤ (rover.lo -ℤ base.hi)) (observed c.args.signal c.args.amount -ʳ (r -ʳ b)) =
     prefit_holds observed_held.result.lo observed_held.result.hi base.lo base.hi rover.lo rover.hi (observed c.args.signal c.args.amount) b r
     (subst (λ (z : ℤ). InBox iota_exponent observed_held.result.lo observed_held.result.hi (observed c.args.signal z)) (plain_amount c.before) observed_held.ensures.holds) i j in
-    subst (λ (z : ℤ). InBox iota_exponent z (to_z w128 (of_z w128 c.less-2.result)) (observed c.args.signal c.args.amount -ʳ (r -ʳ b))) (sym (lo_is c.before))
+    subst (λ (z : ℤ). InBox iota_exponent z (to_z w128 (of_z w128 c.less_computed-2.result)) (observed c.args.signal c.args.amount -ʳ (r -ʳ b))) (sym (lo_is c.before))
     (subst (λ (z : ℤ). InBox iota_exponent (observed_held.result.lo -ℤ (rover.hi -ℤ base.lo)) z (observed c.args.signal c.args.amount -ʳ (r -ʳ b))) (sym (hi_is c.before)) held)
 
 pub returns-clause-code : goal.returns-clause-code

@@ -23,7 +23,7 @@ pub returns-clause-rows : goal.returns-clause-rows
 returns-clause-rows c =
     let setting = setting_from c.args.from.now c.args.scale in
     let finished = c.finish.result in
-    let entry_used = c.first_entry-first.result.sv.now in
+    let entry_used = c.first_seen_sat-first.result.sv.now in
     let chosen_group : ℤ = c.group_of-group.result in
     let plain : to_z w64 (of_z w64 chosen_group) ≡ chosen_group = to_z-of_z w64 chosen_group (record { sfits = c.group_of-group.type_inv }) in
     let group : finished.group ≡ chosen_group = c.finish.ensures.group ∙ c.in_ok-rows.ensures.group ∙ c.in_ok-empty.ensures.group ∙ plain in
@@ -35,21 +35,21 @@ returns-clause-rows c =
     record {
       number = c.finish.ensures.number ∙ c.in_ok-rows.ensures.number ∙ c.in_ok-empty.ensures.number;
       tag = record {
-        sat = c.first_entry-first.ensures.entry.arc.sat;
+        sat = c.first_seen_sat-first.ensures.entry.arc.sat;
         entry = entry_used;
-        entry_is = c.first_entry-first.ensures.entry.entry_is;
+        entry_is = c.first_seen_sat-first.ensures.entry.entry_is;
         tag_is =
             sym (c.finish.ensures.tag ∙ c.in_ok-rows.ensures.tag ∙ c.in_ok-empty.ensures.tag);
       };
       arcs = arcs;
       rows = rows;
       group = λ r e.
-          first_meets c.args.from.now.screened.now.used setting c.args.pair finished.group r entry_used c.args.from.now.screened.now.matched c.args.from.now.screened.now.ranges c.first_entry-first.ensures.entry
+          first_meets c.args.from.now.screened.now.used setting c.args.pair finished.group r entry_used c.args.from.now.screened.now.matched c.args.from.now.screened.now.ranges c.first_seen_sat-first.ensures.entry
           (ap (λ (xs : List ℕ). slice_get xs 0) (sym arcs) ∙ slice_get-map (λ (q : Row). q.arc) finished.rows 0 ∙ ap (λ (o : Option Row). option_map (λ (q : Row). q.arc) o) e)
-          (row_in (IsRow setting c.args.pair finished.group) finished.rows r rows e) (both_see c.first_entry-first.result c.args.from.now.base.now c.args.from.now.point.now c.first_entry-first.ensures.seen)
+          (row_in (IsRow setting c.args.pair finished.group) finished.rows r rows e) (both_see c.first_seen_sat-first.result c.args.from.now.base.now c.args.from.now.point.now c.first_seen_sat-first.ensures.seen)
           (subst (λ (k : ℤ). (b q : Sighting) → AreSightings (seen_by entry_used c.args.from.now.base.now c.args.from.now.point.now) b q
           → IsWithinHalf (pos 1) (y_of 2 (number_at entry_used.observed 2) k (pos 0) b q)) (sym group)
-          (c.group_of-group.ensures.near c.args.from.now.base.now c.args.from.now.point.now c.first_entry-first.ensures.seen));
+          (c.group_of-group.ensures.near c.args.from.now.base.now c.args.from.now.point.now c.first_seen_sat-first.ensures.seen));
     }
 
 pub returns-in_err-rows-clause-overwidth : goal.returns-in_err-rows-clause-overwidth
@@ -59,11 +59,11 @@ returns-in_err-rows-clause-overwidth c = λ e.
     let chosen_group : ℤ = c.group_of-group.result in
     let plain : to_z w64 (of_z w64 chosen_group) ≡ chosen_group = to_z-of_z w64 chosen_group (record { sfits = c.group_of-group.type_inv }) in
     let allowed : IsGroup setting c.args.pair chosen_group = record {
-      entry = c.first_entry-first.result.sv.now;
-      entry_is = c.first_entry-first.ensures.entry;
-      seen = both_see c.first_entry-first.result c.args.from.now.base.now c.args.from.now.point.now c.first_entry-first.ensures.seen;
+      entry = c.first_seen_sat-first.result.sv.now;
+      entry_is = c.first_seen_sat-first.ensures.entry;
+      seen = both_see c.first_seen_sat-first.result c.args.from.now.base.now c.args.from.now.point.now c.first_seen_sat-first.ensures.seen;
       allowed =
-          c.group_of-group.ensures.allowed c.args.from.now.base.now c.args.from.now.point.now c.first_entry-first.ensures.seen c.args.scale c.requires.scale;
+          c.group_of-group.ensures.allowed c.args.from.now.base.now c.args.from.now.point.now c.first_seen_sat-first.ensures.seen c.args.scale c.requires.scale;
     } in
     subst (λ (n : ℕ). HasFarRow setting n) c.in_ok-empty.ensures.number
     (c.in_err-rows.ensures.far (cc (answered.1, answered.2, e)) (subst₂ (λ (n : ℕ) (k : ℤ). IsGroup setting n k) (sym c.in_ok-empty.ensures.number) (sym (c.in_ok-empty.ensures.group ∙ plain)) allowed))

@@ -30,25 +30,25 @@ of_pair boxes arcs held place n k v e h all same =
     let is_held = held_read arcs n place held e h in
     (all (get_or held place 0) is_held.arc (slice_get-get_or held place 0 h) is_held.is).of_pair ∙ same
 
-pub held_entry-entry-requires-clause-held : goal.held_entry-entry-requires-clause-held
-held_entry-entry-requires-clause-held c = c.requires.held ∙ ap (λ (n : ℕ). arcs_at c.args.from.now.arcs.now n) (sym c.loop-place.invariant.0)
+pub held_sat-entry-requires-clause-held : goal.held_sat-entry-requires-clause-held
+held_sat-entry-requires-clause-held c = c.requires.held ∙ ap (λ (n : ℕ). arcs_at c.args.from.now.arcs.now n) (sym c.loop-place.invariant.0)
 
-pub held_entry-entry-requires-clause-first : goal.held_entry-entry-requires-clause-first
-held_entry-entry-requires-clause-first c =
+pub held_sat-entry-requires-clause-first : goal.held_sat-entry-requires-clause-first
+held_sat-entry-requires-clause-first c =
     subst (λ (n : ℕ). IsFirstEntry c.args.from.now.screened.now.boxes c.args.from.now.arcs.now n c.args.first.now.sv.now) (sym c.loop-place.invariant.0) c.requires.first
 
 pub row_at-requires-clause-number : goal.row_at-requires-clause-number
 row_at-requires-clause-number c =
-    let same_pair = of_pair c.args.from.now.screened.now.boxes c.args.from.now.arcs.now c.args.held.now c.loop-place.place c.args.rows.number c.loop-place.rows.number c.held_entry-entry.result.sv.now
-    c.requires.held c.loop-place-test.true c.held_entry-entry.ensures.entry c.loop-place.invariant.0 in
+    let same_pair = of_pair c.args.from.now.screened.now.boxes c.args.from.now.arcs.now c.args.held.now c.loop-place.place c.args.rows.number c.loop-place.rows.number c.held_sat-entry.result.sv.now
+    c.requires.held c.loop-place-test.true c.held_sat-entry.ensures.entry c.loop-place.invariant.0 in
     subst (λ (n : ℕ). IsHeld c.args.from.now.arcs.now n (get_or c.args.held.now c.loop-place.place 0)) (sym same_pair)
     (held_read c.args.from.now.arcs.now c.args.rows.number c.loop-place.place c.args.held.now c.requires.held c.loop-place-test.true)
 
 pub row_at-requires-clause-entry : goal.row_at-requires-clause-entry
 row_at-requires-clause-entry c = λ a is.
     let arc_number : ℕ = get_or c.args.held.now c.loop-place.place 0 in
-    let is_entry = c.held_entry-entry.ensures.entry arc_number a (slice_get-get_or c.args.held.now c.loop-place.place 0 c.loop-place-test.true) is in
-    subst (λ (n : ℕ). IsEntry c.args.from.now.screened.now.boxes n a.sat c.held_entry-entry.result.sv.now) (sym is_entry.of_pair) is_entry
+    let is_entry = c.held_sat-entry.ensures.entry arc_number a (slice_get-get_or c.args.held.now c.loop-place.place 0 c.loop-place-test.true) is in
+    subst (λ (n : ℕ). IsEntry c.args.from.now.screened.now.boxes n a.sat c.held_sat-entry.result.sv.now) (sym is_entry.of_pair) is_entry
 
 pub push-requires-clause-room : goal.push-requires-clause-room
 push-requires-clause-room c =
@@ -69,8 +69,8 @@ pub returns-in_err-row-clause-far : goal.returns-in_err-row-clause-far
 returns-in_err-row-clause-far c = λ _ g.
     let setting = setting_from c.args.from.now c.args.scale in
     let rows_so_far = c.loop-place.invariant in
-    let same_pair = of_pair c.args.from.now.screened.now.boxes c.args.from.now.arcs.now c.args.held.now c.loop-place.place c.args.rows.number c.loop-place.rows.number c.held_entry-entry.result.sv.now
-    c.requires.held c.loop-place-test.true c.held_entry-entry.ensures.entry rows_so_far.0 in
+    let same_pair = of_pair c.args.from.now.screened.now.boxes c.args.from.now.arcs.now c.args.held.now c.loop-place.place c.args.rows.number c.loop-place.rows.number c.held_sat-entry.result.sv.now
+    c.requires.held c.loop-place-test.true c.held_sat-entry.ensures.entry rows_so_far.0 in
     subst (λ (n : ℕ). HasFarRow setting n) same_pair
     (c.in_err-row.ensures.far (subst₂ (λ (n : ℕ) (k : ℤ). IsGroup setting n k) (sym same_pair) (sym (read_group c.loop-place.rows.group c.loop-place.rows.group_in ∙ rows_so_far.2)) g))
 
@@ -80,8 +80,8 @@ loop-place-preserved c =
     let rows_so_far = c.loop-place.invariant in
     let arc_number : ℕ = get_or c.args.held.now c.loop-place.place 0 in
     let arc_at_place : slice_get c.args.held.now c.loop-place.place ≡ Some arc_number = slice_get-get_or c.args.held.now c.loop-place.place 0 c.loop-place-test.true in
-    let same_pair = of_pair c.args.from.now.screened.now.boxes c.args.from.now.arcs.now c.args.held.now c.loop-place.place c.args.rows.number c.loop-place.rows.number c.held_entry-entry.result.sv.now
-    c.requires.held c.loop-place-test.true c.held_entry-entry.ensures.entry rows_so_far.0 in
+    let same_pair = of_pair c.args.from.now.screened.now.boxes c.args.from.now.arcs.now c.args.held.now c.loop-place.place c.args.rows.number c.loop-place.rows.number c.held_sat-entry.result.sv.now
+    c.requires.held c.loop-place-test.true c.held_sat-entry.ensures.entry rows_so_far.0 in
     let row : IsRow setting c.args.rows.number c.args.rows.group c.in_ok-row.row = subst₂ (λ (n : ℕ) (k : ℤ). IsRow setting n k c.in_ok-row.row) same_pair
     (read_group c.loop-place.rows.group c.loop-place.rows.group_in ∙ rows_so_far.2) c.in_ok-row.ensures.row in (
       c.push.ensures.number ∙ rows_so_far.0,

@@ -16,23 +16,23 @@ use Rattle.row_build.proofs.shifts.first_shifts.Goals as goal
 
 pub returns-clause-near : goal.returns-clause-near
 returns-clause-near c =
-    let first_used = c.first_entry-first.result.sv.now in
-    let entry_used = c.entry_of-entry.result.sv.now in
+    let first_used = c.first_seen_sat-first.result.sv.now in
+    let entry_used = c.seen_sat_of-entry.result.sv.now in
     let chosen_group : ℤ = c.group_of-group.result in
     record {
       first = first_used;
-      first_is = c.first_entry-first.ensures.entry;
-      first_seen = both_see c.first_entry-first.result c.args.from.now.base.now c.args.from.now.point.now c.first_entry-first.ensures.seen;
+      first_is = c.first_seen_sat-first.ensures.entry;
+      first_seen = both_see c.first_seen_sat-first.result c.args.from.now.base.now c.args.from.now.point.now c.first_seen_sat-first.ensures.seen;
       entry = entry_used;
-      entry_is = c.entry_of-entry.ensures.entry;
-      seen = both_see c.entry_of-entry.result c.args.from.now.base.now c.args.from.now.point.now c.entry_of-entry.ensures.seen;
+      entry_is = c.seen_sat_of-entry.ensures.entry;
+      seen = both_see c.seen_sat_of-entry.result c.args.from.now.base.now c.args.from.now.point.now c.seen_sat_of-entry.ensures.seen;
       within = λ group a s h phase among b r q.
           shift_within s (number_at entry_used.observed s) chosen_group group (number_at c.shifts_of.result (band s)) b r (long_cycle s h phase)
           (row_close (seen_by first_used c.args.from.now.base.now c.args.from.now.point.now) (number_at first_used.observed 2) chosen_group group a
-          (both_see c.first_entry-first.result c.args.from.now.base.now c.args.from.now.point.now c.first_entry-first.ensures.seen)
-          (c.group_of-group.ensures.near c.args.from.now.base.now c.args.from.now.point.now c.first_entry-first.ensures.seen))
+          (both_see c.first_seen_sat-first.result c.args.from.now.base.now c.args.from.now.point.now c.first_seen_sat-first.ensures.seen)
+          (c.group_of-group.ensures.near c.args.from.now.base.now c.args.from.now.point.now c.first_seen_sat-first.ensures.seen))
           (subst (λ (m : ℤ). IsWithinHalf (wavelength s) (y_of s (number_at entry_used.observed s) m (number_at c.shifts_of.result (band s)) b r))
-          (to_z-of_z w64 chosen_group (record { sfits = c.group_of-group.type_inv })) (c.shifts_of.ensures.near c.args.from.now.base.now c.args.from.now.point.now c.entry_of-entry.ensures.seen s h phase
+          (to_z-of_z w64 chosen_group (record { sfits = c.group_of-group.type_inv })) (c.shifts_of.ensures.near c.args.from.now.base.now c.args.from.now.point.now c.seen_sat_of-entry.ensures.seen s h phase
           (subst (λ (ss : List ℕ). IsTrue (counts ss s)) (sym c.fine_signals.ensures.value) among) b r q));
       unused = subst (λ (ss : List ℕ). IsZeroOff (phase_bands ss) c.shifts_of.result) c.fine_signals.ensures.value c.shifts_of.ensures.unused;
     }

@@ -4,7 +4,7 @@ use Rattle.std.proofs.lemmas.Option.{get_or_from_slice_get}
 use Rattle.screening.specs.declared.sv_pair.SvPair.{SvPair}
 use Rattle.row_boxes.specs.declared.sights.Sight.{Sight}
 use Rattle.row_build.specs.Sights.{IsRoverSight, AreRoverSights}
-use Rattle.row_build.proofs.HalfLaws.{sights_pushed, length_pushed}
+use Rattle.row_build.proofs.BasePseudorangeLaws.{sights_pushed, length_pushed}
 use Rattle.row_build.proofs.sights.sights_of.Goals as goal
 
 pub loop-place-preserved : goal.loop-place-preserved

@@ -10,4 +10,4 @@ returns c =
 pub first_shifts-requires-clause-ready : goal.first_shifts-requires-clause-ready
 first_shifts-requires-clause-ready c =
     let files = c.args.files.now in
-    (c.requires.cut, (files.arcs_in, files.base_in), (c.requires.halves, files.system_in), c.none.ensures files.rounds.screened.boxes)
+    (c.requires.cut, (files.arcs_in, files.base_in), (c.requires.base_pseudoranges, files.system_in), c.none.ensures files.rounds.screened.boxes)

@@ -16,8 +16,8 @@ use Rattle.session.proofs.RangeLaws.{able, no_shifts, none_unused}
 use Rattle.session.proofs.FewArcs.{kept_few}
 use Rattle.session.proofs.runs.finish_run.Goals as goal
 
-pub outcome-requires-clause-ready : goal.outcome-requires-clause-ready
-outcome-requires-clause-ready c = λ on.
+pub outcome_of_rounds-requires-clause-ready : goal.outcome_of_rounds-requires-clause-ready
+outcome_of_rounds-requires-clause-ready c = λ on.
     let rounds = c.args.run.now.rounds in
     let is_screened = c.requires.is in (
       is_screened.cut,
@@ -25,18 +25,18 @@ outcome-requires-clause-ready c = λ on.
         able rounds.screened.used rounds.kept (length c.args.run.now.begun.taken.items) is_screened.cut rounds.screened.few rounds.screened.numbered (no_shifts rounds.kept is_screened.screened.arcs_are.shifts) on.not_few on.not_many,
         subst IsReceiverPoint (sym is_screened.screened.position_is) is_screened.position_is.in_reach,
       ),
-      (is_screened.halves, subst IsSystem (sym is_screened.screened.system_is) c.args.options.now.of_system),
+      (is_screened.base_pseudoranges, subst IsSystem (sym is_screened.screened.system_is) c.args.options.now.of_system),
       c.none.ensures rounds.screened.boxes,
     )
 
 few_kept : (f : FileRounds) → IsCutOf f.screened.used f.kept → length f.kept ≤ MOST_KEPT_ARCS
 few_kept f cut = kept_few f.screened.used f.kept cut f.screened.ranges f.screened.numbered f.screened.few
 
-pub outcome-requires-clause-few_arcs : goal.outcome-requires-clause-few_arcs
-outcome-requires-clause-few_arcs c = subst (λ (l : List Arc). length l ≤ MOST_KEPT_ARCS) (sym c.as_slice-kept.ensures) (few_kept c.args.run.now.rounds c.requires.is.cut)
+pub outcome_of_rounds-requires-clause-few_arcs : goal.outcome_of_rounds-requires-clause-few_arcs
+outcome_of_rounds-requires-clause-few_arcs c = subst (λ (l : List Arc). length l ≤ MOST_KEPT_ARCS) (sym c.as_slice-kept.ensures) (few_kept c.args.run.now.rounds c.requires.is.cut)
 
-pub outcome-requires-clause-begins : goal.outcome-requires-clause-begins
-outcome-requires-clause-begins c =
+pub outcome_of_rounds-requires-clause-begins : goal.outcome_of_rounds-requires-clause-begins
+outcome_of_rounds-requires-clause-begins c =
     let rounds = c.args.run.now.rounds in
     let is_screened = c.requires.is in
     let none_shifted = is_screened.screened.arcs_are.shifts in
@@ -49,8 +49,8 @@ outcome-requires-clause-begins c =
       used = subst (All (HasUsedShifts (fine_signals rounds.signals))) (sym c.as_slice-kept.ensures) (none_unused (fine_signals rounds.signals) rounds.kept none_shifted);
     }
 
-pub outcome-requires-clause-few : goal.outcome-requires-clause-few
-outcome-requires-clause-few c = c.requires.is.few
+pub outcome_of_rounds-requires-clause-few : goal.outcome_of_rounds-requires-clause-few
+outcome_of_rounds-requires-clause-few c = c.requires.is.few
 
 pub returns-clause-outcome : goal.returns-clause-outcome
 returns-clause-outcome c = λ base rover nav is.

@@ -11,7 +11,7 @@ returns-clause-start c = record {
   all_is = c.in_ok-begun.ensures.all;
   screened = c.in_ok-rounds.ensures.screened;
   cut = c.in_ok-rounds.ensures.cut;
-  halves = c.in_ok-rounds.ensures.halves;
+  base_pseudoranges = c.in_ok-rounds.ensures.base_pseudoranges;
   delta_is = c.have_delta-delta.ensures;
 }
 

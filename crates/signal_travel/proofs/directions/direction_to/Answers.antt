@@ -1,5 +1,5 @@
 use Rattle.std.proofs.Common.{◌^◌, pos}
-use Rattle.orbit_model.specs.SeenPlaces.{Place, difference, square, point_of}
+use Rattle.orbit_model.specs.SeenPlaces.{Position, difference, square, point_of}
 use Rattle.orbit_model.proofs.Changes.{range_change}
 use Rattle.signal_travel.proofs.MeanDirections.{seen_square, seen_between, far_enough, near_enough, move_x, move_y, move_z, wider}
 use Rattle.signal_travel.proofs.directions.direction_to.Goals as goal
@@ -21,8 +21,8 @@ coordinate_spread-requires-3-clause-low c = wider c.length_by-range.result.lo c.
 
 pub returns : goal.returns
 returns c = λ place move direction h m d.
-    let receiver : Place = point_of c.args.point.now.x c.args.point.now.y c.args.point.now.z in
-    let offset : Place = difference place receiver in
+    let receiver : Position = point_of c.args.point.now.x c.args.point.now.y c.args.point.now.z in
+    let offset : Position = difference place receiver in
     let holds_vector = c.vector_from-vector.ensures.holds place h in
     let range_in_box = c.length_by-range.ensures.holds offset d.before holds_vector d.before_is in
     let square_between = seen_square c.args.seen.now.place c.args.point.now place c.args.seen.now.away h in

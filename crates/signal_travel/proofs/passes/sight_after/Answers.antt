@@ -1,6 +1,6 @@
 use Rattle.std.proofs.Common.{◌-◌, ◌*◌, ◌^◌, ℤ, pos, ◌+ℤ◌, ◌-ℤ◌, ◌*ℤ◌, ◌≤ℤ◌, arith}
 use Rattle.std.proofs.lemmas.Int.{ints}
-use Rattle.orbit_model.specs.SeenPlaces.{Place, square, difference, point_of, turned_back, range_of}
+use Rattle.orbit_model.specs.SeenPlaces.{Position, square, difference, point_of, turned_back, range_of}
 use Rattle.orbit_model.proofs.NearRoots.{range_root}
 use Rattle.whole_math.proofs.Order.{diff_nn}
 use Rattle.signal_travel.specs.VectorBoxes.{IsVectorAtMostWide}
@@ -33,13 +33,13 @@ returns-clause-place c = λ p seen t h k s.
 
 pub returns-clause-range : goal.returns-clause-range
 returns-clause-range c = λ p seen t h k s.
-    let receiver : Place = point_of c.args.point.now.x c.args.point.now.y c.args.point.now.z in
+    let receiver : Position = point_of c.args.point.now.x c.args.point.now.y c.args.point.now.z in
     c.length_by-range.ensures.holds (difference seen receiver) (range_of t) (c.vector_from-vector.ensures.holds seen (returns-clause-place c p seen t h k s))
     (range_root t (square (difference seen receiver)) s.travel_is)
 
 pub returns-clause-light : goal.returns-clause-light
 returns-clause-light c = λ p seen u t h k s.
-    let receiver : Place = point_of c.args.point.now.x c.args.point.now.y c.args.point.now.z in
+    let receiver : Position = point_of c.args.point.now.x c.args.point.now.y c.args.point.now.z in
     let held = held_along c.turned_box-place.result seen (turned_back s.turn p) s.seen_is
     (c.turned_box-place.ensures.holds p s.turn h (c.turn_in-turn.ensures.holds u s.turn.cos s.turn.sin k s.turn_is)) in
     c.time_over-travel.ensures.holds t (c.length_by-range.ensures.holds (difference seen receiver) (range_of t) (c.vector_from-vector.ensures.holds seen held)

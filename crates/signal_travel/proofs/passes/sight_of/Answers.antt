@@ -3,7 +3,7 @@ use Rattle.std.proofs.lemmas.Int.{ints, to_z-of_z}
 use Rattle.std.specs.Int.{w64}
 use Rattle.whole_math.specs.Rational.{Rational}
 use Rattle.iv_core.specs.Intervals.{Holds}
-use Rattle.orbit_model.specs.SeenPlaces.{Place, point_of, IsSeenPlace}
+use Rattle.orbit_model.specs.SeenPlaces.{Position, point_of, IsSeenPlace}
 use Rattle.signal_travel.specs.VectorBoxes.{HoldsVector}
 use Rattle.signal_travel.proofs.SeenAfterLaws.{all_around, around_width}
 use Rattle.signal_travel.proofs.Times.{last_place, last_range, last_time}
@@ -35,7 +35,7 @@ is_settled-requires-clause-low c =
     started guess.result (to_z w64 (of_z w64 guess.result)) (to_z-of_z w64 guess.result (record { sfits = guess.type_inv })) guess.ensures.low
 
 -- where the pass led near the time, the times around it are all
-all_near : (c : goal.Then-is_settled) (p seen : Place) (t : Rational) → HoldsVector c.args.sent.now.place p
+all_near : (c : goal.Then-is_settled) (p seen : Position) (t : Rational) → HoldsVector c.args.sent.now.place p
     → IsSeenPlace p (point_of c.args.point.now.x c.args.point.now.y c.args.point.now.z) t seen → Holds c.times_around.result t
 all_near c =
     let guess = c.time_near-time in

@@ -1,7 +1,7 @@
 use Rattle.std.proofs.Common.{◌≡◌, ◌*◌, ℤ, pos, ◌+ℤ◌, ◌-ℤ◌, ◌*ℤ◌, ◌≤ℤ◌, arith}
 use Rattle.std.proofs.lemmas.Int.{ints}
 use Rattle.whole_math.specs.Rational.{Rational, ◌≤ʳ◌, of_whole, ◌*ʳ◌, InBox}
-use Rattle.orbit_model.specs.SeenPlaces.{Place, point_of}
+use Rattle.orbit_model.specs.SeenPlaces.{Position, point_of}
 use Rattle.orbit_model.proofs.Seen.{travel_nn, travel_most}
 use Rattle.signal_travel.proofs.Sights.{point_place}
 use Rattle.signal_travel.proofs.Times.{first_time, second_time, third_time}
@@ -20,7 +20,7 @@ any l h t el eh a b = go l h t.num (pos t.den) el eh a b
 
 pub returns-clause-holds : goal.returns-clause-holds
 returns-clause-holds c = λ p seen t h s.
-    let receiver : Place = point_of c.args.point.now.x c.args.point.now.y c.args.point.now.z in
+    let receiver : Position = point_of c.args.point.now.x c.args.point.now.y c.args.point.now.z in
     let sent = c.args.sent.now.away p.x p.y p.z h.0 h.1 h.2 in
     let zero = any c.any_travel.result.lo c.any_travel.result.hi t c.any_travel.ensures.lo c.any_travel.ensures.hi (travel_nn p receiver seen t s)
     (travel_most p receiver seen t sent (point_place c.args.point.now) s) in

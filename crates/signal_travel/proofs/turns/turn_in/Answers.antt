@@ -37,18 +37,18 @@ under p h = omega (arith, ints)
 pub padded-requires-2-clause-high : goal.padded-requires-2-clause-high
 padded-requires-2-clause-high c = subst (λ (p : ℤ). p ≤ℤ pos (2 ^ 46)) (sym (plain_pad c)) (under c.pad_for-pad.result (small c))
 
-is_turn : (c : goal.After-padded-arg-2-1) → IsTurn c.args.travel.now.lo c.args.travel.now.hi c.middle_of-middle.result c.angle_in-angle.result
+is_turn : (c : goal.After-padded-arg-2-1) → IsTurn c.args.travel.now.lo c.args.travel.now.hi c.middle_of-middle.result c.earth_turn_in-angle.result
     c.pad_for-pad.result c.pairs_of-pair.result.cos.lo c.pairs_of-pair.result.cos.hi c.pairs_of-pair.result.sin.lo c.pairs_of-pair.result.sin.hi
 is_turn c = record {
   middle_high = c.middle_of-middle.ensures.high;
   below = c.middle_of-middle.ensures.below;
-  angle = c.angle_in-angle.ensures.value ∙ ap (λ (m : ℤ). floor_div (pos 72921151467 *ℤ m) 16000000000000000)
+  angle = c.earth_turn_in-angle.ensures.value ∙ ap (λ (m : ℤ). floor_div (pos 72921151467 *ℤ m) 16000000000000000)
       (to_z-of_z w64 c.middle_of-middle.result (record { sfits = c.middle_of-middle.type_inv }));
-  angle_low = c.angle_in-angle.ensures.low;
-  angle_high = c.angle_in-angle.ensures.high;
+  angle_low = c.earth_turn_in-angle.ensures.low;
+  angle_high = c.earth_turn_in-angle.ensures.high;
   least = subst (λ (d : ℤ). (d +ℤ pos 135168) ≤ℤ (pos 4096 *ℤ c.pad_for-pad.result)) (radius c) c.pad_for-pad.ensures.least;
   pairs = subst (λ (a : ℤ). (x y : Rational) → IsAnglePair 5 (of_scale 56 a) x y → HoldsPair c.pairs_of-pair.result x y)
-      (to_z-of_z w64 c.angle_in-angle.result (record { sfits = c.angle_in-angle.type_inv })) c.pairs_of-pair.ensures.holds;
+      (to_z-of_z w64 c.earth_turn_in-angle.result (record { sfits = c.earth_turn_in-angle.type_inv })) c.pairs_of-pair.ensures.holds;
 }
 
 pub returns-clause-holds : goal.returns-clause-holds

@@ -15,22 +15,22 @@ taken a b c d h k i j = (omega (arith, ints), omega (arith, ints))
 
 pub sum_of-requires : goal.sum_of-requires
 sum_of-requires c =
-    let cosine_product = c.cos_part in
-    let sine_product = c.sin_part in
+    let cosine_product = c.cosine_times in
+    let sine_product = c.sine_times in
     let sum_within = added cosine_product.result.lo cosine_product.result.hi sine_product.result.lo sine_product.result.hi cosine_product.ensures.size.0 cosine_product.ensures.size.1 sine_product.ensures.size.0 sine_product.ensures.size.1 in
     (omega arith, reached _ _ 2618212063641600000 (lit≤ tt) sum_within.0 sum_within.1)
 
 pub difference_of-requires : goal.difference_of-requires
 difference_of-requires c =
-    let cosine_product = c.cos_part-2 in
-    let sine_product = c.sin_part-2 in
+    let cosine_product = c.cosine_times-2 in
+    let sine_product = c.sine_times-2 in
     let difference_within = taken cosine_product.result.lo cosine_product.result.hi sine_product.result.lo sine_product.result.hi cosine_product.ensures.size.0 cosine_product.ensures.size.1 sine_product.ensures.size.0 sine_product.ensures.size.1 in
     (omega arith, reached _ _ 2618212063641600000 (lit≤ tt) difference_within.0 difference_within.1)
 
 pub returns-clause-holds : goal.returns-clause-holds
 returns-clause-holds c = λ p pair h k. (
-  c.sum_of.ensures.holds (pair.cos *ʳ p.x) (pair.sin *ʳ p.y) (c.cos_part.ensures.holds pair.cos p.x k.0 h.0) (c.sin_part.ensures.holds pair.sin p.y k.1 h.1),
-  c.difference_of.ensures.holds (pair.cos *ʳ p.y) (pair.sin *ʳ p.x) (c.cos_part-2.ensures.holds pair.cos p.y k.0 h.1) (c.sin_part-2.ensures.holds pair.sin p.x k.1 h.0),
+  c.sum_of.ensures.holds (pair.cos *ʳ p.x) (pair.sin *ʳ p.y) (c.cosine_times.ensures.holds pair.cos p.x k.0 h.0) (c.sine_times.ensures.holds pair.sin p.y k.1 h.1),
+  c.difference_of.ensures.holds (pair.cos *ʳ p.y) (pair.sin *ʳ p.x) (c.cosine_times-2.ensures.holds pair.cos p.y k.0 h.1) (c.sine_times-2.ensures.holds pair.sin p.x k.1 h.0),
   h.2,
 )
 
@@ -39,11 +39,11 @@ loose a b h k = (omega (arith, ints), omega (arith, ints))
 
 pub returns-clause-size : goal.returns-clause-size
 returns-clause-size c =
-    let first_cosine_product = c.cos_part in
-    let first_sine_product = c.sin_part in
+    let first_cosine_product = c.cosine_times in
+    let first_sine_product = c.sine_times in
     let sum_within = added first_cosine_product.result.lo first_cosine_product.result.hi first_sine_product.result.lo first_sine_product.result.hi first_cosine_product.ensures.size.0 first_cosine_product.ensures.size.1 first_sine_product.ensures.size.0 first_sine_product.ensures.size.1 in
-    let second_cosine_product = c.cos_part-2 in
-    let second_sine_product = c.sin_part-2 in
+    let second_cosine_product = c.cosine_times-2 in
+    let second_sine_product = c.sine_times-2 in
     let difference_within = taken second_cosine_product.result.lo second_cosine_product.result.hi second_sine_product.result.lo second_sine_product.result.hi second_cosine_product.ensures.size.0 second_cosine_product.ensures.size.1 second_sine_product.ensures.size.0 second_sine_product.ensures.size.1 in
     let sum_stands = c.sum_of.ensures in
     let difference_stands = c.difference_of.ensures in
@@ -61,10 +61,10 @@ pub returns-clause-width : goal.returns-clause-width
 returns-clause-width c = λ w v h k.
     let turn = c.args.turn.now in
     let sent = c.args.sent.now in (
-      wide (size c.cos_part.result) (size c.sin_part.result) (size c.sum_of.result) (turn.cos.hi -ℤ turn.cos.lo) (turn.sin.hi -ℤ turn.sin.lo) w v
-          c.cos_part.ensures.width c.sin_part.ensures.width c.sum_of.ensures.width h.0 h.1 k,
-      wide (size c.cos_part-2.result) (size c.sin_part-2.result) (size c.difference_of.result) (turn.cos.hi -ℤ turn.cos.lo) (turn.sin.hi -ℤ turn.sin.lo) w
-          v c.cos_part-2.ensures.width c.sin_part-2.ensures.width c.difference_of.ensures.width h.0 h.1 k,
+      wide (size c.cosine_times.result) (size c.sine_times.result) (size c.sum_of.result) (turn.cos.hi -ℤ turn.cos.lo) (turn.sin.hi -ℤ turn.sin.lo) w v
+          c.cosine_times.ensures.width c.sine_times.ensures.width c.sum_of.ensures.width h.0 h.1 k,
+      wide (size c.cosine_times-2.result) (size c.sine_times-2.result) (size c.difference_of.result) (turn.cos.hi -ℤ turn.cos.lo) (turn.sin.hi -ℤ turn.sin.lo) w
+          v c.cosine_times-2.ensures.width c.sine_times-2.ensures.width c.difference_of.ensures.width h.0 h.1 k,
       same_wide (sent.place.z.hi -ℤ sent.place.z.lo) turn.cos.lo turn.cos.hi w v sent.narrow.2 turn.cos.ordered h.0 k,
     )
   where

@@ -3,7 +3,7 @@ use Rattle.std.proofs.Common.{sym, subst, arith}
 use Rattle.std.proofs.lemmas.Int.{ints}
 use Rattle.iv_core.specs.declared.Iv.{Iv}
 use Rattle.iv_core.specs.Intervals.{Holds}
-use Rattle.sv_orbit.specs.ClockTerms.{part}
+use Rattle.sv_orbit.specs.ClockTerms.{per_ten_thousand}
 use Rattle.eph_store.specs.Decimals.{value_of}
 use Rattle.sv_orbit.proofs.record.orbit_of.Goals as goal
 
@@ -21,7 +21,7 @@ returns c = λ sent world q n t.
       eccentricity = made.eccentricity_in;
       anomaly = c.eccentric_pair.ensures.holds q.mean (value_of made.clock.eph.ecc) q.eccentric q.eccentric_pair t.mean made.clock.eccentricity_in solves.kepler;
       axis = made.axis_in q.axis solves.semi_major_axis;
-      epoch_time = subst (λ (b : Iv 60). Holds b (part q.tk)) (sym c.loose.ensures) t.epoch_time;
+      epoch_time = subst (λ (b : Iv 60). Holds b (per_ten_thousand q.tk)) (sym c.loose.ensures) t.epoch_time;
       perigee = made.perigee_in;
       inclination = made.inclination_in;
       node = made.node_in;

@@ -1,5 +1,5 @@
-use Rattle.sv_orbit.specs.ClockTerms.{part}
+use Rattle.sv_orbit.specs.ClockTerms.{per_ten_thousand}
 use Rattle.sv_orbit.proofs.timing.time_at.Goals as goal
 
 pub returns : goal.returns
-returns g c = λ s x hs hx. c.sub.ensures.holds s (part x) hs (c.share_of-share.ensures x hx)
+returns g c = λ s x hs hx. c.sub.ensures.holds s (per_ten_thousand x) hs (c.per_ten_thousand-scaled.ensures x hx)

@@ -20,8 +20,8 @@ sum_word x y h g = as_w128 x (wider (unsigned_abs x) (unsigned_abs y) h g)
     wider : (a b : ℕ) → a ≤ b + 2 ^ 64 → b ≤ MOST_PAIRS * 2 ^ 64 → a ≤ 2 ^ 126
     wider a b h g = omega arith
 
-pub plus-sum-requires-clause-sum_size : goal.plus-sum-requires-clause-sum_size
-plus-sum-requires-clause-sum_size c =
+pub with_part-sum-requires-clause-sum_size : goal.with_part-sum-requires-clause-sum_size
+with_part-sum-requires-clause-sum_size c =
     let old : ℤ = entry c.args.table.now (3 + c.args.r) (3 + c.args.c) in
     subst (λ (z : ℤ). unsigned_abs z ≤ MOST_PAIRS * 2 ^ 64) (sym (read c.at-old.result old c.at-old.ensures.value c.requires.size)) c.requires.size
 
@@ -29,13 +29,13 @@ pub returns-clause-there : goal.returns-clause-there
 returns-clause-there c =
     let old : ℤ = entry c.args.table.now (3 + c.args.r) (3 + c.args.c) in
     let first : to_z w128 (of_z w128 c.at-old.result) ≡ old = read c.at-old.result old c.at-old.ensures.value c.requires.size in
-    let small : unsigned_abs c.plus-sum.result ≤ unsigned_abs old + 2 ^ 64 = subst (λ (z : ℤ). unsigned_abs c.plus-sum.result ≤ unsigned_abs z + 2 ^ 64) first c.plus-sum.ensures.size in
-    c.set.ensures.there ∙ sum_word c.plus-sum.result old small c.requires.size ∙ c.plus-sum.ensures.value
+    let small : unsigned_abs c.with_part-sum.result ≤ unsigned_abs old + 2 ^ 64 = subst (λ (z : ℤ). unsigned_abs c.with_part-sum.result ≤ unsigned_abs z + 2 ^ 64) first c.with_part-sum.ensures.size in
+    c.set.ensures.there ∙ sum_word c.with_part-sum.result old small c.requires.size ∙ c.with_part-sum.ensures.value
     ∙ ap₂ (λ x y. x +ℤ y) first (to_z-of_z w128 c.args.part c.ranges.part)
 
 pub returns-clause-size : goal.returns-clause-size
 returns-clause-size c =
     let old : ℤ = entry c.args.table.now (3 + c.args.r) (3 + c.args.c) in
     let first : to_z w128 (of_z w128 c.at-old.result) ≡ old = read c.at-old.result old c.at-old.ensures.value c.requires.size in
-    let small : unsigned_abs c.plus-sum.result ≤ unsigned_abs old + 2 ^ 64 = subst (λ (z : ℤ). unsigned_abs c.plus-sum.result ≤ unsigned_abs z + 2 ^ 64) first c.plus-sum.ensures.size in
-    subst (λ (z : ℤ). unsigned_abs z ≤ unsigned_abs old + 2 ^ 64) (sym (c.set.ensures.there ∙ sum_word c.plus-sum.result old small c.requires.size)) small
+    let small : unsigned_abs c.with_part-sum.result ≤ unsigned_abs old + 2 ^ 64 = subst (λ (z : ℤ). unsigned_abs c.with_part-sum.result ≤ unsigned_abs z + 2 ^ 64) first c.with_part-sum.ensures.size in
+    subst (λ (z : ℤ). unsigned_abs z ≤ unsigned_abs old + 2 ^ 64) (sym (c.set.ensures.there ∙ sum_word c.with_part-sum.result old small c.requires.size)) small

@@ -5,7 +5,7 @@ use Rattle.session.proofs.CutLaws.{cut_along}
 use Rattle.track_rows.specs.PairRules.{rows_setting, setting_of}
 use Rattle.track_rows.proofs.KeptArcs.{some_held}
 use Rattle.track_rows.proofs.PairSessions.{is_there}
-use Rattle.row_build.proofs.HalfLaws.{no_sights}
+use Rattle.row_build.proofs.BasePseudorangeLaws.{no_sights}
 use Rattle.track_rows.proofs.rows.rows_of.Goals as goal
 
 pub unwrap-requires : goal.unwrap-requires
@@ -30,6 +30,6 @@ invariant_of-from c =
       few = may.arcs_are.few;
       base_in = ready.position_in;
       point_in = c.requires.point;
-      halves_hold = ∣ ready.halves ∣₁;
+      base_pseudoranges_hold = ∣ ready.base_pseudoranges ∣₁;
       sights_hold = no_sights c.args.files.now.screened.now.boxes c.args.point.now;
     }

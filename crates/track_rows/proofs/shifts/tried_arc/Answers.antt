@@ -5,7 +5,7 @@ use Rattle.obs_rows.specs.declared.arcs.Arc.{Arc}
 use Rattle.track_rows.specs.PairRules.{TrackSetting, setting_of}
 use Rattle.track_rows.specs.Trials.{IsTriedArc, flagged}
 use Rattle.track_rows.proofs.TriedArcs.{begun_arc, other_arc, taken_arc, below_more}
-use Rattle.row_build.proofs.HalfLaws.{no_sights}
+use Rattle.row_build.proofs.BasePseudorangeLaws.{no_sights}
 use Rattle.track_rows.proofs.shifts.tried_arc.Goals as goal
 
 pub returns-then-begun-k-clause-tried : goal.returns-then-begun-k-clause-tried
@@ -56,6 +56,6 @@ invariant_of-from c =
       few = ready.arcs.few;
       base_in = ready.position_in;
       point_in = c.requires.point;
-      halves_hold = ∣ ready.halves ∣₁;
+      base_pseudoranges_hold = ∣ ready.base_pseudoranges ∣₁;
       sights_hold = no_sights c.args.files.now.screened.now.boxes c.args.point.now;
     }

@@ -7,7 +7,7 @@ use Rattle.obs_rows.specs.Pairs.{ArePairs}
 use Rattle.obs_rows.specs.Ranges.{IsPoint}
 use Rattle.obs_rows.specs.Signals.{fine_signals}
 use Rattle.obs_rows.specs.Unused.{HasUsedRows, HasUsedShifts}
-use Rattle.row_build.specs.Halves.{AreBaseHalves}
+use Rattle.row_build.specs.BasePseudoranges.{AreBasePseudoranges}
 use Rattle.obs_rows.proofs.ReceiverPointLaws.{receiver_is_point}
 use Rattle.track_rows.specs.Tracks.{unshifted}
 use Rattle.track_rows.proofs.Ends.{kept_unshifted, kept_cut, kept_arcs, walked_pairs, track_same}
@@ -22,7 +22,7 @@ walked-requires c =
       arcs = kept_arcs c.args.arcs.now c.as_slice.result.now kept_are c.requires.arcs;
       unshifted = kept_unshifted c.args.arcs.now c.as_slice.result.now kept_are;
       position_in = c.requires.base;
-      halves = subst (λ (halves : List Pseudorange). AreBaseHalves screened.boxes c.args.base.now halves) (sym c.as_slice-2.ensures.value) c.in_ok-halves.ensures.halves;
+      base_pseudoranges = subst (λ (base_pseudoranges : List Pseudorange). AreBasePseudoranges screened.boxes c.args.base.now base_pseudoranges) (sym c.as_slice-2.ensures.value) c.in_ok-base_pseudoranges.ensures.base_pseudoranges;
       system_is = c.requires.system;
     }
 

@@ -4,7 +4,7 @@ use Rattle.std.proofs.lemmas.Result.{err_from_is_err_and}
 use Rattle.rinex_head.proofs.LineRuleLaws.{handed_on}
 use Rattle.cert_lines.proofs.TailLaws.{word126}
 use Rattle.track_text.specs.Rules.{numbers_of, before_moves, Second, Values, Last, End}
-use Rattle.track_text.proofs.LineLaws.{second_taken, values_taken, last_taken}
+use Rattle.track_text.proofs.LineLaws.{second_taken, values_taken, decision_taken}
 use Rattle.track_text.proofs.TailLaws.{vectors_told, vectors_whole, vectors_took}
 use Rattle.track_text.proofs.tail.read_vectors.Goals as goal
 
@@ -39,7 +39,7 @@ returns-in_err-fixed-clause-reads c =
     rw (is_error.1, is_error.2) (c.in_ok-second.ensures.reads (Second count numbers) (λ z. before_moves numbers) (second_taken count numbers)
     ∙ c.in_ok-moves.ensures.reads
     ∙ c.in_ok-values.ensures.reads Values (λ v. Last) values_taken
-    ∙ c.in_err-fixed.ensures.reads Last (λ f. End) last_taken)
+    ∙ c.in_err-fixed.ensures.reads Last (λ f. End) decision_taken)
 
 pub returns-clause-reads : goal.returns-clause-reads
 returns-clause-reads c =
@@ -48,7 +48,7 @@ returns-clause-reads c =
     c.in_ok-second.ensures.reads (Second count numbers) (λ z. before_moves numbers) (second_taken count numbers)
     ∙ c.in_ok-moves.ensures.reads
     ∙ c.in_ok-values.ensures.reads Values (λ v. Last) values_taken
-    ∙ c.in_ok-fixed.ensures.reads Last (λ f. End) last_taken
+    ∙ c.in_ok-fixed.ensures.reads Last (λ f. End) decision_taken
 
 pub returns-clause-fits : goal.returns-clause-fits
 returns-clause-fits c = λ ss arcs budget is.

@@ -1,6 +1,6 @@
 use Rattle.std.proofs.Common.{[], ◌∷◌, codes, take, SFits, rules}
 use Rattle.std.specs.Int.{w128}
-use Rattle.cert_lines.specs.Lines.{vector_line, values_line, last_line}
+use Rattle.cert_lines.specs.Lines.{vector_line, values_line, decision_line}
 use Rattle.std.proofs.lemmas.Int.{to_z-of_z}
 use Rattle.cert_text.proofs.Texts.{then_lines, then_written, anyway}
 use Rattle.track_text.specs.Spelling.{move_lines, track_vectors_lines}
@@ -21,7 +21,7 @@ returns-clause-text c =
     let two = then_lines written _ _ (first_line ∷ []) (second_line ∷ []) c.in_ok-push_vector_line.ensures c.in_ok-push_vector_line-2.ensures in
     let three = then_lines written _ _ (first_line ∷ second_line ∷ []) (move_lines pairs moves) two c.in_ok-push_move_lines.ensures.text in
     let four = then_lines written _ _ (first_line ∷ second_line ∷ move_lines pairs moves) (values_line c.args.h best.p1 best.p2 c.args.top ∷ []) three values in
-    then_written written _ _ (track_vectors_lines pairs c.args.h moves best c.args.top) (last_line c.args.fixed ∷ []) _ four c.push_last_line.ensures
+    then_written written _ _ (track_vectors_lines pairs c.args.h moves best c.args.top) (decision_line c.args.fixed ∷ []) _ four c.push_decision_line.ensures
 
 pub returns-clause-whole : goal.returns-clause-whole
-returns-clause-whole c = anyway c.push_last_line.result (record { move_each = c.in_ok-push_move_lines.ensures.whole; first = search rules; second = search rules })
+returns-clause-whole c = anyway c.push_decision_line.result (record { move_each = c.in_ok-push_move_lines.ensures.whole; first = search rules; second = search rules })

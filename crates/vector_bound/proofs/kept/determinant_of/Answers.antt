@@ -20,10 +20,10 @@ sum_fit x y z h i j = subst (λ (t : ℤ). FitsSigned w128 t) (sym (ap₂ (λ a 
     within x h = omega (arith, h)
 
 pub overflow_sub-result : goal.overflow_sub-result
-overflow_sub-result c = two_fit c.times-first.result c.times-second.result c.times-first.ensures.size c.times-second.ensures.size
+overflow_sub-result c = two_fit c.product_of-first.result c.product_of-second.result c.product_of-first.ensures.size c.product_of-second.ensures.size
 
 pub overflow_add-result : goal.overflow_add-result
-overflow_add-result c = sum_fit c.times-first.result c.times-second.result c.times-third.result c.times-first.ensures.size c.times-second.ensures.size c.times-third.ensures.size
+overflow_add-result c = sum_fit c.product_of-first.result c.product_of-second.result c.product_of-third.result c.product_of-first.ensures.size c.product_of-second.ensures.size c.product_of-third.ensures.size
 
 pub returns-clause-value : goal.returns-clause-value
 returns-clause-value c =
@@ -34,27 +34,27 @@ returns-clause-value c =
     let f : ℤ = c.args.f in
     let g : ℤ = c.args.g in
     let h : ℤ = c.args.h in
-    let one : c.times-first.result ≡ a *ℤ (b *ℤ k -ℤ h *ℤ h) =
-    times_of c.times-first.result a c.cross.result (b *ℤ k -ℤ h *ℤ h) r.a c.cross.ensures.size (cross_of c.cross.result b k h h r.b r.c r.h r.h c.cross.ensures.value) c.times-first.ensures.value in
-    let two : c.times-second.result ≡ f *ℤ (f *ℤ k -ℤ h *ℤ g) =
-    times_of c.times-second.result f c.cross-2.result (f *ℤ k -ℤ h *ℤ g) r.f c.cross-2.ensures.size (cross_of c.cross-2.result f k h g r.f r.c r.h r.g c.cross-2.ensures.value) c.times-second.ensures.value in
-    let three : c.times-third.result ≡ g *ℤ (f *ℤ h -ℤ b *ℤ g) =
-    times_of c.times-third.result g c.cross-3.result (f *ℤ h -ℤ b *ℤ g) r.g c.cross-3.ensures.size (cross_of c.cross-3.result f h b g r.f r.h r.b r.g c.cross-3.ensures.value) c.times-third.ensures.value in
-    three_fit c.times-first.result c.times-second.result c.times-third.result c.times-first.ensures.size c.times-second.ensures.size c.times-third.ensures.size
+    let one : c.product_of-first.result ≡ a *ℤ (b *ℤ k -ℤ h *ℤ h) =
+    times_of c.product_of-first.result a c.cross.result (b *ℤ k -ℤ h *ℤ h) r.a c.cross.ensures.size (cross_of c.cross.result b k h h r.b r.c r.h r.h c.cross.ensures.value) c.product_of-first.ensures.value in
+    let two : c.product_of-second.result ≡ f *ℤ (f *ℤ k -ℤ h *ℤ g) =
+    times_of c.product_of-second.result f c.cross-2.result (f *ℤ k -ℤ h *ℤ g) r.f c.cross-2.ensures.size (cross_of c.cross-2.result f k h g r.f r.c r.h r.g c.cross-2.ensures.value) c.product_of-second.ensures.value in
+    let three : c.product_of-third.result ≡ g *ℤ (f *ℤ h -ℤ b *ℤ g) =
+    times_of c.product_of-third.result g c.cross-3.result (f *ℤ h -ℤ b *ℤ g) r.g c.cross-3.ensures.size (cross_of c.cross-3.result f h b g r.f r.h r.b r.g c.cross-3.ensures.value) c.product_of-third.ensures.value in
+    three_fit c.product_of-first.result c.product_of-second.result c.product_of-third.result c.product_of-first.ensures.size c.product_of-second.ensures.size c.product_of-third.ensures.size
     ∙ ap₂ (λ x y. x +ℤ y) (ap₂ (λ x y. x -ℤ y) one two) three
 
 pub returns-clause-size : goal.returns-clause-size
-returns-clause-size c = subst (λ (x : ℤ). unsigned_abs x ≤ 2 ^ 123) (sym (three_fit x y z c.times-first.ensures.size c.times-second.ensures.size c.times-third.ensures.size))
-    (within (x -ℤ y +ℤ z) (sum_size (x -ℤ y) z (2 ^ 121 + 2 ^ 121) (2 ^ 121) (difference_size x y (2 ^ 121) (2 ^ 121) c.times-first.ensures.size c.times-second.ensures.size) c.times-third.ensures.size))
+returns-clause-size c = subst (λ (x : ℤ). unsigned_abs x ≤ 2 ^ 123) (sym (three_fit x y z c.product_of-first.ensures.size c.product_of-second.ensures.size c.product_of-third.ensures.size))
+    (within (x -ℤ y +ℤ z) (sum_size (x -ℤ y) z (2 ^ 121 + 2 ^ 121) (2 ^ 121) (difference_size x y (2 ^ 121) (2 ^ 121) c.product_of-first.ensures.size c.product_of-second.ensures.size) c.product_of-third.ensures.size))
   where
     x : ℤ
-    x = c.times-first.result
+    x = c.product_of-first.result
 
     y : ℤ
-    y = c.times-second.result
+    y = c.product_of-second.result
 
     z : ℤ
-    z = c.times-third.result
+    z = c.product_of-third.result
 
     within : (x : ℤ) → unsigned_abs x ≤ 2 ^ 121 + 2 ^ 121 + 2 ^ 121 → unsigned_abs x ≤ 2 ^ 123
     within x h = omega (arith, h)

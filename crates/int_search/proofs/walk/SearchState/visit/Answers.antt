@@ -32,9 +32,9 @@ returns-then-i-eq0 c =
     let none_left : form.size - length state.stack ≡ 0 = omega arith in
     let same_entry : next.choice.entry ≡ to_z w64 (of_z w64 next.choice.entry) = sym entry_kept in
     let small = small_set state.z (state.size - c.len.result) (to_z w64 (of_z w64 next.choice.entry)) c.requires.walk.small (rw entry_kept c.requires.small) in
-    leaf_visit form (search_image c.args.form.now c.args.map.now) state c.offer.new.self next c.moved.result
+    leaf_visit form (search_image c.args.form.now c.args.map.now) state c.offer.new.self next c.level_after.result
     (set state.z (state.size - c.len.result) (to_z w64 (of_z w64 next.choice.entry))) c.replace.new.self c.offer.result
-    (searchable c.args.form.now c.requires.can.some) (omega arith) c.requires.walk c.requires.reach c.requires.small c.moved.ensures none_left
+    (searchable c.args.form.now c.requires.can.some) (omega arith) c.requires.walk c.requires.reach c.requires.small c.level_after.ensures none_left
     (ap₂ (λ a b. set state.z a b) place_is_first entry_kept) c.replace.ensures small c.offer.ensures
 
 pub returns : goal.returns
@@ -52,7 +52,7 @@ returns c =
     let place_is : state.size - c.len.result ≡ form.size - length state.stack = omega arith in
     let above : 0 < form.size - length state.stack = omega arith in
     let z : List ℤ = set state.z (state.size - c.len.result) (to_z w64 (of_z w64 next.choice.entry)) in
-    let stack_is : c.push.new.self ≡ c.fresh.result ∷ (c.moved.result ∷ drop 1 state.stack) = c.push.ensures ∙ ap (λ t. c.fresh.result ∷ t) c.replace.ensures in
+    let stack_is : c.push.new.self ≡ c.untouched_level.result ∷ (c.level_after.result ∷ drop 1 state.stack) = c.push.ensures ∙ ap (λ t. c.untouched_level.result ∷ t) c.replace.ensures in
     let rest_small = c.later_part.ensures.size in
     let place_after : state.size - c.len.result - 1 + 1 ≡ form.size - length state.stack = omega arith in
     let rest_kept : to_z w128 (of_z w128 c.later_part.result) ≡ c.later_part.result = omega (arith, ints) in
@@ -61,9 +61,9 @@ returns c =
     let low_kept : to_z w128 (of_z w128 next.low) ≡ next.low = grind (arith, to_z-of_z) in
     let one_shorter : length (drop 1 state.stack) + 1 ≡ length state.stack = drop_length state.stack some in
     record {
-      walk = walk_inner form (search_image c.args.form.now c.args.map.now) state next c.moved.result c.fresh.result z c.push.new.self _ (searchable c.args.form.now c.requires.can.some)
+      walk = walk_inner form (search_image c.args.form.now c.args.map.now) state next c.level_after.result c.untouched_level.result z c.push.new.self _ (searchable c.args.form.now c.requires.can.some)
           (omega arith) is_walk c.requires.reach c.requires.small
-          c.moved.ensures above (ap₂ (λ a b. set state.z a b) place_is entry_kept) stack_is small rest_is (rw low_kept at c.fresh.ensures);
+          c.level_after.ensures above (ap₂ (λ a b. set state.z a b) place_is entry_kept) stack_is small rest_is (rw low_kept at c.untouched_level.ensures);
       visits = refl;
       depth = let stack_length = ap length stack_is in omega arith;
     }

@@ -1,6 +1,6 @@
 use Rattle.std.proofs.Common.{sym, subst}
 use Rattle.row_build.specs.Sights.{AreRoverSights}
-use Rattle.row_build.proofs.HalfLaws.{no_sights}
+use Rattle.row_build.proofs.BasePseudorangeLaws.{no_sights}
 use Rattle.row_build.proofs.sights.KeptSights.none.Goals as goal
 
 pub returns : goal.returns

@@ -2,7 +2,7 @@ use Rattle.std.proofs.Common.{List, ℤ, sym, subst}
 use Rattle.row_boxes.specs.declared.pseudoranges.Pseudorange.{Pseudorange}
 use Rattle.row_boxes.specs.declared.sights.Sight.{Sight}
 use Rattle.row_build.specs.Sights.{AreRoverSights}
-use Rattle.row_build.specs.Halves.{AreBaseHalves}
+use Rattle.row_build.specs.BasePseudoranges.{AreBasePseudoranges}
 use Rattle.session.proofs.CutLaws.{cut_along}
 use Rattle.session.proofs.RangeLaws.{arcs_along}
 use Rattle.session.proofs.file_rounds.FileRunRounds.session.Goals as goal
@@ -19,7 +19,7 @@ invariant_of-from c =
       few = (arcs_along files.kept c.args.arcs.now c.requires.arcs ready.1.0 c.requires.shifts).few;
       base_in = ready.1.1;
       point_in = c.requires.point;
-      halves_hold = ∣ subst (λ (halves : List Pseudorange). AreBaseHalves files.screened.boxes files.position halves) (sym c.as_slice.ensures.value) ready.2.0 ∣₁;
+      base_pseudoranges_hold = ∣ subst (λ (base_pseudoranges : List Pseudorange). AreBasePseudoranges files.screened.boxes files.position base_pseudoranges) (sym c.as_slice.ensures.value) ready.2.0 ∣₁;
       sights_hold = subst (λ (sights : List Sight). AreRoverSights files.screened.boxes c.args.point.now sights) (sym c.as_slice-2.ensures.value)
           (subst (λ (p : List ℤ). AreRoverSights files.screened.boxes p c.turn_to.new.self.sights.items) c.in_ok-turn_to.ensures.there c.turn_to.ensures.kept);
     }

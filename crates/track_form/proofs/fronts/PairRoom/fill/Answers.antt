@@ -6,7 +6,7 @@ use Rattle.obs_rows.specs.Signals.{fine_signals}
 use Rattle.integer_form.specs.ReportedRefusals.{IsReportedAs}
 use Rattle.lower_form.specs.Fronts.{front_of}
 use Rattle.lower_form.proofs.Exponents.{has_exponent}
-use Rattle.lower_form.specs.Rooms.{IsClean}
+use Rattle.lower_form.specs.CleanSteps.{IsClean}
 use Rattle.track_form.specs.PairFronts.{IsRefusedPair}
 use Rattle.track_form.proofs.fronts.PairRoom.fill.Goals as goal
 
@@ -17,7 +17,7 @@ pub refill_front-requires-clause-columns : goal.refill_front-requires-clause-col
 refill_front-requires-clause-columns c = c.requires.columns ∙ sym c.refill_pair.ensures.columns
 
 pub invariant_of-self : goal.invariant_of-self
-invariant_of-self c = record { clean = subst (λ (k : ℕ). IsClean k c.refill_front.new.room) (sym c.refill_front.ensures.columns) c.refill_front.ensures.clean }
+invariant_of-self c = record { clean = subst (λ (k : ℕ). IsClean k c.refill_front.new.steps) (sym c.refill_front.ensures.columns) c.refill_front.ensures.clean }
 
 pub returns-clause-front : goal.returns-clause-front
 returns-clause-front c = on_ok_weaker
