@@ -15,9 +15,10 @@ use Rattle.rinex_head.specs.Places.{place}
 use Rattle.rinex_head.specs.LineRules.{Gives}
 use Rattle.rinex_head.proofs.LineRuleLaws.{gives_same}
 use Rattle.rinex_obs.specs.Feeding.{IsAnswerTo}
-use Rattle.rinex_obs.specs.ObsRules.{First, obs_rules, obs_of}
+use Rattle.rinex_obs.specs.ObsRules.{Head, obs_rules, obs_of}
 use Rattle.rinex_obs.specs.Started.{EndsLine, GoesOn}
 use Rattle.rinex_obs.proofs.Feeds.{BeginsLong, long_begins, long_refused, long_stripped}
+use Rattle.obs_fields.specs.HeaderRules.{First}
 use Rattle.obs_fields.proofs.AmountLaws.{tail_is}
 use Rattle.rinex2_obs.specs.Obs2Rules
 use Rattle.job_answers.specs.Formats.{begins_2, is_two, any_of}
@@ -78,10 +79,10 @@ long_same : (lines : List (List ℕ)) → BeginsLong lines → any_of Gps lines 
 long_same lines long = by_format (is_two lines)
   where
     three : obs_of Gps lines ≡ Err (place 1 1 LongLine)
-    three = long_refused (obs_rules Gps) (First Gps) 0 lines long
+    three = long_refused (obs_rules Gps) (Head (First Gps)) 0 lines long
 
     two : Obs2Rules.obs2_of lines ≡ Err (place 1 1 LongLine)
-    two = long_refused Obs2Rules.obs2_rules Obs2Rules.First 0 lines long
+    two = long_refused Obs2Rules.obs2_rules (Obs2Rules.Head (First Gps)) 0 lines long
 
     by_format : (t : Bool) → (if t then Obs2Rules.obs2_of lines else obs_of Gps lines) ≡ obs_of Gps lines
     by_format true = two ∙ sym three
