@@ -1,5 +1,5 @@
 -- The place of a refusal is the first failing line by the grammar: every state that can be reached can be completed to a file.
-use Rattle.std.proofs.Common.{◌≡◌, ◌<◌, ◌≤◌, ◌+◌, ◌-◌, ◌*◌, ◌/◌, ◌%◌, ℕ, zero, suc, nat_lt, Bool, true, false, ◌==◌, min, List, [], ◌∷◌, ◌++◌, length, drop, codes, Result, Ok, Err, Option, Some, None, refl, sym, ap, ◌∙◌, subst, arith, lit≤, add-zero, IfOk, slice_set}
+use Rattle.std.proofs.Common.{◌≡◌, ◌<◌, ◌≤◌, ◌+◌, ◌-◌, ◌*◌, ◌/◌, ◌%◌, ℕ, zero, suc, nat_lt, Bool, true, false, ◌==◌, min, List, [], ◌∷◌, ◌++◌, drop, codes, Result, Ok, Err, Option, Some, None, refl, sym, ap, ◌∙◌, arith, lit≤, IfOk, slice_set}
 use Rattle.std.proofs.lemmas.Bool.Decides.{nat_tests}
 use Rattle.gps_time.specs.declared.Tick.{Tick}
 use Rattle.obs_store.specs.declared.file.ObsFile.{ObsFile}
@@ -11,11 +11,11 @@ use Rattle.obs_store.specs.Missing.{missing_values}
 use Rattle.rinex_head.specs.declared.place.TextFault.{TextFault}
 use Rattle.rinex_head.specs.declared.place.Flaw.{Flaw}
 use Rattle.rinex_head.specs.declared.system.System.TheVariants.{Gps}
-use Rattle.rinex_head.specs.Columns.{padded, columns}
+use Rattle.rinex_head.specs.Columns.{padded}
 use Rattle.rinex_head.specs.Head.{trimmed}
 use Rattle.rinex_head.specs.LineRules.{text_gives, Gives}
 use Rattle.rinex_head.specs.FirstFailing.{IsFileOf}
-use Rattle.rinex_head.proofs.Stops.{Completes, CanEnd, is_line, with_line, with_end}
+use Rattle.rinex_head.proofs.Stops.{Completes, CanEnd, with_line, with_end}
 use Rattle.obs_fields.specs.declared.layout.Layout.TheVariants.{Rinex2}
 use Rattle.obs_fields.specs.declared.types.KeptType.{KeptType}
 use Rattle.obs_fields.specs.Labels.{label_in, event_line_of}

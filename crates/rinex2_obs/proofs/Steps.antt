@@ -20,7 +20,7 @@ use Rattle.rinex2_obs.specs.Profile.{kept_of}
 use Rattle.rinex2_obs.specs.Rows.{rows_of, row_of}
 use Rattle.rinex2_obs.specs.SatNames.{further_mark_of, further_names_of}
 use Rattle.obs_fields.specs.declared.header.Header.{Header}
-use Rattle.rinex2_obs.specs.Obs2Rules.{Expected, Body, Row, Skip, more_sats, more_names, more_rows, more_lines, more_slips, with_satellite, admit, finish, obs2_rules}
+use Rattle.rinex2_obs.specs.Obs2Rules.{Expected, Row, Skip, more_sats, more_names, more_rows, more_lines, more_slips, with_satellite, admit, finish, obs2_rules}
 use Rattle.rinex2_obs.specs.Obs2Form.{if_of_gps}
 
 -- ---- the names and the lines of satellites

@@ -11,7 +11,7 @@ use Rattle.rinex_head.specs.declared.system.System.{System}
 use Rattle.rinex_head.specs.declared.system.System.TheVariants.{Gps, Galileo}
 use Rattle.rinex_head.specs.LineRules.{text_gives, Gives}
 use Rattle.rinex_head.specs.FirstFailing.{IsFileOf}
-use Rattle.rinex_head.proofs.Stops.{Completes, CanEnd, is_line, with_line, with_end}
+use Rattle.rinex_head.proofs.Stops.{Completes, CanEnd, with_line, with_end}
 use Rattle.obs_fields.specs.Labels.{label_in, event_line_of}
 use Rattle.obs_fields.specs.SatFields.{satellite_at}
 use Rattle.rinex_obs.specs.SatLines.{satellite_line_of}

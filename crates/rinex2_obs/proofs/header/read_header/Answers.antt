@@ -1,4 +1,4 @@
-use Rattle.std.proofs.Common.{◌≡◌, Ok, [], refl, sym, ap, ◌∙◌, Result}
+use Rattle.std.proofs.Common.{Ok, [], refl, sym, ap, ◌∙◌, Result}
 use Rattle.std.proofs.lemmas.Result.{err_from_is_err_and}
 use Rattle.obs_store.specs.declared.file.ObsFile.{ObsFile}
 use Rattle.rinex_head.specs.declared.place.What.{What}
@@ -8,7 +8,7 @@ use Rattle.rinex_head.proofs.LineRuleLaws.{goes_on, stops, has_none}
 use Rattle.obs_fields.specs.declared.layout.Layout.TheVariants.{Rinex2}
 use Rattle.obs_fields.specs.HeaderRules.{Inside, Whole, admit_header}
 use Rattle.obs_fields.specs.OpenHeaders.{expected_in_header}
-use Rattle.rinex2_obs.specs.Obs2Rules.{Expected, Head, Body, after_header, finish, obs2_rules}
+use Rattle.rinex2_obs.specs.Obs2Rules.{Head, Body, after_header, obs2_rules}
 use Rattle.rinex2_obs.proofs.header.read_header.Goals as goal
 
 pub returns-in_err-line : goal.returns-in_err-line
