@@ -6,7 +6,7 @@ use Rattle.std.specs.declared.option.Option.{Option}
 use Rattle.std.specs.Io.KnownBytes.{Appends}
 use Rattle.line_source.specs.Givens.{Given, given_of, names_given, given_under, known_text}
 use Rattle.job_answers.specs.declared.status.Status.{Status}
-use Rattle.job_answers.specs.declared.status.Status.TheVariants.{Done, Declined, Usage, Refused, ReadFault, WriteFault, NoMemory}
+use Rattle.job_answers.specs.declared.status.Status.TheVariants.{Done, Declined, Refused}
 use Rattle.job_answers.specs.Statuses.{number_of, IsVerdictStatus}
 use Rattle.job_answers.specs.Texts.{refusal_line, too_large_line}
 use Rattle.job_answers.specs.Endings.{Ending, ending}

@@ -1,4 +1,4 @@
--- The commands, a line for each: its files, what it ends with by what is known of them, and what a run of it says.
+-- The command of each job, a line for each: on one file, on the three files of a session, or on a simulated session.
 use Rattle.std.specs.Prelude.{ℕ, []}
 use Rattle.job_answers.specs.declared.status.Status.{Status}
 use Rattle.job_answers.specs.Endings.{Ending}

@@ -14,7 +14,7 @@ use Rattle.command_words.proofs.SplitLaws.{Adds, AreKnown, passes, Knows, Found,
 use Rattle.command_words.proofs.OtherLaws.{first_of_sim, none_behind}
 use Rattle.command_words.specs.declared.command_name.CommandName.TheVariants as command_name
 use Rattle.command_words.specs.declared.settings.Setting.{Setting}
-use Rattle.command_words.specs.declared.settings.Setting.TheVariants.{Ratio, Budget, Mask, Gap, Jump, Arc, Step, First, Count, Bands, System}
+use Rattle.command_words.specs.declared.settings.Setting.TheVariants.{Ratio, Budget, Bands, System}
 use Rattle.command_words.specs.declared.settings.Given.{Given}
 use Rattle.command_words.specs.declared.jobs.Job.{Job}
 use Rattle.command_words.specs.declared.jobs.Job.TheVariants as job

@@ -2,7 +2,7 @@
 use Rattle.std.proofs.Common.{◌≡◌, ℕ, ◌+◌, ◌-◌, ◌*◌, List, [], ◌∷◌, ◌++◌, drop, Some, refl, sym, ap, subst, ◌∙◌}
 use Rattle.std.proofs.lemmas.Option.{same_Some}
 use Rattle.command_words.specs.declared.settings.Setting.{Setting}
-use Rattle.command_words.specs.declared.settings.Setting.TheVariants.{Ratio, Budget, Mask, Gap, Jump, Arc, Step, First, Count, Bands, System}
+use Rattle.command_words.specs.declared.settings.Setting.TheVariants.{Ratio, System}
 use Rattle.command_words.specs.Numbers.{IsNumber, IsLetter, IsSatellite}
 use Rattle.command_words.specs.Settings.{name_of, setting_of, IsValue, IsChosenBy}
 
