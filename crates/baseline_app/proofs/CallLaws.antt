@@ -12,9 +12,10 @@ use Rattle.job_answers.specs.Texts.{refusal_line, too_large_line}
 use Rattle.job_answers.specs.Endings.{Ending, ending}
 use Rattle.job_answers.specs.Delivered.{SinkChange, GainsUnlessFault}
 use Rattle.job_answers.specs.Works.{FileWork, RefusesOne, RefusesAll}
+use Rattle.job_answers.specs.Commands.{KnownTexts, Command}
 use Rattle.command_words.specs.declared.jobs.Job.{Job}
 use Rattle.command_words.specs.Words.{IsJob}
-use Rattle.baseline_app.specs.Commands.{KnownTexts, Command, command_of}
+use Rattle.baseline_app.specs.Commands.{command_of}
 use Rattle.baseline_app.specs.Runs.{IsRun}
 use Rattle.baseline_app.specs.Calls.{AnswersByCalls, RefusesRead, RefusesLarge, RefusesLast, RefusesTogether, RefusesByCalls}
 use Rattle.baseline_app.proofs.Completes.{asked_ends}
@@ -108,7 +109,7 @@ by_last work command end err taken taken_now one g line last_is name_is refused 
     (words_given command.file_words one.earlier one.later one.name one.whole.more g one.among one.whole.names_are name_is)
     (inl (record { earlier = one.whole.more; last = g; more_is = refl; ended = one.whole.ended; refused = refused })) end_is untold ends took gains
 
-refusal_by_calls : (work : FileWork) (command : Command) (end : Ending) (err : SinkChange) (taken taken_now : List ℕ) → RefusesOne work command.file_words end ⊎ RefusesAll work command.file_words command.IsLine end
+refusal_by_calls : (work : FileWork) (command : Command) (end : Ending) (err : SinkChange) (taken taken_now : List ℕ) → RefusesOne work command.file_words end ⊎ RefusesAll work command end
     → work.text_of ≡ known_text (λ name. None) work.given work.left.given → command.Ends work.text_of end → taken_now ≡ taken ++ end.out → GainsUnlessFault err end.err
     → RefusesByCalls command work.given work.left.given taken taken_now err
 refusal_by_calls work command end err taken taken_now (inl one) untold ends took gains = elim (one.refused) [

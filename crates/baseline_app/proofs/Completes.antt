@@ -7,20 +7,20 @@ use Rattle.job_answers.specs.declared.status.Status.TheVariants.{Usage, ReadFaul
 use Rattle.job_answers.specs.Statuses.{IsVerdictStatus, IsJobStatus}
 use Rattle.job_answers.specs.Endings.{Ending}
 use Rattle.job_answers.specs.Delivered.{SinkChange}
-use Rattle.job_answers.specs.Works.{FileWork}
+use Rattle.job_answers.specs.Works.{FileWork, EndsOver}
 use Rattle.command_words.specs.declared.jobs.Job.{Job}
 use Rattle.command_words.specs.Words.{IsJob}
 use Rattle.command_words.proofs.OneJob.{one_job}
 use Rattle.baseline_app.specs.Commands.{command_of}
-use Rattle.baseline_app.specs.Jobs.{CommandEndsOver, IsAnswer}
+use Rattle.baseline_app.specs.Jobs.{IsAnswer}
 use Rattle.baseline_app.specs.Runs.{IsRun, IsComplete}
 use Rattle.baseline_app.proofs.CommandLaws.{lawful}
 
 -- the job that the words ask for ends so over its files, or memory is out
 pub asked_ends : (job : Job) (words : List (List ℕ)) (work : FileWork) (end : Ending) → IsJob words job → IsAnswer words work end
-    → CommandEndsOver work (command_of job) end ⊎ (end.status ≡ NoMemory)
+    → EndsOver work (command_of job) end ⊎ (end.status ≡ NoMemory)
 asked_ends job words work end asked (inl answer) =
-    inl (subst (λ (j : Job). CommandEndsOver work (command_of j) end) (one_job words answer.job job answer.asked asked) answer.ends)
+    inl (subst (λ (j : Job). EndsOver work (command_of j) end) (one_job words answer.job job answer.asked asked) answer.ends)
 asked_ends job words work end asked (inr (inl usage)) = absurd (usage.none job asked)
 asked_ends job words work end asked (inr (inr none)) = inr (ap (λ (e : Ending). e.status) none)
 

@@ -13,38 +13,39 @@ use Rattle.job_answers.specs.Texts.{no_memory_line}
 use Rattle.job_answers.specs.Answers.{ending_of, IfEnded}
 use Rattle.job_answers.specs.Endings.{Ending, ending}
 use Rattle.job_answers.specs.Delivered.{SinkChange, IsDelivered}
-use Rattle.job_answers.specs.Works.{FileWork, AreAllRead, NamesFault, NoLine}
-use Rattle.job_answers.specs.TextJobs.{TextJob}
+use Rattle.job_answers.specs.Commands.{Command}
+use Rattle.job_answers.specs.Works.{FileWork, AreAllRead, NamesFault, EndsOver, IsDoneOver}
+use Rattle.job_answers.specs.TextJobs.{TextJob, text_command}
 use Rattle.job_answers.proofs.EndingLaws.{ended_weaker, delivered_status}
 use Rattle.job_answers.proofs.WorkLaws.{none_opened, verdict_over}
 use Rattle.job_answers.proofs.KnownLaws.{none_given, no_more_given}
 use Rattle.command_words.specs.declared.jobs.Job.{Job}
 use Rattle.command_words.specs.declared.sims.Part.{Part}
-use Rattle.baseline_app.specs.Commands.{Command, text_command, PartEnds, sim_command, command_of}
-use Rattle.baseline_app.specs.Jobs.{CommandEndsOver, IsCommandDone, AnswersJob, AnswersUsage, IsAnswer, end_of}
+use Rattle.baseline_app.specs.Commands.{PartEnds, sim_command, command_of}
+use Rattle.baseline_app.specs.Jobs.{AnswersJob, AnswersUsage, IsAnswer, end_of}
 use Rattle.baseline_app.specs.Runs.{IsRun, UsesFiles}
 use Rattle.baseline_app.proofs.CommandLaws.{part_verdict}
 
 -- ---- jobs by their words
 -- a command on one file, whose name the word gives
 pub at_word : (work : FileWork) (r : Result JobOutput JobStop) (text : TextJob) (name word : List ℕ) → name ≡ word
-    → IsCommandDone work (text_command text name) r → IsCommandDone work (text_command text word) r
-at_word work r text name word same done = subst (λ (n : List ℕ). IsCommandDone work (text_command text n) r) same done
+    → IsDoneOver work (text_command text name) r → IsDoneOver work (text_command text word) r
+at_word work r text name word same done = subst (λ (n : List ℕ). IsDoneOver work (text_command text n) r) same done
 
 -- any job, which the words give
-pub job_asked : (work : FileWork) (r : Result JobOutput JobStop) (job asked : Job) → job ≡ asked → IsCommandDone work (command_of asked) r → IsCommandDone work (command_of job) r
-job_asked work r job asked is done = subst (λ (j : Job). IsCommandDone work (command_of j) r) (sym is) done
+pub job_asked : (work : FileWork) (r : Result JobOutput JobStop) (job asked : Job) → job ≡ asked → IsDoneOver work (command_of asked) r → IsDoneOver work (command_of job) r
+job_asked work r job asked is done = subst (λ (j : Job). IsDoneOver work (command_of j) r) (sym is) done
 
 -- a part of a simulated session opens none
 pub part_done : (work : FileWork) (r : Result JobOutput JobStop) (part : Part) (seed epochs sats bands system : ℕ) → work.left.openings ≡ work.openings → work.left.given ≡ work.given
-    → IfEnded r (PartEnds part seed epochs sats bands system) → IsCommandDone work (sim_command part seed epochs sats bands system) r
+    → IfEnded r (PartEnds part seed epochs sats bands system) → IsDoneOver work (sim_command part seed epochs sats bands system) r
 part_done work r part seed epochs sats bands system same unread ends =
     let read : AreAllRead work [] = record { opened = ap names_of same ∙ none_opened work.openings; last = tt; whole = none_given work.given work.left.given (unread ∙ sym (append-nil work.given)) } in
     record {
       opened = none_first [] work.openings work.left.openings same;
       given = no_more_given [] work.given work.left.given unread;
       ended = ended_weaker r _ _ (λ end so.
-          verdict_over work [] NoLine (PartEnds part seed epochs sats bands system) end read (part_verdict part seed epochs sats bands system end so) so) ends;
+          verdict_over work (sim_command part seed epochs sats bands system) end read (part_verdict part seed epochs sats bands system end so) so) ends;
     }
 
 -- ---- the fault that is named
@@ -64,7 +65,7 @@ none_sure work names line fault all =
 
 -- ---- what a run does with files
 files_over : (work : FileWork) (command : Command) (end : Ending) (result : Status) (out err : SinkChange) → OpensFirst command.file_words work.openings work.left.openings
-    → GivesFirst command.file_words work.given work.left.given → CommandEndsOver work command end → IsDelivered end result out err → UsesFiles work command.file_words result
+    → GivesFirst command.file_words work.given work.left.given → EndsOver work command end → IsDelivered end result out err → UsesFiles work command.file_words result
 files_over work command end result out err opens gives over written = record {
   opened = opens;
   given = gives;
@@ -75,7 +76,7 @@ files_over work command end result out err opens gives over written = record {
 no_memory_status : (result status : Status) (out err : SinkChange) → IsDelivered (ending NoMemory [] no_memory_line) result out err → result ≡ status → status ≢ WriteFault → NoMemory ≡ status
 no_memory_status result status out err = delivered_status (ending NoMemory [] no_memory_line) result status out err
 
-pub files_used : (work : FileWork) (command : Command) (r : Result JobOutput JobStop) (result : Status) (out err : SinkChange) → IsCommandDone work command r
+pub files_used : (work : FileWork) (command : Command) (r : Result JobOutput JobStop) (result : Status) (out err : SinkChange) → IsDoneOver work command r
     → IsDelivered (end_of r) result out err → UsesFiles work command.file_words result
 files_used work command (Ok a) result out err done written = files_over work command (ending_of a) result out err done.opened done.given done.ended written
 files_used work command (Err (stop.Ended a)) result out err done written = files_over work command (ending_of a) result out err done.opened done.given done.ended written

@@ -8,8 +8,8 @@ use Rattle.job_answers.specs.Statuses.{number_of}
 use Rattle.job_answers.specs.Texts.{refusal_line, too_large_line}
 use Rattle.job_answers.specs.Endings.{Ending, ending}
 use Rattle.job_answers.specs.Delivered.{SinkChange, GainsUnlessFault}
+use Rattle.job_answers.specs.Commands.{Command}
 use Rattle.job_answers.specs.Works.{AllEnded}
-use Rattle.baseline_app.specs.Commands.{Command}
 
 -- An answer: the reads gave exactly the files under the command's words, in this order, each to its end; and the writes took exactly
 -- the two texts that the command ends with on these bytes, with the status of this number.

@@ -1,14 +1,11 @@
--- The commands, a line for each: its files, what it ends with by what is known of them, and what a run of it says.
-use Rattle.std.specs.Prelude.{ℕ, List, [], ◌∷◌}
-use Rattle.std.specs.declared.option.Option.{Option}
-use Rattle.obs_rows.specs.declared.options.Options.{Options}
+-- The command of each job, a line for each: on one file, on the three files of a session, or on a simulated session.
+use Rattle.std.specs.Prelude.{ℕ, []}
 use Rattle.job_answers.specs.declared.status.Status.{Status}
 use Rattle.job_answers.specs.Endings.{Ending}
 use Rattle.job_answers.specs.Delivered.{SinkChange}
-use Rattle.job_answers.specs.Works.{NoLine}
-use Rattle.job_answers.specs.TextJobs.{TextJob, TextEnds, IsTextAdmitted, SaysOfText}
-use Rattle.job_answers.specs.Admitted.{AreAdmitted}
-use Rattle.job_answers.specs.SessionJobs.{SessionAnswers, SessionEnds, SaysOfSession, IsPairLine}
+use Rattle.job_answers.specs.Commands.{Command}
+use Rattle.job_answers.specs.TextJobs.{text_command}
+use Rattle.job_answers.specs.SessionJobs.{session_command}
 use Rattle.command_words.specs.declared.jobs.Job.{Job}
 use Rattle.command_words.specs.declared.jobs.Job.TheVariants as job
 use Rattle.command_words.specs.declared.sims.Part.{Part}
@@ -27,44 +24,6 @@ use Rattle.sim_jobs.specs.SimRuns.{SaysOfSim}
 use Rattle.sim_jobs.specs.SimRunJobs.{SimRunEnds}
 use Rattle.sim_jobs.specs.SimRunSays.{SaysOfSimRun}
 
--- what is known of the text under each name
-abbrev pub KnownTexts : Type 0
-KnownTexts = List ℕ → Option (List ℕ)
-
--- a command with its words
-pub record Command : Type 1 where
-  -- the words that stand for its files
-  pub file_words : List (List ℕ)
-  -- what it ends with, by what is known of the files
-  pub Ends : KnownTexts → Ending → Type 0
-  -- a line about all files together
-  pub IsLine : List ℕ → Type 0
-  -- all files are there and admitted, and they aren't refused together
-  pub IsReadable : KnownTexts → Type 0
-  -- what a run of it with status 0 or 1 says
-  pub Says : KnownTexts → Status → SinkChange → Type 0
-
--- a command on one file
-abbrev pub text_command : TextJob → List ℕ → Command
-text_command job name = record {
-  file_words = name ∷ [];
-  Ends = λ text_of. TextEnds job text_of name;
-  IsLine = NoLine;
-  IsReadable = λ text_of. IsTextAdmitted job text_of name;
-  Says = λ text_of. SaysOfText job text_of name;
-}
-
--- A command on the three files of a session. Observations may be in either format of RINEX, where the system has both; `list`
--- reads those of GPS.
-abbrev pub session_command : SessionAnswers → List ℕ → List ℕ → List ℕ → Options → Command
-session_command answers base rover nav options = record {
-  file_words = base ∷ rover ∷ nav ∷ [];
-  Ends = λ text_of. SessionEnds answers text_of base rover nav options;
-  IsLine = IsPairLine;
-  IsReadable = λ text_of. AreAdmitted text_of base rover nav options;
-  Says = λ text_of. SaysOfSession answers text_of base rover nav options;
-}
-
 -- of a simulated session one of its files, or what the three are found to say
 abbrev pub PartEnds : Part → ℕ → ℕ → ℕ → ℕ → ℕ → Ending → Type 0
 PartEnds (part.File file) seed epochs sats bands system end = SimEnds file seed epochs sats bands system end
@@ -79,7 +38,7 @@ abbrev pub sim_command : Part → ℕ → ℕ → ℕ → ℕ → ℕ → Comman
 sim_command part seed epochs sats bands system = record {
   file_words = [];
   Ends = λ text_of. PartEnds part seed epochs sats bands system;
-  IsLine = NoLine;
+  IsLine = λ line. ⊥;
   IsReadable = λ text_of. Unit {0};
   Says = λ text_of. SaysOfPart part seed epochs sats bands system;
 }

@@ -7,25 +7,17 @@ use Rattle.job_answers.specs.declared.stop.JobStop.TheVariants as stop
 use Rattle.job_answers.specs.Answers.{ending_of}
 use Rattle.job_answers.specs.Texts.{usage_line, no_memory_line}
 use Rattle.job_answers.specs.Endings.{Ending, ending}
-use Rattle.job_answers.specs.Works.{FileWork, EndsOver, IsDoneOver}
+use Rattle.job_answers.specs.Works.{FileWork, EndsOver}
 use Rattle.command_words.specs.declared.jobs.Job.{Job}
 use Rattle.command_words.specs.Words.{IsJob}
-use Rattle.baseline_app.specs.Commands.{Command, command_of}
-
--- the command ends so over its files
-abbrev pub CommandEndsOver : FileWork → Command → Ending → Type 0
-CommandEndsOver work command end = EndsOver work command.file_words command.IsLine (command.Ends work.text_of) end
-
--- the same of a result, for which memory may have run out
-abbrev pub IsCommandDone : FileWork → Command → Result JobOutput JobStop → Type 0
-IsCommandDone work command result = IsDoneOver work command.file_words command.IsLine (command.Ends work.text_of) result
+use Rattle.baseline_app.specs.Commands.{command_of}
 
 -- The words ask for a job, whose command ends so over its files. What a refusal or a read fault names stands in this end's text,
 -- whether or not standard error takes it.
 pub record AnswersJob (words : List (List ℕ)) (work : FileWork) (end : Ending) : Type 0 where
   pub job : Job
   pub asked : IsJob words job
-  pub ends : CommandEndsOver work (command_of job) end
+  pub ends : EndsOver work (command_of job) end
 
 -- the words ask for none
 pub record AnswersUsage (words : List (List ℕ)) (end : Ending) : Type 0 where

@@ -9,10 +9,11 @@ use Rattle.job_answers.specs.Statuses.{number_of, IsVerdictStatus}
 use Rattle.job_answers.specs.Texts.{no_memory_line}
 use Rattle.job_answers.specs.Endings.{Ending, ending}
 use Rattle.job_answers.specs.Delivered.{SinkChange, GainsWhole, IsDelivered}
+use Rattle.job_answers.specs.Commands.{KnownTexts, Command}
 use Rattle.job_answers.specs.Works.{FileWork}
 use Rattle.command_words.specs.declared.jobs.Job.{Job}
 use Rattle.command_words.specs.Words.{IsJob}
-use Rattle.baseline_app.specs.Commands.{KnownTexts, Command, command_of}
+use Rattle.baseline_app.specs.Commands.{command_of}
 use Rattle.baseline_app.specs.Jobs.{IsAnswer}
 
 -- A run: the words end in a status with two texts, which are written.

@@ -4,11 +4,12 @@ ghost use Rattle.line_source.specs.Causes.{Rose};
 ghost use Rattle.job_answers.specs.Statuses.{IsVerdictStatus};
 ghost use Rattle.job_answers.specs.Answers.{IfEnded};
 ghost use Rattle.job_answers.specs.Delivered.{sink_change, IsDelivered};
-ghost use Rattle.job_answers.specs.Works.{known_between, file_work};
+ghost use Rattle.job_answers.specs.Works.{known_between, file_work, IsDoneOver};
+ghost use Rattle.job_answers.specs.SessionJobs.{session_command};
 ghost use Rattle.command_words.specs.declared.jobs.Job.{Job};
 ghost use Rattle.command_words.specs.Words.{texts_of, IsJob, IsInRange, IsSimInRange};
-ghost use Rattle.baseline_app.specs.Commands.{PartEnds, session_command, command_of};
-ghost use Rattle.baseline_app.specs.Jobs.{IsCommandDone, AnswersJob, AnswersUsage, stop_end, end_of};
+ghost use Rattle.baseline_app.specs.Commands.{PartEnds, command_of};
+ghost use Rattle.baseline_app.specs.Jobs.{AnswersJob, AnswersUsage, stop_end, end_of};
 ghost use Rattle.baseline_app.specs.Calls.{AnswersByCalls, RefusesByCalls};
 ghost use Rattle.baseline_app.specs.Runs.{IsRun, UsesFiles, IsComplete, IsStarted, HasNoWords};
 
@@ -35,7 +36,7 @@ fn session_by_words<C: SessionCommand, F: Files>(
     nav: &Word,
     options: &Options,
 ) -> Result<JobOutput, JobStop>
-    ensures { IsCommandDone (file_work F.Files files.old files.new)
+    ensures { IsDoneOver (file_work F.Files files.old files.new)
         (session_command C.answers base.now rover.now nav.now options.now) result }
 {
     answer_session(
@@ -71,7 +72,7 @@ fn sim_part(
 // What the job ends with.
 fn do_job<F: Files>(alloc: Global, job: &Job, files: &mut F) -> Result<JobOutput, JobStop>
     requires { IsInRange job.now }
-    ensures done { IsCommandDone (file_work F.Files files.old files.new) (command_of job.now) result }
+    ensures done { IsDoneOver (file_work F.Files files.old files.new) (command_of job.now) result }
     ensures untouched { (command_of job.now).file_words ≡ [] → files.new ≡ files.old }
 {
     match job {
@@ -128,7 +129,7 @@ fn answer_of<F: Files>(alloc: Global, words: &[String], files: &mut F) -> Result
     ensures answer { IfEnded result (λ end. AnswersJob (texts_of words.now)
         (file_work F.Files files.old files.new) end ⊎ AnswersUsage (texts_of words.now) end) }
     ensures done { (job : Job) → IsJob (texts_of words.now) job →
-        IsCommandDone (file_work F.Files files.old files.new) (command_of job) result }
+        IsDoneOver (file_work F.Files files.old files.new) (command_of job) result }
     ensures untouched { ((job : Job) → IsJob (texts_of words.now) job →
         (command_of job).file_words ≡ []) → files.new ≡ files.old }
 {

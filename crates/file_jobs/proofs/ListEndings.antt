@@ -11,8 +11,8 @@ use Rattle.job_answers.specs.declared.stop.JobStop.TheVariants as stop
 use Rattle.job_answers.specs.declared.status.Status.TheVariants.{Done, ReadFault}
 use Rattle.job_answers.specs.Answers.{ending_of, IfEnds}
 use Rattle.job_answers.specs.Endings.{Ending, ending, IsRefusalOf}
-use Rattle.job_answers.specs.Works.{FileWork, NoLine, IsDoneOver}
-use Rattle.job_answers.specs.TextJobs.{EndsOnText, TextEnds}
+use Rattle.job_answers.specs.Works.{FileWork, IsDoneOver}
+use Rattle.job_answers.specs.TextJobs.{EndsOnText, TextEnds, text_command}
 use Rattle.job_answers.proofs.EndingLaws.{verdict_at}
 use Rattle.job_answers.proofs.WorkLaws.{only_refused, only_fault}
 use Rattle.job_answers.specs.SessionFiles.{IsObsOf, StopsAtObs}
@@ -38,7 +38,7 @@ stops text_of name end (inr unloaded) = inr unloaded
 
 pub list_stop : (work : FileWork) (name : List ℕ) (why : JobStop) → OpensFirst (name ∷ []) work.openings work.left.openings → GivesFirst (name ∷ []) work.given work.left.given → IfEnds why (StopsAtObs Gps work.text_of name)
     → IfEnds why (IsRefusalOf work.told work.given work.left name) → IfEnds why (λ end. end.status ≡ ReadFault → Rose work.faults work.faults_now)
-    → (work.sure name → IfEnds why (λ end. end.status ≢ ReadFault)) → IsDoneOver work (name ∷ []) NoLine (TextEnds list_job work.text_of name) (Err why)
+    → (work.sure name → IfEnds why (λ end. end.status ≢ ReadFault)) → IsDoneOver work (text_command list_job name) (Err why)
 list_stop work name (stop.Ended a) opens gives stopped refused rose never = record {
   opened = opens;
   given = gives;

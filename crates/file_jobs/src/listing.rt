@@ -1,10 +1,10 @@
 //! The command `list`: what an observation file holds of GPS.
-ghost use Rattle.std.specs.Prelude.{◌≡◌, [], IfOk, ◌∷◌};
+ghost use Rattle.std.specs.Prelude.{◌≡◌, [], IfOk};
 ghost use Rattle.report_text.specs.List.{list_text};
 ghost use Rattle.job_answers.specs.Answers.{ending_of};
 ghost use Rattle.job_answers.specs.Endings.{ending};
-ghost use Rattle.job_answers.specs.Works.{known_between, file_work, NoLine, IsDoneOver};
-ghost use Rattle.job_answers.specs.TextJobs.{TextEnds};
+ghost use Rattle.job_answers.specs.Works.{file_work, IsDoneOver};
+ghost use Rattle.job_answers.specs.TextJobs.{text_command};
 ghost use Rattle.file_jobs.specs.Listing.{list_job};
 
 use job_answers::{JobOutput, JobStop, Status, obs_file};
@@ -30,8 +30,7 @@ fn answer_file(alloc: Global, file: &ObsFile) -> Result<JobOutput, AllocError>
 /// What an observation file holds of GPS: its version, its epochs and its satellites.
 #[inline(never)]
 pub fn list<F: Files>(alloc: Global, files: &mut F, name: &str) -> Result<JobOutput, JobStop>
-    ensures { IsDoneOver (file_work F.Files files.old files.new) (name.now ∷ []) NoLine
-        (TextEnds list_job (known_between F.Files files.old files.new) name.now) result }
+    ensures { IsDoneOver (file_work F.Files files.old files.new) (text_command list_job name.now) result }
 {
     let file = obs_file(alloc, files, System::Gps, name)?;
     Ok(answer_file(alloc, &file)?)

@@ -8,4 +8,5 @@ pub mod FaultLaws
 pub mod FileLaws
 pub mod RefusalLaws
 pub mod SessionLaws
+pub mod CommandLaws
 pub mod ReadingLaws

@@ -16,7 +16,7 @@ use Rattle.rinex_head.specs.Systems.{system_of}
 use Rattle.job_answers.specs.Endings.{Ending}
 use Rattle.job_answers.specs.SessionFiles.{AreFilesOf}
 use Rattle.job_answers.specs.Refusals.{IsPairRefused}
-use Rattle.job_answers.specs.Admitted.{AreAdmitted}
+use Rattle.job_answers.specs.SessionJobs.{AreAdmitted}
 
 -- tags that are apart have none that is close
 not_close : (gap : ℕ) (tags : List ℕ) (epoch : ℕ) → AreApart gap tags → IsFirstClose gap tags epoch → ⊥

@@ -23,17 +23,16 @@ use Rattle.job_answers.proofs.WorkLaws.{verdict_over}
 use Rattle.job_answers.proofs.TextLaws.{job_of_verdict}
 use Rattle.job_answers.specs.SessionFiles.{AreFilesOf, StopsAtObs, StopsAtFiles}
 use Rattle.job_answers.specs.Refusals.{pair_line}
-use Rattle.job_answers.specs.Admitted.{AreAdmitted}
-use Rattle.job_answers.specs.SessionJobs.{SessionAnswers, EndsOnFiles, SessionEnds, IsPairLine, SaysOfSession}
+use Rattle.job_answers.specs.SessionJobs.{SessionAnswers, EndsOnFiles, SessionEnds, AreAdmitted, SaysOfSession, session_command}
 use Rattle.job_answers.proofs.FileLaws.{files_status, no_stop}
 use Rattle.job_answers.proofs.RefusalLaws.{never_refused}
 
 -- ---- files of which a session is made, or that are refused together
 files_over : (work : FileWork) (base rover nav : List ℕ) (answers : SessionAnswers) (o : Options) (b r : ObsFile) (n : Records) (end : Ending)
     → AreAllRead work (base ∷ rover ∷ nav ∷ []) → AreFilesOf (system_of o.system) work.text_of base rover nav b r n → EndsOnFiles answers o b r n end
-    → EndsOver work (base ∷ rover ∷ nav ∷ []) IsPairLine (SessionEnds answers work.text_of base rover nav o) end
+    → EndsOver work (session_command answers base rover nav o) end
 files_over work base rover nav answers o b r n end read are (inl answered) =
-    verdict_over work (base ∷ rover ∷ nav ∷ []) IsPairLine (SessionEnds answers work.text_of base rover nav o) end read answered.verdict
+    verdict_over work (session_command answers base rover nav o) end read answered.verdict
     (inl (record { base_file = b; rover_file = r; records = n; are = are; ends_so = inl answered }))
 files_over work base rover nav answers o b r n end read are (inr refused) =
     let status_is = ap (λ (e : Ending). e.status) refused.end_is in
@@ -47,11 +46,11 @@ files_over work base rover nav answers o b r n end read are (inr refused) =
 
 pub files_done : (work : FileWork) (base rover nav : List ℕ) (answers : SessionAnswers) (o : Options) (b r : ObsFile) (n : Records) (result : Result JobOutput JobStop)
     → OpensFirst (base ∷ rover ∷ nav ∷ []) work.openings work.left.openings → GivesFirst (base ∷ rover ∷ nav ∷ []) work.given work.left.given → AreAllRead work (base ∷ rover ∷ nav ∷ []) → AreFilesOf (system_of o.system) work.text_of base rover nav b r n
-    → IfEnded result (EndsOnFiles answers o b r n) → IsDoneOver work (base ∷ rover ∷ nav ∷ []) IsPairLine (SessionEnds answers work.text_of base rover nav o) result
+    → IfEnded result (EndsOnFiles answers o b r n) → IsDoneOver work (session_command answers base rover nav o) result
 files_done work base rover nav answers o b r n result opens gives read are ends = record {
   opened = opens;
   given = gives;
-  ended = ended_weaker result (EndsOnFiles answers o b r n) (EndsOver work (base ∷ rover ∷ nav ∷ []) IsPairLine (SessionEnds answers work.text_of base rover nav o))
+  ended = ended_weaker result (EndsOnFiles answers o b r n) (EndsOver work (session_command answers base rover nav o))
       (λ end so. files_over work base rover nav answers o b r n end read are so) ends;
 }
 
@@ -74,7 +73,7 @@ pub files_stop : (work : FileWork) (base rover nav : List ℕ) (answers : Sessio
     → GivesFirst (base ∷ rover ∷ nav ∷ []) work.given work.left.given
     → IfEnds why (StopsAtFiles (system_of o.system) work.text_of base rover nav) → IfEnds why (IsRefusalAmong work (base ∷ rover ∷ nav ∷ []))
     → IfEnds why (λ end. end.status ≡ ReadFault → Rose work.faults work.faults_now) → IfEnds why (IsFaultOf work (base ∷ rover ∷ nav ∷ []))
-    → IsDoneOver work (base ∷ rover ∷ nav ∷ []) IsPairLine (SessionEnds answers work.text_of base rover nav o) (Err why)
+    → IsDoneOver work (session_command answers base rover nav o) (Err why)
 files_stop work base rover nav answers o (stop.Ended a) opens gives stops refused rose named = record {
   opened = opens;
   given = gives;

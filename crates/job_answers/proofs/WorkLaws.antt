@@ -14,8 +14,9 @@ use Rattle.job_answers.specs.Statuses.{IsVerdictStatus}
 use Rattle.job_answers.specs.Answers.{ending_of, IfEnds, IfEnded}
 use Rattle.job_answers.specs.Texts.{read_fault_line}
 use Rattle.job_answers.specs.Endings.{Ending, IsTextOf, EndsUnloaded, IsRefusedFile, IsRefusalOf}
-use Rattle.job_answers.specs.Works.{FileWork, AreOpened, AreGivenWhole, AreAllRead, RefusesOne, IsFaultOf, NoLine, EndsOver, IsDoneOver}
-use Rattle.job_answers.specs.TextJobs.{TextJob, EndsOnText, TextEnds}
+use Rattle.job_answers.specs.Commands.{Command}
+use Rattle.job_answers.specs.Works.{FileWork, AreOpened, AreGivenWhole, AreAllRead, RefusesOne, IsFaultOf, EndsOver, IsDoneOver}
+use Rattle.job_answers.specs.TextJobs.{TextJob, EndsOnText, text_command}
 use Rattle.job_answers.proofs.EndingLaws.{ended_weaker, read_whole}
 use Rattle.job_answers.proofs.KnownLaws.{none_given, one_given, one_gives}
 
@@ -42,8 +43,8 @@ one_read work name opens read given = record { opened = one_more [] name work.op
 
 -- ---- how a job ends
 -- a verdict is neither a refusal nor a read fault
-pub verdict_over : (work : FileWork) (names : List (List ℕ)) (IsLine : List ℕ → Type 0) (ends : Ending → Type 0) (end : Ending) → AreAllRead work names → IsVerdictStatus end.status → ends end → EndsOver work names IsLine ends end
-verdict_over work names IsLine ends end read verdict so = record {
+pub verdict_over : (work : FileWork) (command : Command) (end : Ending) → AreAllRead work command.file_words → IsVerdictStatus end.status → command.Ends work.text_of end → EndsOver work command end
+verdict_over work command end read verdict so = record {
   ends_so = so;
   answered = λ is. read;
   refused = λ is. absurd (subst IsVerdictStatus is verdict);
@@ -65,9 +66,9 @@ only_refused work name end refused = record {
 
 -- a text of a file that was read to its end
 text_over : (work : FileWork) (name text : List ℕ) (job : TextJob) (end : Ending) → IsTextOf work.text_of name text → AreAllRead work (name ∷ []) → GivesWhole name text work.given work.left.given
-    → EndsOnText job name text end → EndsOver work (name ∷ []) NoLine (TextEnds job work.text_of name) end
+    → EndsOnText job name text end → EndsOver work (text_command job name) end
 text_over work name text job end is read given (inl answered) =
-    verdict_over work (name ∷ []) NoLine (TextEnds job work.text_of name) end read answered.verdict (inl (record { text = text; is = is; ends_so = inl answered }))
+    verdict_over work (text_command job name) end read answered.verdict (inl (record { text = text; is = is; ends_so = inl answered }))
 text_over work name text job end is read given (inr refused) =
     let status_is = ap (λ (e : Ending). e.status) refused.end_is in
     record {
@@ -79,11 +80,11 @@ text_over work name text job end is read given (inr refused) =
     }
 
 pub text_done : (work : FileWork) (name text : List ℕ) (job : TextJob) (r : Result JobOutput JobStop) → IsTextOf work.text_of name text → IsReadToEnd work.told work.left name
-    → OpensIt name work.openings work.left.openings → GivesWhole name text work.given work.left.given → IfEnded r (EndsOnText job name text) → IsDoneOver work (name ∷ []) NoLine (TextEnds job work.text_of name) r
+    → OpensIt name work.openings work.left.openings → GivesWhole name text work.given work.left.given → IfEnded r (EndsOnText job name text) → IsDoneOver work (text_command job name) r
 text_done work name text job r is read opens given ends = record {
   opened = one_first name [] work.openings work.left.openings opens;
   given = one_gives name text [] work.given work.left.given given;
-  ended = ended_weaker r (EndsOnText job name text) (EndsOver work (name ∷ []) NoLine (TextEnds job work.text_of name))
+  ended = ended_weaker r (EndsOnText job name text) (EndsOver work (text_command job name))
       (λ end so. text_over work name text job end is (one_read work name opens read (one_given name text work.given work.left.given given)) given so) ends;
 }
 
@@ -103,7 +104,7 @@ only_fault work name end opens line never = λ is. record {
 -- a file that can't be had
 unloaded_over : (work : FileWork) (name : List ℕ) (job : TextJob) (end : Ending) → OpensFirst (name ∷ []) work.openings work.left.openings → EndsUnloaded work.text_of name end
     → IsRefusalOf work.told work.given work.left name end
-    → (end.status ≡ ReadFault → Rose work.faults work.faults_now) → (work.sure name → end.status ≢ ReadFault) → EndsOver work (name ∷ []) NoLine (TextEnds job work.text_of name) end
+    → (end.status ≡ ReadFault → Rose work.faults work.faults_now) → (work.sure name → end.status ≢ ReadFault) → EndsOver work (text_command job name) end
 unloaded_over work name job end opens (inl large) refused rose never =
     let status_is = ap (λ (e : Ending). e.status) large.end_is in
     record {
@@ -126,6 +127,6 @@ unloaded_over work name job end opens (inr fault) refused rose never =
 pub stop_done : (work : FileWork) (name : List ℕ) (job : TextJob) (why : JobStop) → OpensFirst (name ∷ []) work.openings work.left.openings → GivesFirst (name ∷ []) work.given work.left.given → IfEnds why (EndsUnloaded work.text_of name)
     → IfEnds why (IsRefusalOf work.told work.given work.left name)
     → IfEnds why (λ end. end.status ≡ ReadFault → Rose work.faults work.faults_now) → (work.sure name → IfEnds why (λ end. end.status ≢ ReadFault))
-    → IsDoneOver work (name ∷ []) NoLine (TextEnds job work.text_of name) (Err why)
+    → IsDoneOver work (text_command job name) (Err why)
 stop_done work name job (stop.Ended a) opens gives ends refused rose never = record { opened = opens; given = gives; ended = unloaded_over work name job (ending_of a) opens ends refused rose never }
 stop_done work name job stop.NoMemory opens gives ends refused rose never = record { opened = opens; given = gives; ended = tt }

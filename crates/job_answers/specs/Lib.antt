@@ -3,11 +3,11 @@ pub mod Texts
 pub mod Endings
 pub mod Answers
 pub mod Delivered
+pub mod Commands
 pub mod Works
 pub mod TextJobs
 pub mod Formats
 pub mod Taking
 pub mod SessionFiles
 pub mod Refusals
-pub mod Admitted
 pub mod SessionJobs

@@ -1,19 +1,24 @@
 -- A job on the three files of a session: what it ends with by them.
-use Rattle.std.specs.Prelude.{◌≡◌, ◌⊎◌, ℕ, List, Result, Err}
+use Rattle.std.specs.Prelude.{◌≡◌, ◌⊎◌, ℕ, List, [], ◌∷◌, Result, Err}
 use Rattle.std.specs.declared.option.Option.{Option}
 use Rattle.std.specs.Io.KnownBytes.{Appends}
 use Rattle.obs_store.specs.declared.file.ObsFile.{ObsFile}
 use Rattle.eph_store.specs.File.{Records}
 use Rattle.rinex_head.specs.Systems.{system_of}
+use Rattle.rinex_nav.specs.NavForm.{HasNavFile}
 use Rattle.obs_rows.specs.declared.options.Options.{Options}
+use Rattle.obs_rows.specs.BandSets.{bands_of}
+use Rattle.epoch_pair.specs.Beginnings.{HasPosition, HaveSignals, AreSparse}
 use Rattle.epoch_pair.specs.declared.faults.PairWhat.{PairWhat}
 use Rattle.epoch_pair.specs.declared.faults.SessionFault.{SessionFault}
 use Rattle.epoch_pair.specs.declared.faults.SessionFault.TheVariants.{Refused}
 use Rattle.job_answers.specs.declared.status.Status.{Status}
 use Rattle.job_answers.specs.Statuses.{IsVerdictStatus}
-use Rattle.job_answers.specs.Endings.{Ending}
+use Rattle.job_answers.specs.Formats.{HasObservation}
+use Rattle.job_answers.specs.Endings.{Ending, IsAdmitted}
 use Rattle.job_answers.specs.Delivered.{SinkChange}
-use Rattle.job_answers.specs.SessionFiles.{AreFilesOf, EndsBySession}
+use Rattle.job_answers.specs.Commands.{Command}
+use Rattle.job_answers.specs.SessionFiles.{IsObsOf, AreFilesOf, EndsBySession}
 use Rattle.job_answers.specs.Refusals.{pair_line, IsPairRefused}
 
 -- what a command answers of a session's files, with these options
@@ -41,6 +46,15 @@ abbrev pub IfPairRefused : {X : Type 0} → Result X SessionFault → (PairWhat 
 IfPairRefused (Err (Refused what)) P = P what
 IfPairRefused _ P = Unit {0}
 
+-- all files are there and admitted, and the two aren't refused
+pub record AreAdmitted (text_of : List ℕ → Option (List ℕ)) (base rover nav : List ℕ) (o : Options) : Type 0 where
+  pub base_is : IsAdmitted text_of base (HasObservation (system_of o.system))
+  pub rover_is : IsAdmitted text_of rover (HasObservation (system_of o.system))
+  pub nav_is : IsAdmitted text_of nav (HasNavFile (system_of o.system))
+  pub position : (b : ObsFile) → IsObsOf (system_of o.system) text_of base b → HasPosition b
+  pub signals : (b r : ObsFile) → IsObsOf (system_of o.system) text_of base b → IsObsOf (system_of o.system) text_of rover r → HaveSignals (bands_of o.bands) b r
+  pub sparse : (b r : ObsFile) → IsObsOf (system_of o.system) text_of base b → IsObsOf (system_of o.system) text_of rover r → AreSparse o.gap b r
+
 -- what a run of it with status 0 or 1 says: out has gained its answer on the files
 pub record SaysOfSession (answers : SessionAnswers) (text_of : List ℕ → Option (List ℕ)) (base rover nav : List ℕ) (options : Options) (status : Status) (out : SinkChange) : Type 0 where
   pub base_file : ObsFile
@@ -51,3 +65,13 @@ pub record SaysOfSession (answers : SessionAnswers) (text_of : List ℕ → Opti
   pub answer : answers options base_file rover_file records end
   pub status_is : end.status ≡ status
   pub printed : Appends out.old out.new end.out
+
+-- The command on the files of these names. Observations may be in either format of RINEX, where the system has both.
+abbrev pub session_command : SessionAnswers → List ℕ → List ℕ → List ℕ → Options → Command
+session_command answers base rover nav options = record {
+  file_words = base ∷ rover ∷ nav ∷ [];
+  Ends = λ text_of. SessionEnds answers text_of base rover nav options;
+  IsLine = IsPairLine;
+  IsReadable = λ text_of. AreAdmitted text_of base rover nav options;
+  Says = λ text_of. SaysOfSession answers text_of base rover nav options;
+}

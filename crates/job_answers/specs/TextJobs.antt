@@ -1,5 +1,5 @@
 -- A job on one file: what it ends with by the file's text.
-use Rattle.std.specs.Prelude.{◌≡◌, ◌⊎◌, ℕ, ◌≤◌, List, [], length, Some, Result, Err}
+use Rattle.std.specs.Prelude.{◌≡◌, ◌⊎◌, ℕ, ◌≤◌, List, [], ◌∷◌, length, Some, Result, Err}
 use Rattle.std.specs.declared.option.Option.{Option}
 use Rattle.std.specs.Io.KnownBytes.{Appends}
 use Rattle.line_source.specs.Lines.{lines_of}
@@ -12,6 +12,7 @@ use Rattle.job_answers.specs.Statuses.{IsVerdictStatus}
 use Rattle.job_answers.specs.Texts.{refusal_line}
 use Rattle.job_answers.specs.Endings.{Ending, ending, IsTextOf, EndsByFile}
 use Rattle.job_answers.specs.Delivered.{SinkChange}
+use Rattle.job_answers.specs.Commands.{Command}
 
 -- Which texts it takes, at which place it refuses another one, and what it answers of one that it takes.
 pub record TextJob : Type 1 where
@@ -65,3 +66,13 @@ pub record SaysOfText (job : TextJob) (text_of : List ℕ → Option (List ℕ))
   pub answer : job.answers text end
   pub status_is : end.status ≡ status
   pub printed : Appends out.old out.new end.out
+
+-- the command on the file of that name: no line is about several files
+abbrev pub text_command : TextJob → List ℕ → Command
+text_command job name = record {
+  file_words = name ∷ [];
+  Ends = λ text_of. TextEnds job text_of name;
+  IsLine = λ line. ⊥;
+  IsReadable = λ text_of. IsTextAdmitted job text_of name;
+  Says = λ text_of. SaysOfText job text_of name;
+}

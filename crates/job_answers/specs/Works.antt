@@ -14,6 +14,7 @@ use Rattle.job_answers.specs.Statuses.{IsVerdictStatus}
 use Rattle.job_answers.specs.Answers.{IfEnded}
 use Rattle.job_answers.specs.Texts.{read_fault_line}
 use Rattle.job_answers.specs.Endings.{Ending, ending, IsRefusedFile}
+use Rattle.job_answers.specs.Commands.{Command}
 
 -- what holds whatever is known of the texts by what was told before and by what the calls between two states gave
 abbrev pub ForAllKnown : {F : Type 0} → Ghosts F → F → F → ((List ℕ → Option (List ℕ)) → Type 0) → Type 0
@@ -112,29 +113,25 @@ pub record RefusesOne (work : FileWork) (names : List (List ℕ)) (end : Ending)
 abbrev pub IsRefusalAmong : FileWork → List (List ℕ) → Ending → Type 0
 IsRefusalAmong work names end = end.status ≡ Refused → RefusesOne work names end
 
--- the job ends with a line about these files together, after each was read to its end
-pub record RefusesAll (work : FileWork) (names : List (List ℕ)) (IsLine : List ℕ → Type 0) (end : Ending) : Type 0 where
+-- the command ends with a line about its files together, after each was read to its end
+pub record RefusesAll (work : FileWork) (command : Command) (end : Ending) : Type 0 where
   pub line : List ℕ
-  pub is : IsLine line
+  pub is : command.IsLine line
   pub end_is : end ≡ ending Refused [] line
-  pub read : AreAllRead work names
+  pub read : AreAllRead work command.file_words
 
--- a line about the files together: of a job on one file there is none
-abbrev pub NoLine : List ℕ → Type 0
-NoLine line = ⊥
-
--- The job ends so. An answer comes after all files were opened and each was read to its end. A refusal is that of one of these files,
+-- The command ends so over its files. An answer comes after all files were opened and each was read to its end. A refusal is that of one of these files,
 -- each before it read to its end, and it too, or it is too large; or it is about them together, after each was read to its end. A read
 -- fault comes only where the count of faults rose, and names a file that isn't sure: the last that was opened, or the one after it.
-pub record EndsOver (work : FileWork) (names : List (List ℕ)) (IsLine : List ℕ → Type 0) (ends : Ending → Type 0) (end : Ending) : Type 0 where
-  pub ends_so : ends end
-  pub answered : IsVerdictStatus end.status → AreAllRead work names
-  pub refused : end.status ≡ Refused → RefusesOne work names end ⊎ RefusesAll work names IsLine end
+pub record EndsOver (work : FileWork) (command : Command) (end : Ending) : Type 0 where
+  pub ends_so : command.Ends work.text_of end
+  pub answered : IsVerdictStatus end.status → AreAllRead work command.file_words
+  pub refused : end.status ≡ Refused → RefusesOne work command.file_words end ⊎ RefusesAll work command end
   pub fault : end.status ≡ ReadFault → Rose work.faults work.faults_now
-  pub named : IsFaultOf work names end
+  pub named : IsFaultOf work command.file_words end
 
--- The files under a first part of the names were opened, each name once, and the job ends so, or ran out of memory.
-pub record IsDoneOver (work : FileWork) (names : List (List ℕ)) (IsLine : List ℕ → Type 0) (ends : Ending → Type 0) (result : Result JobOutput JobStop) : Type 0 where
-  pub opened : OpensFirst names work.openings work.left.openings
-  pub given : GivesFirst names work.given work.left.given
-  pub ended : IfEnded result (EndsOver work names IsLine ends)
+-- The files under a first part of the words were opened, each word once, and the command ends so, or ran out of memory.
+pub record IsDoneOver (work : FileWork) (command : Command) (result : Result JobOutput JobStop) : Type 0 where
+  pub opened : OpensFirst command.file_words work.openings work.left.openings
+  pub given : GivesFirst command.file_words work.given work.left.given
+  pub ended : IfEnded result (EndsOver work command)

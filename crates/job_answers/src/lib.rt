@@ -17,7 +17,8 @@
 //! files of which no session is made are refused with one line (`refused_pair`).
 //!
 //! *Commands.* A `TextCommand` says what it answers of one text, a `SessionCommand` of the three files; `answer_file` and
-//! `answer_session` read the files for it, and give its answer or the end at which the reading stopped.
+//! `answer_session` read the files for it, and give its answer or the end at which the reading stopped. What is said of either is
+//! one record (`Command`, made by `text_command` and `session_command`).
 //!
 //! *The end.* `JobOutput` is a status and two texts, of which that for out is empty unless the status is a verdict's, done or declined.
 //! `usage`, `refused`, `too_large` and `read_fault` give exactly their lines. `deliver` writes the two texts, out first: each whole,

@@ -1,10 +1,10 @@
 //! The commands on the three files of a session.
-ghost use Rattle.std.specs.Prelude.{[], ◌∷◌, IfOk};
+ghost use Rattle.std.specs.Prelude.{IfOk};
 ghost use Rattle.epoch_pair.specs.Beginnings.{IsSessionFault};
 ghost use Rattle.epoch_pair.specs.declared.faults.SessionFault.TheVariants as fault;
 ghost use Rattle.job_answers.specs.Answers.{ending_of, IfEnded};
-ghost use Rattle.job_answers.specs.Works.{known_between, file_work, IsDoneOver};
-ghost use Rattle.job_answers.specs.SessionJobs.{SessionAnswers, AreAnswered, EndsOnFiles, SessionEnds, IsPairLine, IfPairRefused};
+ghost use Rattle.job_answers.specs.Works.{file_work, IsDoneOver};
+ghost use Rattle.job_answers.specs.SessionJobs.{SessionAnswers, AreAnswered, EndsOnFiles, IfPairRefused, session_command};
 
 use crate::{JobOutput, JobStop, SessionFiles, read_session, refused_pair};
 use epoch_pair::SessionFault;
@@ -60,8 +60,7 @@ pub fn answer_session<C: SessionCommand, F: Files>(
     options: &Options,
 ) -> Result<JobOutput, JobStop>
     ensures { IsDoneOver (file_work F.Files files.old files.new)
-        (base.now ∷ rover.now ∷ nav.now ∷ []) IsPairLine (SessionEnds C.answers
-        (known_between F.Files files.old files.new) base.now rover.now nav.now options.now) result }
+        (session_command C.answers base.now rover.now nav.now options.now) result }
 {
     let system = System::of_letter(options.system);
     let read = read_session(alloc, files, system, base, rover, nav)?;

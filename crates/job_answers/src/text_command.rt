@@ -1,10 +1,10 @@
 //! The commands on one file.
-ghost use Rattle.std.specs.Prelude.{◌≤◌, [], ◌∷◌, length, IfOk};
+ghost use Rattle.std.specs.Prelude.{◌≤◌, length, IfOk};
 ghost use Rattle.line_source.specs.declared.transfer.TheConstants.{MAX_FILE};
 ghost use Rattle.rinex_head.specs.LineRules.{IfRefused};
 ghost use Rattle.job_answers.specs.Answers.{ending_of, IfEnded};
-ghost use Rattle.job_answers.specs.Works.{known_between, file_work, NoLine, IsDoneOver};
-ghost use Rattle.job_answers.specs.TextJobs.{TextJob, IsAnswered, IsRefusedAt, EndsOnText, TextEnds};
+ghost use Rattle.job_answers.specs.Works.{file_work, IsDoneOver};
+ghost use Rattle.job_answers.specs.TextJobs.{TextJob, IsAnswered, IsRefusedAt, EndsOnText, text_command};
 
 use crate::{JobOutput, JobStop, load_file, refused};
 use line_source::Files;
@@ -48,8 +48,8 @@ pub fn answer_file<C: TextCommand, F: Files>(
     command: &C,
     name: &str,
 ) -> Result<JobOutput, JobStop>
-    ensures { IsDoneOver (file_work F.Files files.old files.new) (name.now ∷ []) NoLine
-        (TextEnds (C.job command.now) (known_between F.Files files.old files.new) name.now) result }
+    ensures { IsDoneOver (file_work F.Files files.old files.new)
+        (text_command (C.job command.now) name.now) result }
 {
     let text = load_file(alloc, files, name)?;
     end_on_text(alloc, command, name, &text)

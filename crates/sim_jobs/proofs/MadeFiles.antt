@@ -35,7 +35,7 @@ use Rattle.obs_rows.specs.declared.defaults.TheConstants.{DEFAULT_GAP}
 use Rattle.epoch_pair.specs.Signals.{letter_on, letter_of, is_among, IsLetterFor}
 use Rattle.epoch_pair.specs.Beginnings.{HasPosition, HaveSignals, AreSparse}
 use Rattle.job_answers.specs.SessionFiles.{IsObsOf}
-use Rattle.job_answers.specs.Admitted.{AreAdmitted}
+use Rattle.job_answers.specs.SessionJobs.{AreAdmitted}
 use Rattle.job_answers.proofs.ReadingLaws.{text_told}
 use Rattle.sim_jobs.specs.SimRunJobs.{AreOptionsOn}
 

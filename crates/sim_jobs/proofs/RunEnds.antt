@@ -14,7 +14,7 @@ use Rattle.job_answers.specs.Endings.{Ending}
 use Rattle.job_answers.specs.Statuses.{verdict_status}
 use Rattle.job_answers.specs.SessionFiles.{AreFilesOf, StopsAtFiles}
 use Rattle.job_answers.proofs.FileLaws.{no_stop}
-use Rattle.job_answers.specs.Admitted.{AreAdmitted}
+use Rattle.job_answers.specs.SessionJobs.{AreAdmitted}
 use Rattle.job_answers.proofs.RefusalLaws.{never_refused}
 use Rattle.sim_jobs.specs.SimRunJobs.{AreMadeFiles, AreOptionsOn, SimRunEnd, SimRunEnds}
 

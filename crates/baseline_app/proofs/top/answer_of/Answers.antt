@@ -1,13 +1,12 @@
 use Rattle.std.proofs.Common.{rules, refl, inl, inr, subst}
 use Rattle.line_source.proofs.OpeningLaws.{none_first}
 use Rattle.job_answers.proofs.KnownLaws.{no_more_given}
-use Rattle.job_answers.specs.Works.{file_work}
+use Rattle.job_answers.specs.Works.{file_work, IsDoneOver}
 use Rattle.job_answers.proofs.EndingLaws.{ended_weaker}
 use Rattle.command_words.specs.declared.jobs.Job.{Job}
 use Rattle.command_words.specs.Words.{texts_of, IsJob}
 use Rattle.command_words.proofs.OneJob.{one_job}
 use Rattle.baseline_app.specs.Commands.{command_of}
-use Rattle.baseline_app.specs.Jobs.{IsCommandDone}
 use Rattle.baseline_app.proofs.top.answer_of.Goals as goal
 
 pub returns-in-Ok-clause-answer : goal.returns-in-Ok-clause-answer
@@ -17,7 +16,7 @@ returns-in-Ok-clause-answer g c =
 pub returns-in-Ok-clause-done : goal.returns-in-Ok-clause-done
 returns-in-Ok-clause-done g c = λ job asked.
     let work = file_work g.F.Files c.args.files.now c.do_job.new.files in
-    subst (λ (j : Job). IsCommandDone work (command_of j) c.do_job.result) (one_job (texts_of c.args.words.now) c.in-Ok.job job c.in-Ok.ensures.job asked)
+    subst (λ (j : Job). IsDoneOver work (command_of j) c.do_job.result) (one_job (texts_of c.args.words.now) c.in-Ok.job job c.in-Ok.ensures.job asked)
     c.do_job.ensures.done
 
 pub returns-in_ok-usage-in-Err-Usage-clause-answer : goal.returns-in_ok-usage-in-Err-Usage-clause-answer
