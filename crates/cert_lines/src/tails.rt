@@ -165,7 +165,8 @@ fn decision_text(fixed: bool) -> &'static [u8]
 
 /// Appends the last line after two vectors.
 pub fn push_decision_line(out: &mut Vec<u8>, fixed: bool) -> Result<(), AllocError>
-    ensures { OnOk result (out.new.items ≡ out.old.items ++ text_of_lines (decision_line fixed ∷ [])) }
+    ensures { OnOk result
+        (out.new.items ≡ out.old.items ++ text_of_lines (decision_line fixed ∷ [])) }
 {
     out.extend_from_slice(decision_text(fixed))?;
     out.push(b'\n')?;

@@ -150,7 +150,8 @@ pub fn next_values<G: Grammar>(lines: &mut Lines<'_>) -> Result<FormValues, At>
 
 /// The last line after two vectors: whether the integers are fixed.
 pub fn next_decision<G: Grammar>(lines: &mut Lines<'_>) -> Result<bool, At>
-    ensures reads { (s : G.State) (next : Bool → G.State) → TakesLine G.rules s decision_line_in next →
+    ensures reads { (s : G.State) (next : Bool → G.State) →
+        TakesLine G.rules s decision_line_in next →
         ReadsFree G.rules lines.old lines.new s next result }
     ensures took { IfOk result (λ fixed. lines.old.left ≡ decision_line fixed ∷ lines.new.left) }
 {

@@ -56,7 +56,8 @@ fn gauss(l: &MapTable, i: usize, k: i64, t: &mut [i64; MOST_INTEGERS]) -> bool
     requires k_size { unsigned_abs k ≤ 2 ^ 33 }
     requires l_size { (m : ℕ) → unsigned_abs (with_own (entry l.now) i m) ≤ 2 ^ 52 }
     requires t_size { (m : ℕ) → m < MOST_INTEGERS → unsigned_abs (item t.old m) < 2 ^ 62 }
-    ensures done { result ≡ true → IsGauss i k (with_own (entry l.now) i) (item t.old) (item t.new) }
+    ensures done { result ≡ true →
+        IsGauss i k (with_own (entry l.now) i) (item t.old) (item t.new) }
     ensures wide { result ≡ false → IsWideGauss i k (with_own (entry l.now) i) (item t.old) }
     ensures size { (m : ℕ) → m < MOST_INTEGERS → unsigned_abs (item t.new m) < 2 ^ 62 }
     ensures room { length t.new ≡ MOST_INTEGERS }

@@ -30,7 +30,8 @@ fn answer_file(alloc: Global, file: &ObsFile) -> Result<JobOutput, AllocError>
 /// What an observation file holds of GPS: its version, its epochs and its satellites.
 #[inline(never)]
 pub fn list<F: Files>(alloc: Global, files: &mut F, name: &str) -> Result<JobOutput, JobStop>
-    ensures { IsDoneOver (file_work F.Files files.old files.new) (text_command list_job name.now) result }
+    ensures { IsDoneOver (file_work F.Files files.old files.new)
+        (text_command list_job name.now) result }
 {
     let file = obs_file(alloc, files, System::Gps, name)?;
     Ok(answer_file(alloc, &file)?)

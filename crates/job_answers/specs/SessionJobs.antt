@@ -47,13 +47,13 @@ IfPairRefused (Err (Refused what)) P = P what
 IfPairRefused _ P = Unit {0}
 
 -- all files are there and admitted, and the two aren't refused
-pub record AreAdmitted (text_of : List ℕ → Option (List ℕ)) (base rover nav : List ℕ) (o : Options) : Type 0 where
-  pub base_is : IsAdmitted text_of base (HasObservation (system_of o.system))
-  pub rover_is : IsAdmitted text_of rover (HasObservation (system_of o.system))
-  pub nav_is : IsAdmitted text_of nav (HasNavFile (system_of o.system))
-  pub position : (b : ObsFile) → IsObsOf (system_of o.system) text_of base b → HasPosition b
-  pub signals : (b r : ObsFile) → IsObsOf (system_of o.system) text_of base b → IsObsOf (system_of o.system) text_of rover r → HaveSignals (bands_of o.bands) b r
-  pub sparse : (b r : ObsFile) → IsObsOf (system_of o.system) text_of base b → IsObsOf (system_of o.system) text_of rover r → AreSparse o.gap b r
+pub record AreAdmitted (text_of : List ℕ → Option (List ℕ)) (base rover nav : List ℕ) (options : Options) : Type 0 where
+  pub base_is : IsAdmitted text_of base (HasObservation (system_of options.system))
+  pub rover_is : IsAdmitted text_of rover (HasObservation (system_of options.system))
+  pub nav_is : IsAdmitted text_of nav (HasNavFile (system_of options.system))
+  pub position : (base_file : ObsFile) → IsObsOf (system_of options.system) text_of base base_file → HasPosition base_file
+  pub signals : (base_file rover_file : ObsFile) → IsObsOf (system_of options.system) text_of base base_file → IsObsOf (system_of options.system) text_of rover rover_file → HaveSignals (bands_of options.bands) base_file rover_file
+  pub sparse : (base_file rover_file : ObsFile) → IsObsOf (system_of options.system) text_of base base_file → IsObsOf (system_of options.system) text_of rover rover_file → AreSparse options.gap base_file rover_file
 
 -- what a run of it with status 0 or 1 says: out has gained its answer on the files
 pub record SaysOfSession (answers : SessionAnswers) (text_of : List ℕ → Option (List ℕ)) (base rover nav : List ℕ) (options : Options) (status : Status) (out : SinkChange) : Type 0 where

@@ -49,8 +49,8 @@ pub fn base_pseudorange_at(
     entry: &SvPair,
     base: &[i64; 3],
 ) -> Pseudorange
-    requires kept { (base_pseudorange : Pseudorange) → slice_get base_pseudoranges.now place ≡ Some base_pseudorange →
-        HoldsPseudoranges entry.now.base base.now base_pseudorange }
+    requires kept { (base_pseudorange : Pseudorange) → slice_get base_pseudoranges.now place
+        ≡ Some base_pseudorange → HoldsPseudoranges entry.now.base base.now base_pseudorange }
     requires base { IsReceiverPoint base.now }
     ensures { IsBasePseudorange entry.now base.now result }
 {
@@ -70,8 +70,10 @@ fn base_pseudoranges_of(
 ) -> Result<Vec<Pseudorange>, AllocError>
     requires point { IsReceiverPoint base.now }
     requires ranges { All (HoldsRange (place_at ranged.now)) boxes.now }
-    ensures base_pseudoranges { IfOk result (λ base_pseudoranges. AreBasePseudoranges boxes.now base.now base_pseudoranges.items) }
-    ensures each { IfOk result (λ base_pseudoranges. length base_pseudoranges.items ≡ length boxes.now) }
+    ensures base_pseudoranges { IfOk result (λ base_pseudoranges.
+        AreBasePseudoranges boxes.now base.now base_pseudoranges.items) }
+    ensures each { IfOk result (λ base_pseudoranges.
+        length base_pseudoranges.items ≡ length boxes.now) }
 {
     let mut base_pseudoranges = Vec::with_capacity(alloc, boxes.len())?;
     for place in 0..boxes.len() {
@@ -91,7 +93,8 @@ pub fn base_pseudoranges(
     requires { IsReceiverPoint base.now }
     ensures base_pseudoranges { IfOk result (λ base_pseudoranges.
         AreBasePseudoranges screened.now.boxes base.now base_pseudoranges.items) }
-    ensures each { IfOk result (λ base_pseudoranges. length base_pseudoranges.items ≡ length screened.now.boxes) }
+    ensures each { IfOk result (λ base_pseudoranges.
+        length base_pseudoranges.items ≡ length screened.now.boxes) }
 {
     let base_pseudoranges = base_pseudoranges_of(
         alloc,

@@ -41,8 +41,8 @@ pub fn first_seen_sat<'a>(from: &RowSource<'a>, pair: u32, likely: usize) -> See
 /// The group of a pair, from the entry of its first row's satellite.
 pub fn group_of(entry: &SeenSat<'_>) -> i64
     ensures near { (base point : List ℤ) → IsSeen entry.now base point → (b r : Sighting) →
-        AreSightings (seen_by entry.now.sv.now base point) b r →
-        IsWithinHalf (pos 1) (y_of L1_CODE (number_at entry.now.sv.now.observed L1_CODE) result (pos 0) b r) }
+        AreSightings (seen_by entry.now.sv.now base point) b r → IsWithinHalf (pos 1)
+        (y_of L1_CODE (number_at entry.now.sv.now.observed L1_CODE) result (pos 0) b r) }
     ensures allowed { (base point : List ℤ) → IsSeen entry.now base point → (scale : ℕ) →
         IsScale scale → IsAllowedGroup (seen_by entry.now.sv.now base point) scale
         (number_at entry.now.sv.now.observed L1_CODE) result }

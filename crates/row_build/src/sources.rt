@@ -34,6 +34,7 @@ pub struct RowSource<'a> {
     pub ghost few: { length arcs.now ≤ MOST_ARCS },
     pub ghost base_in: { IsReceiverPoint base.now },
     pub ghost point_in: { IsReceiverPoint point.now },
-    pub ghost base_pseudoranges_hold: { ∥ AreBasePseudoranges screened.now.boxes base.now base_pseudoranges.now ∥₁ },
+    pub ghost base_pseudoranges_hold: { ∥ AreBasePseudoranges screened.now.boxes base.now
+        base_pseudoranges.now ∥₁ },
     pub ghost sights_hold: { AreRoverSights screened.now.boxes point.now sights.now },
 }

@@ -35,10 +35,11 @@ pub struct Files {
 
 fn checked(rounds: FileRounds) -> Option<Files>
     requires cut { IsCutOf rounds.screened.used rounds.kept }
-    requires base_pseudoranges { AreBasePseudoranges rounds.screened.boxes rounds.position rounds.base_pseudoranges.items }
+    requires base_pseudoranges { AreBasePseudoranges rounds.screened.boxes rounds.position
+        rounds.base_pseudoranges.items }
     ensures cut { IfSome result (λ f. IsCutOf f.rounds.screened.used f.rounds.kept) }
-    ensures base_pseudoranges { IfSome result (λ f.
-        AreBasePseudoranges f.rounds.screened.boxes f.rounds.position f.rounds.base_pseudoranges.items) }
+    ensures base_pseudoranges { IfSome result (λ f. AreBasePseudoranges f.rounds.screened.boxes
+        f.rounds.position f.rounds.base_pseudoranges.items) }
 {
     if !are_arcs(rounds.kept.as_slice()) {
         return None;
@@ -124,7 +125,8 @@ fn simulated(alloc: Global, seed: u32, epochs: u32, sats: u32, options: &Options
 
 fn rounds_of(alloc: Global, texts: &Texts, options: &Options) -> Option<FileRounds>
     ensures cut { IfSome result (λ r. IsCutOf r.screened.used r.kept) }
-    ensures base_pseudoranges { IfSome result (λ r. AreBasePseudoranges r.screened.boxes r.position r.base_pseudoranges.items) }
+    ensures base_pseudoranges { IfSome result (λ r.
+        AreBasePseudoranges r.screened.boxes r.position r.base_pseudoranges.items) }
 {
     let Ok(begun) = session_start(alloc, &texts.base, &texts.rover, options) else {
         return None;
@@ -153,8 +155,8 @@ pub fn files_of(
     requires epochs { epochs ≤ 3600 }
     requires sats { sats ≤ 15 }
     ensures cut { IfSome result (λ f. IsCutOf f.rounds.screened.used f.rounds.kept) }
-    ensures base_pseudoranges { IfSome result (λ f.
-        AreBasePseudoranges f.rounds.screened.boxes f.rounds.position f.rounds.base_pseudoranges.items) }
+    ensures base_pseudoranges { IfSome result (λ f. AreBasePseudoranges f.rounds.screened.boxes
+        f.rounds.position f.rounds.base_pseudoranges.items) }
 {
     let texts = simulated(alloc, seed, epochs, sats, options)?;
     checked(rounds_of(alloc, &texts, options)?)
@@ -163,8 +165,8 @@ pub fn files_of(
 /// The kept arcs with the shifts of their first pairs.
 pub fn with_shifts(alloc: Global, files: &Files, point: &[i64; 3]) -> Result<Vec<Arc>, AllocError>
     requires cut { IsCutOf files.now.rounds.screened.used files.now.rounds.kept }
-    requires base_pseudoranges { AreBasePseudoranges files.now.rounds.screened.boxes files.now.rounds.position
-        files.now.rounds.base_pseudoranges.items }
+    requires base_pseudoranges { AreBasePseudoranges files.now.rounds.screened.boxes
+        files.now.rounds.position files.now.rounds.base_pseudoranges.items }
     requires point { IsReceiverPoint point.now }
     ensures { IfOk result (λ arcs. IsCutOf files.now.rounds.screened.used arcs.items) }
 {

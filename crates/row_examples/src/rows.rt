@@ -54,8 +54,8 @@ pub fn rows_of(
 /// The fine rows at a point, with the shifts of each arc's first pair.
 pub fn fine_rows(alloc: Global, files: &Files, point: &[i64; 3]) -> Option<Session>
     requires cut { IsCutOf files.now.rounds.screened.used files.now.rounds.kept }
-    requires base_pseudoranges { AreBasePseudoranges files.now.rounds.screened.boxes files.now.rounds.position
-        files.now.rounds.base_pseudoranges.items }
+    requires base_pseudoranges { AreBasePseudoranges files.now.rounds.screened.boxes
+        files.now.rounds.position files.now.rounds.base_pseudoranges.items }
     ensures fine { IfSome result (λ s. s.scale ≡ 0) }
     ensures cut { IfSome result (λ s. IsCutOf files.now.rounds.screened.used s.arcs) }
     ensures base { IfSome result (λ s. IsReceiverPoint s.base) }

@@ -331,8 +331,8 @@ fn session_fault(
 
 fn fine_fault(alloc: Global, files: &Files, want: &Expected) -> Option<&'static str>
     requires cut { IsCutOf files.now.rounds.screened.used files.now.rounds.kept }
-    requires base_pseudoranges { AreBasePseudoranges files.now.rounds.screened.boxes files.now.rounds.position
-        files.now.rounds.base_pseudoranges.items }
+    requires base_pseudoranges { AreBasePseudoranges files.now.rounds.screened.boxes
+        files.now.rounds.position files.now.rounds.base_pseudoranges.items }
 {
     let Some(session) = fine_rows(alloc, files, &want.point) else {
         return Some("no fine rows");
@@ -361,8 +361,8 @@ fn coarse_fault(alloc: Global, files: &Files, want: &Expected) -> Option<&'stati
 
 fn files_fault(alloc: Global, files: &Files, want: &Expected) -> Option<&'static str>
     requires cut { IsCutOf files.now.rounds.screened.used files.now.rounds.kept }
-    requires base_pseudoranges { AreBasePseudoranges files.now.rounds.screened.boxes files.now.rounds.position
-        files.now.rounds.base_pseudoranges.items }
+    requires base_pseudoranges { AreBasePseudoranges files.now.rounds.screened.boxes
+        files.now.rounds.position files.now.rounds.base_pseudoranges.items }
 {
     if files.rounds.position != want.base {
         return Some("the base");

@@ -48,8 +48,8 @@ impl<'a> Rounds for FileRun<'a> {
 
     ghost ready = { λ r. IsCutOf r.files.now.screened.used r.files.now.kept
         × (AreArcs r.files.now.kept × IsReceiverPoint r.files.now.position)
-        × (AreBasePseudoranges r.files.now.screened.boxes r.files.now.position r.files.now.base_pseudoranges.items
-        × IsSystem r.files.now.system)
+        × (AreBasePseudoranges r.files.now.screened.boxes r.files.now.position
+        r.files.now.base_pseudoranges.items × IsSystem r.files.now.system)
         × AreRoverSights r.files.now.screened.boxes r.kept.point r.kept.sights.items };
 
     ghost made = { λ r. r.made };

@@ -37,7 +37,8 @@ pub fn screened(
     ensures screened { IfOk result (AreScreened base.now rover.now nav.now options.now
         begun.now.position begun.now.signals begun.now.taken.items) }
     ensures cut { IfOk result (λ f. IsCutOf f.screened.used f.kept) }
-    ensures base_pseudoranges { IfOk result (λ f. AreBasePseudoranges f.screened.boxes f.position f.base_pseudoranges.items) }
+    ensures base_pseudoranges { IfOk result (λ f.
+        AreBasePseudoranges f.screened.boxes f.position f.base_pseudoranges.items) }
 {
     let cut = screened_arcs(alloc, base, rover, nav, begun, options)?;
     let base_pseudoranges = base_pseudoranges(alloc, &cut.screened, &begun.position)?;

@@ -83,7 +83,8 @@ impl<const K: u32, const SIZE: u64, const WIDTH: u64> SizedBox<K, SIZE, WIDTH> {
         requires coarser { TO ≤ K + A }
         requires size { SIZE * OTHER_SIZE ≤ TO_SIZE * 2 ^ (K + A - TO) }
         requires limit { TO_SIZE ≤ 2 ^ 62 }
-        requires width { SIZE * OTHER_WIDTH + OTHER_SIZE * WIDTH + 2 * 2 ^ (K + A - TO) ≤ (TO_WIDTH + 1) * 2 ^ (K + A - TO) }
+        requires width { SIZE * OTHER_WIDTH + OTHER_SIZE * WIDTH + 2 * 2 ^ (K + A - TO)
+            ≤ (TO_WIDTH + 1) * 2 ^ (K + A - TO) }
         ensures holds { (x y : Rational) →
             Holds self.now.held x → Holds other.now.held y → Holds result.held (x *ʳ y) }
     {
@@ -98,7 +99,8 @@ impl<const K: u32, const SIZE: u64, const WIDTH: u64> SizedBox<K, SIZE, WIDTH> {
         requires coarser { TO ≤ K + K }
         requires size { SIZE * SIZE ≤ TO_SIZE * 2 ^ (K + K - TO) }
         requires limit { TO_SIZE ≤ 2 ^ 62 }
-        requires width { 2 * SIZE * WIDTH + 2 * 2 ^ (K + K - TO) ≤ (TO_WIDTH + 1) * 2 ^ (K + K - TO) }
+        requires width { 2 * SIZE * WIDTH + 2 * 2 ^ (K + K - TO)
+            ≤ (TO_WIDTH + 1) * 2 ^ (K + K - TO) }
         ensures holds { (x : Rational) → Holds self.now.held x → Holds result.held (x *ʳ x) }
     {
         SizedBox::new(self.held.square_of::<TO>())
@@ -121,7 +123,8 @@ impl<const K: u32, const SIZE: u64, const WIDTH: u64> SizedBox<K, SIZE, WIDTH> {
         requires least { pos LEAST ≤ℤ other.now.held.lo }
         requires size { SIZE * 2 ^ (TO + A - K) ≤ TO_SIZE * LEAST }
         requires limit { TO_SIZE ≤ 2 ^ 62 }
-        requires width { 2 ^ (TO + A - K) * WIDTH + TO_SIZE * OTHER_WIDTH + 2 * LEAST ≤ (TO_WIDTH + 1) * LEAST }
+        requires width { 2 ^ (TO + A - K) * WIDTH + TO_SIZE * OTHER_WIDTH + 2 * LEAST
+            ≤ (TO_WIDTH + 1) * LEAST }
         ensures holds { (x y z : Rational) →
             Holds self.now.held x → Holds other.now.held y → z *ʳ y ≈ x → Holds result.held z }
     {

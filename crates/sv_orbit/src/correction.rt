@@ -131,8 +131,10 @@ fn offset_of(
     requires near { abs_diff tag.0 made.now.eph.toe.0 ≤ 72010000000 }
     requires code_low { pos 0 ≤ℤ code }
     requires code_high { code ≤ℤ pos (10 ^ 11) }
-    requires sent { Holds sent.now.held (per_ten_thousand (sent_at tag.0 code -ʳ seconds made.now.eph.toe.0)) }
-    ensures { Holds result.held (per_ten_thousand (sent_at tag.0 code -ʳ seconds made.now.eph.toc.0)) }
+    requires sent { Holds sent.now.held
+        (per_ten_thousand (sent_at tag.0 code -ʳ seconds made.now.eph.toe.0)) }
+    ensures { Holds result.held
+        (per_ten_thousand (sent_at tag.0 code -ʳ seconds made.now.eph.toc.0)) }
 {
     if made.eph.toc.0 == made.eph.toe.0 {
         sent.loose()

@@ -65,8 +65,8 @@ pub fn pair_vector_bound(
     requires entries { length z.now ≡ integer_count arcs.now (fine_signals signals) }
     requires z_size { All (IsBelow (2 ^ 30)) z.now }
     requires moved_size { All (IsBelow (2 ^ 46)) moved.now }
-    ensures near { IfSome result (λ y.
-        KeepsPairNear arcs.now (fine_signals signals) pair.now z.now moved.now (hundredths_of_mm y)) }
+    ensures near { IfSome result (λ y. KeepsPairNear arcs.now
+        (fine_signals signals) pair.now z.now moved.now (hundredths_of_mm y)) }
     ensures value { IfSome result
         (IsRoundedPairBound arcs.now (fine_signals signals) pair.now z.now moved.now) }
     ensures size { IfSome result (λ y. unsigned_abs y ≤ 2 ^ 60) }
