@@ -14,8 +14,8 @@ const LAST_SHORT: u64 = 900_000_000_000_000_000;
 // How many bytes after a number's first digit are read with no look at where the text ends, if it is far enough.
 const MOST_AHEAD: usize = 7;
 
-/// The numbers at the head of a text, by their count and each after one blank, with 0 after them in the array; and the text
-/// after them.
+/// The numbers at the head of a text, by their count and each after one blank, at the head of an array; and the text after
+/// them.
 #[inline(always)]
 pub fn leading_numbers<const N: usize>(text: &[u8], count: usize) -> Option<([i64; N], &[u8])>
     requires { count ≤ N }
