@@ -1,5 +1,5 @@
 -- What is reported of the file that was opened last, whose id is 0.
-use Rattle.std.specs.Prelude.{ℕ, zero, suc, List, [], None, Some, ⊤}
+use Rattle.std.specs.Prelude.{ℕ, zero, suc, List, [], None, Some}
 use Rattle.std.specs.declared.option.Option.{Option}
 use Rattle.line_source.specs.declared.host.LastFile.{LastFile}
 use Rattle.line_source.specs.declared.host.LastFile.TheVariants as last
@@ -13,7 +13,3 @@ abbrev pub unread_of : {F : Type 0} → (F → Option (List ℕ)) → LastFile F
 unread_of remaining last.None = None
 unread_of remaining (last.Open file) = remaining file
 unread_of remaining last.Ended = Some []
-
-abbrev pub IsOpen : {F : Type 0} → LastFile F → Type 0
-IsOpen (last.Open file) = ⊤
-IsOpen _ = ⊥
