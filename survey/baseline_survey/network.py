@@ -182,7 +182,7 @@ def _blocks(factor: SuperLU, lines: Sequence[Line], column: Mapping[str, int]) -
         part = factor.solve(unit)
         for at in range(low, high, 3):
             for other in wanted[at]:
-                blocks[other, at] = part[other:other + 3, at - low:at - low + 3]
+                blocks[other, at] = part[other:other + 3, at - low:at - low + 3].copy()  # a view would keep all of `part`
     return blocks
 
 

@@ -3,6 +3,7 @@ import json
 import os
 import shlex
 import time
+import tracemalloc
 from datetime import datetime, timedelta
 from xml.etree import ElementTree
 
@@ -384,6 +385,19 @@ def test_a_thousand_lines():
     assert time.process_time() - begin < 8 and len(done.residuals) == 1000
     error = [np.linalg.norm(done.places[name] - places[name]) for name in done.stations]
     assert max(error) < 0.02
+
+
+def test_memory_follows_the_lines():
+    """Of the inverse of the normal matrix nothing is kept but the blocks: the whole of it grows with the square of the stations, as
+    7 GB of a chain of 10,000."""
+    places, observed = some_network(4, 700, 720)
+    tracemalloc.start()
+    try:
+        done = network.adjust(observed, {"P0": places["P0"]})
+        kept, _ = tracemalloc.get_traced_memory()
+    finally:
+        tracemalloc.stop()
+    assert len(done.blocks) == 699 and kept < 8_000_000  # the whole inverse has 35 MB
 
 
 def test_many_lines_are_read_by_several_processes(triangle):
