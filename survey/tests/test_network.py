@@ -376,6 +376,12 @@ def test_bad_input(triangle):
     refused(run("network", triangle / "LIST", "--scale", "0"), "--scale")
     assert not (triangle / "x.xml").exists()
 
+def test_both_exports_or_none(triangle):
+    more = ("--no-troposphere", "--gama", triangle / "x.xml", "--sinex")
+    refused(run("network", triangle / "LIST", *HOLD, *more, triangle / "none" / "x.snx"), "none/x.snx")
+    assert not (triangle / "x.xml").exists()
+    assert run("network", triangle / "LIST", *HOLD, *more, triangle / "x.snx").returncode == 0 and (triangle / "x.xml").exists()
+
 
 def test_a_thousand_lines():
     """The adjustment alone takes a small part of the ten seconds; bench/network_lines measures all of it."""

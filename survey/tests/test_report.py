@@ -198,7 +198,7 @@ def test_word_with_a_name(examples, tmp_path, no_pictures):
     assert told[0] == ["fix", "--mask", "300", "--", *map(str, names)] and told[1] == ["check", "--", "/dev/stdin"]
 
 
-def test_word_writes_nothing_where_it_can_not(examples, tmp_path):
+def test_word_writes_nothing_where_it_can_not(examples, tmp_path, no_pictures):
     names = [examples / name for name in NAMES[1:]]
     program = stand_in(tmp_path / "p", b"declined few 30\n", status=1)
     refused(run("report", tmp_path / "n", *names, "--program", program), "declined few 30")
@@ -210,6 +210,8 @@ def test_word_writes_nothing_where_it_can_not(examples, tmp_path):
     refused(run("report", tmp_path / "n", *names, "--mask", "17.5"), "0 to 900")
     for name in ("", f"{tmp_path}/", f"{tmp_path}/.", ".."):
         refused(run("report", name, *names, "--program", stand_in(tmp_path / "p")), "the name of a certificate", name)
+    program = stand_in(tmp_path / "p", (examples / NAMES[0]).read_bytes())
+    refused(run("report", tmp_path / "n", *names, "--program", program, "--output", tmp_path / "none" / "n.html"), "none/n.html")
     assert sorted(it.name for it in tmp_path.iterdir()) == ["p", "q"]
 
 

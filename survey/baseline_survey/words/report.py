@@ -70,10 +70,8 @@ def run(options: argparse.Namespace) -> Outcome:
         page_bytes = report.html(made)
     except SurveyError as why:
         raise named(why, cert_name) from None
-    if log is not None:
-        files.replace(cert_name, cert)
-        files.replace(options.certificate + ".log", log)
-    files.replace(page, page_bytes)
+    made_by_fix = [] if log is None else [(cert_name, cert), (options.certificate + ".log", log)]
+    files.replace_all([*made_by_fix, (page, page_bytes)])
     return Outcome("\n".join(text_of(made, page)), facts(made, page), int(made.looks))
 
 
