@@ -132,6 +132,32 @@ def test_sessions_and_loops():
     assert done.independent_redundancy == 3 and not done.sessions and not done.loops[0].is_one_session
 
 
+@seeded(40)
+def test_lines_that_follow_from_others(dice):
+    """By all earlier lines of the same time, one after the other."""
+    some = [line(*dice.sample("ABCDEF", 2), np.ones(3), hours=dice.choice((0, 0, 0, 0.1, 0.2, 0.5)), minutes=dice.choice((15, 15, 30, 0)))
+            for _ in range(dice.randrange(2, 15))]
+    some.sort(key=lambda it: it.first)
+    expected = []
+    for k, it in enumerate(some):
+        parts = loops.Parts()
+        for other in some[:k]:
+            if loops._overlap(other, it):
+                parts.join(other.start, other.end)
+        expected += [k] if parts.root(it.start) == parts.root(it.end) else []
+    assert loops._dependent(some, range(len(some))) == expected
+
+
+def test_many_lines_of_one_session(monkeypatch):
+    """Each line isn't compared with each other: of 10,000 that took minutes."""
+    places, observed = some_network(3, 400, 1200)
+    at_once = [line(it.start, it.end, it.vector) for it in observed]
+    calls, overlap = [], loops._overlap
+    monkeypatch.setattr(loops, "_overlap", lambda one, other: calls.append(1) or overlap(one, other))
+    (session,) = loops.sessions(at_once)
+    assert len(session.dependent) == 1200 - 399 and len(calls) < 4 * 1200
+
+
 def test_what_is_of_one_session():
     """A short session within a long one is of its time; one that only touches it isn't."""
     near = [line("A", "B", [1, 2, 3], minutes=60), line("A", "B", [1, 2, 3], hours=0.5, minutes=15),
