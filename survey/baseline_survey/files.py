@@ -54,22 +54,30 @@ def replace_all(outputs: Sequence[tuple[Name, bytes]]) -> None:
     parts: list[tuple[str, bytes, Optional[str]]] = []
     try:
         for name, data in ((os.fspath(name), data) for name, data in outputs):
-            try:
+            with _called(name):
                 parts.append((name, data, None if _is_special(name) else _written(name, data, None)))
-            except OSError as why:
-                raise OSError(why.errno, why.strerror, name) from None
         while parts:
             name, data, part = parts[0]
-            if part is None:
-                replace(name, data)
-            else:
-                _renamed(part, name)
+            with _called(name):
+                if part is None:
+                    replace(name, data)
+                else:
+                    _renamed(part, name)
             del parts[0]
     except BaseException:
         for _, _, part in parts:
             if part is not None:
                 _removed(part)
         raise
+
+
+@contextlib.contextmanager
+def _called(name: str) -> Iterator[None]:
+    """An OSError of a half-written file, which has a name of its own, as one of the name that the caller knows."""
+    try:
+        yield
+    except OSError as why:
+        raise OSError(why.errno, why.strerror, name) from None
 
 
 def _is_special(name: str) -> bool:
