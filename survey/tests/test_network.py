@@ -409,6 +409,17 @@ def test_both_exports_or_none(triangle):
     assert run("network", triangle / "LIST", *HOLD, *more, triangle / "x.snx").returncode == 0 and (triangle / "x.xml").exists()
 
 
+def test_a_long_chain():
+    """Of lines that nothing controls the places are the sums."""
+    dice = np.random.default_rng(8)
+    vectors = dice.normal(600, 400, (1500, 3))
+    roots = 0.002 * np.tril(dice.normal(0, 1, (1500, 3, 3))) + 0.001 * np.eye(3)
+    observed = [line(f"C{k:04}", f"C{k + 1:04}", vectors[k], roots[k] @ roots[k].T + 1e-7 * np.eye(3)) for k in range(1500)]
+    done = network.adjust(observed, {"C0000": np.array(BASE)})
+    sums = np.array(BASE) + np.cumsum(vectors, axis=0)
+    assert max(float(np.abs(done.places[f"C{k + 1:04}"] - sums[k]).max()) for k in range(1500)) < 1e-6
+
+
 def test_a_thousand_lines():
     """The adjustment alone takes a small part of the ten seconds; bench/network_lines measures all of it."""
     places, made = some_network(1, 400, 1000)
