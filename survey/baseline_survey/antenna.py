@@ -17,7 +17,7 @@ from __future__ import annotations
 import math
 import os
 import re
-from dataclasses import dataclass
+from dataclasses import dataclass, replace
 from typing import NoReturn, Optional, Union
 
 import numpy as np
@@ -25,8 +25,12 @@ import numpy as np
 from .errors import SurveyError
 from .packed import why_packed
 from .rinex_header import columns, label_of, lines_of, text_in
+from .text import visible
 
 MOST_BYTES = 268_435_456
+# No receiver's antenna has its phase centre further from the reference point, nor such a variation: metres that are written as
+# millimetres, or a digit too many.
+FARTHEST_M = 1.0
 NUMBER = re.compile(rb"[+-]?([0-9]+(\.[0-9]*)?|\.[0-9]+)")
 
 
@@ -52,23 +56,33 @@ class PhaseCentre:
 
 @dataclass(frozen=True)
 class Antenna:
-    """A receiver's antenna: its type with the radome in 20 columns, its grids in degrees, and its frequencies, as `G01`."""
+    """A receiver's antenna: its type with the radome in 20 columns, its grids in degrees, its frequencies, as `G01`, and the file that
+    it stands in."""
     kind: str
     serial: str
     zenith_deg: np.ndarray
     azimuth_deg: np.ndarray
     centres: dict[str, PhaseCentre]
+    file: str = ""
 
     def correction(self, frequency: str, elevation: np.ndarray, azimuth: np.ndarray) -> np.ndarray:
         """How much longer a phase on this frequency is than the distance to the reference point, in metres, for arrays of
         elevations and azimuths. AntexError where the frequency isn't calibrated."""
         if frequency not in self.centres:
-            raise AntexError(0, f"antenna {self.kind} has no frequency {frequency}")
+            raise AntexError(0, f"antenna {' '.join(self.kind.split())} has no frequency {frequency}", self.file)
         centre = self.centres[frequency]
         north, east, up = centre.offset_m
         level = np.cos(elevation)
         along = north * level * np.cos(azimuth) + east * level * np.sin(azimuth) + up * np.sin(elevation)
         return self.variation(centre, 90.0 - np.degrees(elevation), np.degrees(azimuth) % 360.0) - along
+
+    def is_like(self, other: "Antenna") -> bool:
+        """Whether both have the same grids and the same numbers for the same frequencies."""
+        def numbers(it: Antenna) -> list[tuple[str, list]]:
+            return [("", [it.zenith_deg.tolist(), it.azimuth_deg.tolist()]), *(
+                (name, [None if them is None else them.tolist() for them in (at.offset_m, at.noazi_m, at.azimuth_m)])
+                for name, at in sorted(it.centres.items()))]
+        return numbers(self) == numbers(other)
 
     def variation(self, centre: PhaseCentre, zenith_deg: np.ndarray, azimuth_deg: np.ndarray) -> np.ndarray:
         """The variation in metres, linear between the grid's points; past the grid's ends it is that of the end."""
@@ -100,14 +114,14 @@ def read_antex(source: Union[str, os.PathLike, bytes], name: str = "") -> tuple[
         with open(source, "rb") as file:
             source = file.read(MOST_BYTES + 1)
     try:
-        return tuple(_Reader(source).antennas())
+        return tuple(replace(it, file=name) for it in _Reader(source).antennas())
     except AntexError as why:
         raise AntexError(why.line, why.reason, name) from None
 
 
 def find_antenna(antennas: tuple[Antenna, ...], antenna: str, serial: str = "", name: str = "") -> Antenna:
     """The calibration for a header's antenna: that of its own serial number, else that of the type. The radome counts.
-    AntexError where there is none."""
+    AntexError where there is none, or where it stands there twice with other numbers."""
     kind = kind_of(antenna)
     if not antenna.strip():
         raise AntexError(0, "the header names no antenna", name)
@@ -117,7 +131,10 @@ def find_antenna(antennas: tuple[Antenna, ...], antenna: str, serial: str = "", 
         others = sorted({it.kind[16:] for it in antennas if it.kind[:16] == kind[:16]})
         more = f" (with the radome {', '.join(others)} alone)" if others else ""
         raise AntexError(0, f"no antenna {' '.join(kind.split())}{more}", name)
-    return own[-1]
+    if not all(it.is_like(own[0]) for it in own[1:]):
+        number = f" {own[0].serial}" if own[0].serial else ""
+        raise AntexError(0, f"antenna {' '.join(kind.split())}{number} stands there {len(own)} times, with other numbers", name)
+    return own[0]
 
 
 class _Reader:
@@ -153,6 +170,10 @@ class _Reader:
         zenith, step, centres, is_satellite = (0.0, 90.0, 5.0), 0.0, {}, False
         while label_of(line := self.next()) != b"END OF ANTENNA":
             label = label_of(line)
+            if label == b"START OF ANTENNA":
+                self.refuse("an antenna starts in an antenna: END OF ANTENNA is missing")
+            if centres and label in (b"TYPE / SERIAL NO", b"DAZI", b"ZEN1 / ZEN2 / DZEN"):
+                self.refuse(f"{label.decode('ascii')} after a frequency")
             if label == b"TYPE / SERIAL NO":
                 kind, serial = columns(line, 1, 20).decode("latin-1"), text_in(line, 21, 40)
                 is_satellite = bool(columns(line, 41, 50).strip(b" "))
@@ -163,7 +184,9 @@ class _Reader:
                 zenith = (first, last, each)
             elif label == b"START OF FREQUENCY":
                 name = text_in(line, 4, 6)
-                centres[name] = self.frequency(self.grid(*zenith), step)
+                if name in centres:
+                    self.refuse(f"a second frequency {visible(name)}")
+                centres[name] = self.frequency(self.grid(*zenith), step, FARTHEST_M if not is_satellite else math.inf)
         grid = self.grid(*zenith)
         azimuths = np.arange(0.0, 360.0 + step / 2, step) if step > 0 else np.array([0.0, 360.0])
         return None if is_satellite else Antenna(kind_of(kind), serial, grid, azimuths, centres)
@@ -180,25 +203,32 @@ class _Reader:
             self.refuse("no grid of zenith angles")
         return first + step * np.arange(round(count) + 1)
 
-    def frequency(self, grid: np.ndarray, step: float) -> PhaseCentre:
-        """The offset and the variations of one frequency."""
+    def frequency(self, grid: np.ndarray, step: float, farthest_m: float) -> PhaseCentre:
+        """The offset and the variations of one frequency, none of them over a length."""
         if step < 0 or step > 0 and not math.isclose(360 / step, round(360 / step), abs_tol=1e-6):
             self.refuse("no grid of azimuths")
         offset = noazi = None
         rows: list[np.ndarray] = []
         while label_of(line := self.next()) != b"END OF FREQUENCY":
             if label_of(line) == b"NORTH / EAST / UP":
-                offset = np.array([self.number(columns(line, *it)) for it in ((1, 10), (11, 20), (21, 30))]) / 1000
+                offset = self.lengths(line, [(1, 10), (11, 20), (21, 30)], farthest_m)
             elif columns(line, 1, 8).strip(b" ") == b"NOAZI":
-                noazi = self.values(line, len(grid))
+                noazi = self.values(line, len(grid), farthest_m)
             elif label_of(line) != b"COMMENT":
                 if step == 0 or abs(self.number(columns(line, 1, 8)) - step * len(rows)) > 0.01:
                     self.refuse("no such azimuth")
-                rows.append(self.values(line, len(grid)))
+                rows.append(self.values(line, len(grid), farthest_m))
         if offset is None or noazi is None or rows and len(rows) != round(360 / step) + 1:
             self.refuse("the frequency isn't complete")
         return PhaseCentre(offset, noazi, np.array(rows) if rows else None)
 
-    def values(self, line: bytes, count: int) -> np.ndarray:
+    def values(self, line: bytes, count: int, farthest_m: float) -> np.ndarray:
         """A value for each zenith angle, 8 columns each from column 9 on."""
-        return np.array([self.number(columns(line, 9 + 8 * k, 16 + 8 * k)) for k in range(count)]) / 1000
+        return self.lengths(line, [(9 + 8 * k, 16 + 8 * k) for k in range(count)], farthest_m)
+
+    def lengths(self, line: bytes, places: list[tuple[int, int]], farthest_m: float) -> np.ndarray:
+        """The numbers in these columns, millimetres as metres."""
+        found = np.array([self.number(columns(line, *it)) for it in places]) / 1000
+        if np.any(np.abs(found) > farthest_m):
+            self.refuse(f"over {1000 * farthest_m:.0f} mm: {1000 * float(np.max(np.abs(found))):g}")
+        return found

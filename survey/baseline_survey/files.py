@@ -7,7 +7,7 @@ import fcntl
 import os
 import stat
 import tempfile
-from typing import BinaryIO, Iterator, Optional, Union
+from typing import BinaryIO, Iterator, Optional, Sequence, Union
 
 from .certificate import MOST_BYTES
 from .errors import SurveyError
@@ -48,6 +48,38 @@ def replace(name: Name, data: bytes, part: Optional[Name] = None) -> None:
         raise OSError(why.errno, why.strerror, name if part is None else why.filename or name) from None
 
 
+def replace_all(outputs: Sequence[tuple[Name, bytes]]) -> None:
+    """The same of several files, all or none: no name changes before all of them are written whole beside their places. OSError names
+    the one that can't be written."""
+    parts: list[tuple[str, bytes, Optional[str]]] = []
+    try:
+        for name, data in ((os.fspath(name), data) for name, data in outputs):
+            with _called(name):
+                parts.append((name, data, None if _is_special(name) else _written(name, data, None)))
+        while parts:
+            name, data, part = parts[0]
+            with _called(name):
+                if part is None:
+                    replace(name, data)
+                else:
+                    _renamed(part, name)
+            del parts[0]
+    except BaseException:
+        for _, _, part in parts:
+            if part is not None:
+                _removed(part)
+        raise
+
+
+@contextlib.contextmanager
+def _called(name: str) -> Iterator[None]:
+    """An OSError of a half-written file, which has a name of its own, as one of the name that the caller knows."""
+    try:
+        yield
+    except OSError as why:
+        raise OSError(why.errno, why.strerror, name) from None
+
+
 def _is_special(name: str) -> bool:
     """Whether a device or a pipe has this name, as /dev/null or /dev/stdout: it is written to, and no file takes its place."""
     try:
@@ -60,6 +92,16 @@ def _is_special(name: str) -> bool:
 
 
 def _replace(name: str, data: bytes, part: Optional[Name]) -> None:
+    written = _written(name, data, part)
+    try:
+        _renamed(written, name)
+    except BaseException:
+        _removed(written)
+        raise
+
+
+def _written(name: str, data: bytes, part: Optional[Name]) -> str:
+    """Writes these bytes beside a file and flushes them to the disk; the name of what was written."""
     folder = os.path.dirname(os.path.abspath(name))
     if part is None:
         handle, written = tempfile.mkstemp(dir=folder, prefix=".baseline-survey-", suffix=".part")
@@ -72,12 +114,20 @@ def _replace(name: str, data: bytes, part: Optional[Name]) -> None:
             file.flush()
             os.fchmod(file.fileno(), _mode(name))
             os.fsync(file.fileno())
-        os.replace(written, name)
     except BaseException:
-        with contextlib.suppress(OSError):
-            os.unlink(written)
+        _removed(written)
         raise
-    _sync_folder(folder)
+    return written
+
+
+def _renamed(written: str, name: str) -> None:
+    os.replace(written, name)
+    _sync_folder(os.path.dirname(os.path.abspath(name)))
+
+
+def _removed(written: str) -> None:
+    with contextlib.suppress(OSError):
+        os.unlink(written)
 
 
 def _mode(name: str) -> int:

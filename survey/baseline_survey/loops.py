@@ -9,7 +9,7 @@ from __future__ import annotations
 
 from collections import deque
 from dataclasses import dataclass
-from datetime import datetime
+from datetime import datetime, timedelta
 from typing import Iterable, Mapping, Sequence
 
 import numpy as np
@@ -163,13 +163,25 @@ def _session(lines: Sequence[Line], part: Sequence[int]) -> Session:
 
 def _dependent(lines: Sequence[Line], part: Sequence[int]) -> list[int]:
     """The lines, in the order of their begins, whose ends earlier lines of their own time join already. A long line gathers
-    short ones that don't overlap with each other; these don't follow from each other."""
-    found = []
+    short ones that don't overlap with each other; these don't follow from each other. Only where earlier lines join the ends, and
+    some of them may be of another time, does it take a look at each."""
+    found, parts, first, last = [], Parts(), lines[part[0]].first, lines[part[0]].last  # first to last is common to the earlier ones
+    longest = timedelta(0)
     for at, k in enumerate(part):
-        parts = Parts()
-        for j in part[:at]:
-            if _overlap(lines[j], lines[k]):
-                parts.join(lines[j].start, lines[j].end)
-        if parts.root(lines[k].start) == parts.root(lines[k].end):
-            found.append(k)
+        line = lines[k]
+        longest = max(longest, line.last - line.first)
+        if parts.root(line.start) == parts.root(line.end):
+            is_one_time = 2 * (min(last, line.last) - max(first, line.first)) >= longest
+            if is_one_time or _joined([lines[j] for j in part[:at] if _overlap(lines[j], line)], line):
+                found.append(k)
+        parts.join(line.start, line.end)
+        first, last = max(first, line.first), min(last, line.last)
     return sorted(found)
+
+
+def _joined(others: Iterable[Line], line: Line) -> bool:
+    """Whether the ends of a line are joined by others."""
+    parts = Parts()
+    for it in others:
+        parts.join(it.start, it.end)
+    return parts.root(line.start) == parts.root(line.end)

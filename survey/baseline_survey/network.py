@@ -107,6 +107,8 @@ def adjust(lines: Sequence[Line], held: Mapping[str, Sequence[float]], full: boo
     design, wanted = _design(lines, fixed, column)
     factor = _factored((design.T @ design).tocsc())
     solution = factor.solve(design.T @ wanted)
+    # once more with what is left: the factor's rounding grows with the square of a chain's lines, 3 mm of 10,000
+    solution += factor.solve(design.T @ (wanted - design @ solution))
     places = {**fixed, **{name: solution[column[name]:column[name] + 3] for name in unknown}}
     blocks = _blocks(factor, lines, column)
     weighted = design @ solution - wanted
@@ -182,7 +184,7 @@ def _blocks(factor: SuperLU, lines: Sequence[Line], column: Mapping[str, int]) -
         part = factor.solve(unit)
         for at in range(low, high, 3):
             for other in wanted[at]:
-                blocks[other, at] = part[other:other + 3, at - low:at - low + 3]
+                blocks[other, at] = part[other:other + 3, at - low:at - low + 3].copy()  # a view would keep all of `part`
     return blocks
 
 

@@ -37,6 +37,7 @@ TEXT = antex(antenna(FLAT, frequency("G01", (1.0, 2.0, 90.0), (0, 5, 10)), frequ
              antenna(ROUGH, frequency("G01", (0, 0, 0), (0, 0, 0), ROWS), dazi=90.0),
              antenna(FLAT, frequency("G01", (0, 0, 50.0), (0, 0, 0)), serial="12345"),
              antenna("BLOCK IIA", frequency("G01", (279.0, 0, 2319.5), (0, 0, 0)), serial="G01", satellite="G032      1992-079A"))
+LAST_OF_G01 = line("   G01", "END OF FREQUENCY").encode()
 
 
 def at(antenna, name, elevation, azimuth):
@@ -76,6 +77,20 @@ def test_which_antenna():
         at(known[0], "E05", 45, 0)
 
 
+def test_the_file_of_a_missing_frequency():
+    flat = read_antex(TEXT, "some.atx")[0]
+    with pytest.raises(AntexError, match="^some.atx: antenna TRM29659.00 NONE has no frequency E05$"):
+        at(flat, "E05", 45, 0)
+
+
+def test_twice_the_same_antenna():
+    """The same numbers again are no fault; others are, since nothing says which count."""
+    first, other = antenna(FLAT, frequency("G01", (1, 2, 90), (0, 5, 10))), antenna(FLAT, frequency("G01", (1, 2, 91), (0, 5, 10)))
+    assert find_antenna(read_antex(antex(first, first)), FLAT).kind == FLAT
+    with pytest.raises(AntexError, match="^x.atx: antenna TRM29659.00 NONE stands there 2 times, with other numbers$"):
+        find_antenna(read_antex(antex(first, other)), FLAT, "", "x.atx")
+
+
 @pytest.mark.parametrize("text, reason", [
     (b"", "not ANTEX"), (antex(version="     1.2            M"), "not ANTEX"), (TEXT[:2000], ""),
     (TEXT[:TEXT.index(b"END OF ANTENNA") - 60], "ends in an antenna"),
@@ -85,7 +100,13 @@ def test_which_antenna():
     (TEXT.replace(b"     0.0  90.0  45.0", b"     0.0  90.0   0.0"), "grid"),
     (TEXT.replace(b"   270.0    0.00    7.00", b"   280.0    0.00    7.00"), "azimuth"),
     (TEXT.replace(b"\n    90.0    ", b"\n    77.0    "), "no grid of azimuths"),
-    (TEXT.replace(b"NORTH / EAST / UP", b"COMMENT          "), "complete")])
+    (TEXT.replace(b"NORTH / EAST / UP", b"COMMENT          "), "complete"),
+    (TEXT.replace(b"END OF ANTENNA", b"COMMENT       ", 2), "starts in an antenna"),
+    (TEXT.replace(LAST_OF_G01, LAST_OF_G01 + line("     0.0  90.0   5.0", "ZEN1 / ZEN2 / DZEN").encode(), 1),
+     "ZEN1 / ZEN2 / DZEN after a frequency"),
+    (TEXT.replace(b"G02", b"G01"), "a second frequency G01"),
+    (TEXT.replace(b"     90.00 ", b"   1000.01 "), "over 1000 mm: 1000.01"),
+    (TEXT.replace(b"   NOAZI    0.00    5.00", b"   NOAZI    0.00-5000.00"), "over 1000 mm: 5000")])
 def test_bad_files(text, reason):
     assert text != TEXT
     with pytest.raises(AntexError, match=reason) as found:

@@ -3,6 +3,7 @@ import json
 import os
 import shlex
 import time
+import tracemalloc
 from datetime import datetime, timedelta
 from xml.etree import ElementTree
 
@@ -129,6 +130,32 @@ def test_sessions_and_loops():
     days = [line(*ends, vector, hours=24 * k) for k, (ends, vector) in enumerate(wrong.items())]
     done = network.adjust(days, {"A": BASE})
     assert done.independent_redundancy == 3 and not done.sessions and not done.loops[0].is_one_session
+
+
+@seeded(40)
+def test_lines_that_follow_from_others(dice):
+    """By all earlier lines of the same time, one after the other."""
+    some = [line(*dice.sample("ABCDEF", 2), np.ones(3), hours=dice.choice((0, 0, 0, 0.1, 0.2, 0.5)), minutes=dice.choice((15, 15, 30, 0)))
+            for _ in range(dice.randrange(2, 15))]
+    some.sort(key=lambda it: it.first)
+    expected = []
+    for k, it in enumerate(some):
+        parts = loops.Parts()
+        for other in some[:k]:
+            if loops._overlap(other, it):
+                parts.join(other.start, other.end)
+        expected += [k] if parts.root(it.start) == parts.root(it.end) else []
+    assert loops._dependent(some, range(len(some))) == expected
+
+
+def test_many_lines_of_one_session(monkeypatch):
+    """Each line isn't compared with each other: of 10,000 that took minutes."""
+    places, observed = some_network(3, 400, 1200)
+    at_once = [line(it.start, it.end, it.vector) for it in observed]
+    calls, overlap = [], loops._overlap
+    monkeypatch.setattr(loops, "_overlap", lambda one, other: calls.append(1) or overlap(one, other))
+    (session,) = loops.sessions(at_once)
+    assert len(session.dependent) == 1200 - 399 and len(calls) < 4 * 1200
 
 
 def test_what_is_of_one_session():
@@ -375,6 +402,23 @@ def test_bad_input(triangle):
     refused(run("network", triangle / "LIST", "--scale", "0"), "--scale")
     assert not (triangle / "x.xml").exists()
 
+def test_both_exports_or_none(triangle):
+    more = ("--no-troposphere", "--gama", triangle / "x.xml", "--sinex")
+    refused(run("network", triangle / "LIST", *HOLD, *more, triangle / "none" / "x.snx"), "none/x.snx")
+    assert not (triangle / "x.xml").exists()
+    assert run("network", triangle / "LIST", *HOLD, *more, triangle / "x.snx").returncode == 0 and (triangle / "x.xml").exists()
+
+
+def test_a_long_chain():
+    """Of lines that nothing controls the places are the sums."""
+    dice = np.random.default_rng(8)
+    vectors = dice.normal(600, 400, (1500, 3))
+    roots = 0.002 * np.tril(dice.normal(0, 1, (1500, 3, 3))) + 0.001 * np.eye(3)
+    observed = [line(f"C{k:04}", f"C{k + 1:04}", vectors[k], roots[k] @ roots[k].T + 1e-7 * np.eye(3)) for k in range(1500)]
+    done = network.adjust(observed, {"C0000": np.array(BASE)})
+    sums = np.array(BASE) + np.cumsum(vectors, axis=0)
+    assert max(float(np.abs(done.places[f"C{k + 1:04}"] - sums[k]).max()) for k in range(1500)) < 1e-6
+
 
 def test_a_thousand_lines():
     """The adjustment alone takes a small part of the ten seconds; bench/network_lines measures all of it."""
@@ -384,6 +428,19 @@ def test_a_thousand_lines():
     assert time.process_time() - begin < 8 and len(done.residuals) == 1000
     error = [np.linalg.norm(done.places[name] - places[name]) for name in done.stations]
     assert max(error) < 0.02
+
+
+def test_memory_follows_the_lines():
+    """Of the inverse of the normal matrix nothing is kept but the blocks: the whole of it grows with the square of the stations, as
+    7 GB of a chain of 10,000."""
+    places, observed = some_network(4, 700, 720)
+    tracemalloc.start()
+    try:
+        done = network.adjust(observed, {"P0": places["P0"]})
+        kept, _ = tracemalloc.get_traced_memory()
+    finally:
+        tracemalloc.stop()
+    assert len(done.blocks) == 699 and kept < 8_000_000  # the whole inverse has 35 MB
 
 
 def test_many_lines_are_read_by_several_processes(triangle):

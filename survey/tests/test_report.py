@@ -1,8 +1,10 @@
 """The report: one page that stands alone, says what applies to its observation, and shows others' names as names."""
 import html.parser
 import json
+import os
 import re
 import shutil
+import threading
 from datetime import datetime
 
 import pytest
@@ -196,7 +198,7 @@ def test_word_with_a_name(examples, tmp_path, no_pictures):
     assert told[0] == ["fix", "--mask", "300", "--", *map(str, names)] and told[1] == ["check", "--", "/dev/stdin"]
 
 
-def test_word_writes_nothing_where_it_can_not(examples, tmp_path):
+def test_word_writes_nothing_where_it_can_not(examples, tmp_path, no_pictures):
     names = [examples / name for name in NAMES[1:]]
     program = stand_in(tmp_path / "p", b"declined few 30\n", status=1)
     refused(run("report", tmp_path / "n", *names, "--program", program), "declined few 30")
@@ -208,7 +210,20 @@ def test_word_writes_nothing_where_it_can_not(examples, tmp_path):
     refused(run("report", tmp_path / "n", *names, "--mask", "17.5"), "0 to 900")
     for name in ("", f"{tmp_path}/", f"{tmp_path}/.", ".."):
         refused(run("report", name, *names, "--program", stand_in(tmp_path / "p")), "the name of a certificate", name)
+    program = stand_in(tmp_path / "p", (examples / NAMES[0]).read_bytes())
+    refused(run("report", tmp_path / "n", *names, "--program", program, "--output", tmp_path / "none" / "n.html"), "none/n.html")
     assert sorted(it.name for it in tmp_path.iterdir()) == ["p", "q"]
+
+
+def test_a_pipe_where_fix_reads_too(examples, tmp_path, no_pictures):
+    """What is read here is gone when `fix` opens the pipe, and it would wait for ever."""
+    os.mkfifo(tmp_path / "pipe")
+    names = [examples / NAMES[1], tmp_path / "pipe", examples / NAMES[3]]
+    threading.Thread(target=(tmp_path / "pipe").write_bytes, args=((examples / NAMES[2]).read_bytes(),), daemon=True).start()
+    program = stand_in(tmp_path / "p", (examples / NAMES[0]).read_bytes())
+    refused(run("report", tmp_path / "n", *names, "--program", program), "pipe: no file")
+    refused(run("report", examples / NAMES[0], *names, "--program", program, "--verify", "--output", tmp_path / "n.html"), "pipe: no file")
+    assert (tmp_path / "pipe").read_bytes() and sorted(it.name for it in tmp_path.iterdir()) == ["p", "pipe"]
 
 
 def test_with_the_program(examples, program, tmp_path, no_pictures):

@@ -16,7 +16,7 @@ import functools
 import hashlib
 import os
 import shlex
-from typing import Any
+from typing import Any, Sequence
 
 from .. import files, orbits, program, report, verify
 from ..adjust import Settings
@@ -53,6 +53,8 @@ def run(options: argparse.Namespace) -> Outcome:
     is_certificate = os.path.exists(options.certificate) and not os.path.isdir(options.certificate)
     if not is_certificate and options.certificate.endswith(".cert"):
         raise FileNotFoundError(2, "No such file or directory", options.certificate)
+    if not is_certificate or options.verify or fix_options(options):
+        _refuse_pipes(observed)
     base, rover, navigation = (files.read(name) for name in observed)
     orbits.read_navigation(navigation, options.navigation)
     if is_certificate:
@@ -68,11 +70,16 @@ def run(options: argparse.Namespace) -> Outcome:
         page_bytes = report.html(made)
     except SurveyError as why:
         raise named(why, cert_name) from None
-    if log is not None:
-        files.replace(cert_name, cert)
-        files.replace(options.certificate + ".log", log)
-    files.replace(page, page_bytes)
+    made_by_fix = [] if log is None else [(cert_name, cert), (options.certificate + ".log", log)]
+    files.replace_all([*made_by_fix, (page, page_bytes)])
     return Outcome("\n".join(text_of(made, page)), facts(made, page), int(made.looks))
+
+
+def _refuse_pipes(names: Sequence[str]) -> None:
+    """`fix` opens the files that are read here once more, and would wait at a pipe for ever."""
+    for name in names:
+        if os.path.exists(name) and not os.path.isfile(name) and not os.path.isdir(name):
+            raise SurveyError(f"{name}: no file: a pipe can be read once, and `fix` reads it too")
 
 
 def _settings(options: argparse.Namespace, height_m: float, base: Header, rover: Header) -> Settings:
