@@ -292,10 +292,10 @@ def notes(cert: Certificate) -> List[str]:
     rows = [(f"pair {pair.number} arc {row.arc}: ", row) for pair in pairs for row in pair.rows]
     kinds = [
         list(misnamed(cert)),
-        [f"arc {at} is out of order" for at in range(1, len(arcs))
-         if (arcs[at - 1].first, arcs[at - 1].satellite) >= (arcs[at].first, arcs[at].satellite)],
+        [f"arc {at} is out of order" for at, (a, b) in enumerate(zip(arcs, arcs[1:]), 1) if (a.first, a.satellite) >= (b.first, b.satellite)],
         [f"pair {it.number} has a satellite twice" for it in pairs if len({arcs[row.arc].satellite for row in it.rows}) < len(it.rows)],
         [f"pair {one.number} isn't later than the pair before it" for one, last in zip(pairs[1:], pairs) if one.tag <= last.tag],
+        [f"pair {it.number} is later than 2099, the last year that is read" for it in pairs if it.tag >= 43825 * 864 * 10**9],
         [place + "the direction's length isn't one" for place, row in rows if not is_direction(row)],
         [place + "RY is over 470" for place, row in rows if row.radius > 470],
         [place + "R is over 32" for place, row in rows if max(row.direction_radius) > 32],

@@ -2,6 +2,7 @@
 from __future__ import annotations
 
 import functools
+import math
 import os
 import re
 from collections.abc import Callable, Iterator
@@ -9,6 +10,7 @@ from collections.abc import Callable, Iterator
 ROOT = os.path.dirname(os.path.dirname(os.path.realpath(__file__)))
 NUMBERS, SKY, TIMES = "crates/number_examples/src", "crates/sky_examples/src", "docs/log/times.md"
 RELEASED = "release/baseline-linux-x86_64"
+OPTIONS, LIMITS = "crates/command_words/src/options.rt", [f"crates/obs_rows/src/{it}.rt" for it in ("limits", "defaults", "units")]
 
 Numbers = list[int | float]
 
@@ -127,6 +129,55 @@ def logged_gates() -> Numbers:
                                   "two, of a busier host", "| a gate | two of four processors")]
 
 
+def valued(text: str) -> int:
+    """A whole number of a source in Rust, or that of a limit or default by its name."""
+    if text[0].isdigit():
+        return int(text.replace("_", ""))
+    path = next((it for it in LIMITS if f"const {text}:" in text_of(it)), LIMITS[0])
+    return constant(path, text)
+
+
+def constant(path: str, name: str) -> int:
+    """A constant of a source in Rust."""
+    return valued(*groups_of(path, rf"const {name}: \w+ = (\w+);"))
+
+
+def limits(option: str) -> Numbers:
+    """The least and the most value of an option of the program, and what it is where it isn't given."""
+    values = groups_of(OPTIONS, rf"const {option.upper()}: Limits = Limits {{\s*least: (\w+).*,\s*most: (\w+).*,\s*plain: (\w+)")
+    return [valued(it) for it in values]
+
+
+def statuses(*names: str) -> Numbers:
+    """The statuses of these ends of a job."""
+    return [int(groups_of("crates/job_answers/src/status.rt", rf"Status::{it} => (\d+)")[0]) for it in names]
+
+
+def file_limits() -> Numbers:
+    """The most MiB of a file, its epochs and its records."""
+    return [constant("crates/line_source/src/transfer.rt", "MAX_FILE") >> 20, constant("crates/obs_store/src/series.rt", "MOST"),
+            constant("crates/rinex_nav/src/record_lines.rt", "MOST")]
+
+
+def edge_of_mask() -> Numbers:
+    """How many micrometres a place is from another, at most, where each coordinate is within the mask's part of a metre."""
+    power, = groups_of("crates/signal_travel/specs/Boxes.antt", r"AreWithin \(two_to_minus (\d+)\) p.x q.x")
+    return [math.ceil(3**0.5 * 2.0**-int(power) * 1e6)]
+
+
+def unit() -> Numbers:
+    """The iota in millimetres."""
+    light, share = said("recipes/check_certificate.py", r"is the iota, (\d+) / (\d+) m\b")
+    return [round(1000 * light / share, 3)]
+
+
+def mask_angles() -> Numbers:
+    """The degrees of the mask 300 and of the one without an option."""
+    return [round(math.degrees(math.asin(it / 1000)), 1) for it in (300, valued("DEFAULT_MASK"))]
+
+
+ENDS = (r"\| (\d) \| yes: [^|]*\|\n\| (\d) \| no: [^|]*\|\n\| (\d) \| usage error;[^|]*\|\n\| (\d) \| a file is refused,[^|]*\|\n"
+        r"\| (\d), (\d) \| a file couldn't be read; an output couldn't be written \|\n\| (\d) \| out of memory \|")
 # A page, its words with a group for each number, and what gives the numbers; none, where they can't be had.
 COUNTED: list[tuple[str, str, Callable[[], Numbers]]] = [
     ("README.md", r"took (\d+) minutes, and on busy ones `rt ci` after it (\d+):.* took (\d+) to (\d+) minutes, and (\d+) for a whole gate",
@@ -136,6 +187,21 @@ COUNTED: list[tuple[str, str, Callable[[], Numbers]]] = [
     *((page, r"glibc (\d+)\.(\d+) or later", least_library) for page in ("README.md", "docs/GUIDE.md")),
     *((page, r"up to (\d+) km by night,? and (?:up to )?(\d+) km by day", reach)
       for page in ("README.md", "docs/FIXED.md", "docs/GUIDE.md", "docs/USE.md")),
+    *(("docs/FORMATS.md", rf"\| `--{it}` \| (\d+) to (\d+) \| (\d+) \|", functools.partial(limits, it))
+      for it in ("ratio", "budget", "mask", "gap", "jump", "arc", "step", "first", "count")),
+    ("docs/FORMATS.md", r"WORDS` \(status (\d)\), `read fault: NAME` \((\d)\), `write fault` \((\d)\) and `no memory` \((\d)\)",
+     lambda: statuses("Usage", "ReadFault", "WriteFault", "NoMemory")),
+    ("docs/GUIDE.md", ENDS, lambda: statuses("Done", "Declined", "Usage", "Refused", "ReadFault", "WriteFault", "NoMemory")),
+    ("docs/GUIDE.md", r"at most (\d+) MiB and ([\d,]+) epochs each, and ([\d,]+) navigation records", file_limits),
+    ("docs/GUIDE.md", r"At most (\d+) free arcs, (\d+) in all, ([\d,]+) pairs, and (\d+) satellites in a pair",
+     lambda: [valued(f"MOST_{it}") for it in ("FREE_ARCS", "ARCS", "PAIRS", "SATELLITES")]),
+    ("docs/GUIDE.md", r"Within (\d+) µm of the mask", edge_of_mask),
+    ("docs/GUIDE.md", r"The unit ι is (\d\.\d+) mm", unit),
+    ("docs/GUIDE.md", r"the elevation mask, (\d+\.\d)° in place of (\d+\.\d)°", mask_angles),
+    ("docs/GUIDE.md", r"RINEX (\d\.\d+) to (\d\.\d+) with GPS or Galileo",
+     lambda: said("docs/FORMATS.md", r"The versions (\d\.\d+) to (\d\.\d+) are read")),
+    ("docs/DEFINITIONS.md", r"of L1, L2 and L5 are exactly (\d+), (\d+) and (\d+)",
+     lambda: said("recipes/check_certificate.py", r"WAVELENGTHS = {1: (\d+), 2: (\d+), 5: (\d+)}")),
     ("docs/FIXED.md", r"the ratio \*reached\* \(here (\d+\.\d)\)", reached),
     ("docs/GUIDE.md", r"at least (\d+\.\d) times as bad", reached),
     ("docs/AUDIT.md", r"(\d+) angles and (\d+) solutions",

@@ -11,6 +11,8 @@ import {abs} from '../decide/whole.mjs';
 const MOST_Y_RADIUS = 470n, MOST_RADIUS = 32n;
 /** The last satellite of GPS, and the sets of bands and letters of Galileo (FORMATS, "Observation files"). */
 const LAST_OF_GPS = 32, OF_GALILEO = /^15 [CX] /;
+/** The first tick of the year 2100: no date that is read is so late (FORMATS, "Dates"). */
+const FIRST_OF_2100 = 43_825n * 864_000_000_000n;
 /** The square of a direction's length one, in its unit of 2^-24. */
 const UNIT_SQUARE = 1n << 48n;
 
@@ -20,7 +22,7 @@ const UNIT_SQUARE = 1n << 48n;
  * @returns {string[]}
  */
 export const notesOf = cert => [
-  misnamed(cert), outOfOrder(cert), seenTwice(cert), standingTags(cert),
+  misnamed(cert), outOfOrder(cert), seenTwice(cert), standingTags(cert), lateTags(cert),
   oddRows(cert, row => !isDirection(row), 'the direction\'s length isn\'t one'),
   oddRows(cert, row => row.yRadius > MOST_Y_RADIUS, `RY is over ${MOST_Y_RADIUS}`),
   oddRows(cert, row => row.radii.some(radius => radius > MOST_RADIUS), `R is over ${MOST_RADIUS}`),
@@ -76,6 +78,10 @@ const strangeSignals = ({system, bands, codes}) => {
 /** @param {Certificate} cert */
 const standingTags = ({pairs}) => pairs.flatMap(({number, tag}, k) =>
   (k > 0 && tag <= pairs[k - 1].tag ? [`pair ${number} isn't later than the pair before it`] : []));
+
+/** @param {Certificate} cert */
+const lateTags = ({pairs}) => pairs.flatMap(({number, tag}) =>
+  (tag >= FIRST_OF_2100 ? [`pair ${number} is later than 2099, the last year that is read`] : []));
 
 /**
  * @param {Certificate} cert

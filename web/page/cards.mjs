@@ -1,5 +1,5 @@
 // What the page shows of a certificate, card by card.
-import {asks, looks, notProved, proved} from './words.mjs';
+import {asks, duration, lastsOf, looks, notProved, proved} from './words.mjs';
 import {coloured, satellitesOf} from './satellites.mjs';
 import {element, shape} from './dom.mjs';
 import {placePicture, planPicture} from './track_pictures.mjs';
@@ -103,19 +103,13 @@ function ratioCard(session, isCertified) {
       + 'in their boxes the observations lie.'));
 }
 
-/** @param {number} seconds */
-function duration(seconds) {
-  if (seconds < 600) return `${seconds.toFixed(0)} s`;
-  return seconds < 10_800 ? `${(seconds / 60).toFixed(1)} minutes` : `${(seconds / 3600).toFixed(1)} hours`;
-}
-
 /** @param {Session} session */
-function sessionCard({begins, ends, sun, pairs, rows, system, bands, arcs, last}) {
+function sessionCard(session) {
+  const {begins, ends, sun, pairs, rows, system, bands, arcs, last} = session;
   const until = begins.day === ends.day ? ends.time : `${ends.day} ${ends.time}`;
-  const seconds = pairs.reduce((most, pair) => Math.max(most, pair.at), 0);
   const used = `${pairs.length} pairs of epochs, ${rows} rows of satellites`;
   const facts = table([['day', begins.day], ['GPS time', `${begins.time} to ${until}`],
-    ['solar time', `${sun.begins} to ${sun.ends} at the base (mean)`], ['lasts', duration(seconds)], ['used', used],
+    ['solar time', `${sun.begins} to ${sun.ends} at the base (mean)`], ['lasts', duration(lastsOf(session))], ['used', used],
     ['signals', `${system}: ${bands.join(', ')}`], ['last line', last], ['arcs', '']]);
   const names = arcs.map(arc => {
     const title = `pairs ${arc.first} to ${arc.last}, ${arc.isDatum ? 'datum' : 'free'}`;

@@ -31,13 +31,30 @@ function workerAddress() {
 }
 const address = workerAddress();
 
-/** @param {File} file */
-function check(file) {
+/**
+ * Checks what was chosen or dropped, where it is one file: of several the others would pass unseen.
+ * @param {FileList | null | undefined} files
+ */
+function take(files) {
+  if (!files?.length) return;
+  if (files.length === 1) return check(files[0]);
+  clear();
+  input.value = '';
+  say('look', 'More than one file: nothing was checked', `These are ${files.length} files. Choose or drop one at a time.`);
+}
+
+/** Takes the last answer away, and what is under way. */
+function clear() {
   stop();
-  hold(file);
   byId('answer').replaceChildren();
   document.title = TITLE;
   forgetPictures();
+}
+
+/** @param {File} file */
+function check(file) {
+  clear();
+  hold(file);
   worker = new Worker(address);
   began = Date.now();
   byId('busy').hidden = false;
@@ -128,10 +145,7 @@ function today() {
  * @type {File | undefined}
  */
 let last;
-input.addEventListener('change', () => {
-  const file = input.files?.[0];
-  if (file) check(file);
-});
+input.addEventListener('change', () => take(input.files));
 // a browser reports the choice of a file that the input holds already only where it is emptied first
 input.addEventListener('click', () => {
   last = input.files?.[0];
@@ -151,8 +165,7 @@ for (const kind of ['dragover', 'dragleave', 'drop']) {
   addEventListener(kind, event => {
     event.preventDefault();
     byId('drop').classList.toggle('over', kind === 'dragover');
-    const file = kind === 'drop' ? /** @type {DragEvent} */ (event).dataTransfer?.files[0] : undefined;
-    if (file) check(file);
+    if (kind === 'drop') take(/** @type {DragEvent} */ (event).dataTransfer?.files);
   });
 }
 addEventListener('beforeprint', () => toPaper(byId('page')));

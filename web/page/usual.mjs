@@ -13,6 +13,8 @@ export const NIGHT = {from: 22, to: 6};
 /** The greatest difference of height, in metres, and what a metre of it costs, in millimetres. */
 export const USUAL_HEIGHT = 30;
 export const HEIGHT_COST = 1;
+/** The longest session, in hours. */
+export const USUAL_HOURS = 24;
 /** The greatest residual of a phase, in millimetres. */
 export const USUAL_PHASE = 20;
 /** The greatest residual of a code, in metres. */

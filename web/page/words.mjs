@@ -1,5 +1,6 @@
 // What the page says of a verdict, for someone who gets a vector and wasn't there.
-import {BASE_ERROR, HEIGHT_COST, NIGHT, SCALE, USUAL_CODE, USUAL_HEIGHT, USUAL_LENGTH, USUAL_PHASE, USUAL_RATIO} from './usual.mjs';
+import {BASE_ERROR, HEIGHT_COST, NIGHT, SCALE} from './usual.mjs';
+import {USUAL_CODE, USUAL_HEIGHT, USUAL_HOURS, USUAL_LENGTH, USUAL_PHASE, USUAL_RATIO} from './usual.mjs';
 import {roundedDown, roundedUp} from './dom.mjs';
 
 /**
@@ -186,6 +187,19 @@ const worst = ({signals, residuals}, kind) => greatest(signals.flatMap((name, q)
 const distance = metres => (metres < 10_000 ? `${metres.toFixed(0)} m` : `${(metres / 1000).toFixed(1)} km`);
 
 /**
+ * The seconds from the first pair to the latest.
+ * @param {Session} session
+ */
+export const lastsOf = ({pairs}) => pairs.reduce((most, pair) => Math.max(most, pair.at), 0);
+
+/** @param {number} seconds */
+export function duration(seconds) {
+  if (seconds < 600) return `${seconds.toFixed(0)} s`;
+  if (seconds < 10_800) return `${(seconds / 60).toFixed(1)} minutes`;
+  return seconds < 259_200 ? `${(seconds / 3600).toFixed(1)} hours` : `${(seconds / 86_400).toFixed(0)} days`;
+}
+
+/**
  * What a person has to look at, what stands out first.
  * @param {Session} session
  * @returns {Look[]}
@@ -195,7 +209,7 @@ export function looks(session) {
   const length = greatest(places.map(place => place.length)), rise = greatest(places.map(place => place.rise));
   const part = sun.isNight ? 'night' : 'day', most = USUAL_LENGTH[part];
   const below = session.sky.flat().filter(row => row.elevation < 0).length;
-  const datums = session.arcs.filter(arc => arc.isDatum).length;
+  const datums = session.arcs.filter(arc => arc.isDatum).length, seconds = lastsOf(session);
   /** @type {Look[]} */
   const items = [
     {isOut: ratio < USUAL_RATIO, text: `The text asks for the ratio ${ratio} (its line ratio is in thousandths); `
@@ -205,6 +219,8 @@ export function looks(session) {
       + 'is taken as night.)'},
     {isOut: rise > USUAL_HEIGHT, text: `They differ in height (over the ellipsoid) by ${rise.toFixed(1)} m; each metre costs `
       + `about ${HEIGHT_COST} mm, and up to ${USUAL_HEIGHT} m is usual.`},
+    {isOut: seconds > USUAL_HOURS * 3600,
+      text: `The session lasts ${duration(seconds)} by the text\u2019s times; up to ${USUAL_HOURS} hours is usual.`},
     {isOut: phase > USUAL_PHASE,
       text: `The greatest residual of a phase is ${phase.toFixed(1)} mm; within some ${USUAL_PHASE} mm is usual.`},
     {isOut: code > USUAL_CODE,

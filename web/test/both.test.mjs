@@ -28,7 +28,7 @@ const ENDLESS = [`note: arc 1 is called datum; ${COMPARED} (and 2 more)`, `${STA
   'note: pair 0 arc 3: the direction\'s length isn\'t one'];
 /** @type {Record<string, string>} */
 const TEXTS = {
-  good: example(), galileo: withLine(example(), 4, 'system E'), forged: forgeDatums(example()), track,
+  good: example(), late: withChange(example(), 'pair 29 ', line => line.replace(/^(pair 29) \d+/, '$1 9223372036854775807')), galileo: withLine(example(), 4, 'system E'), forged: forgeDatums(example()), track,
   small: small(), 'small.track': smallTrack(),
   unseparated: withLine(example(), 2, 'ratio 14000'), spent: withLine(example(), 3, 'budget 34'),
   tail: withChange(example(), 'move', line => line.replace('-2233', '-2234')), cut: example().slice(0, 5000),
@@ -58,6 +58,7 @@ const TABLE = [
   [['forged'], 0, ['certified', 'baseline 2022.8797 -468.8112 2610.4651', 'bound 0.04'], [FORGED]],
   [['--strict', 'forged'], 1, ['certified'], [FORGED]],
   [['--strict', 'galileo'], 1, ['certified'], ['note: the signals 12 C W aren\'t those of Galileo']],
+  [['--strict', 'late'], 1, ['certified'], ['note: pair 29 is later than 2099, the last year that is read']],
   [['noted.track'], 0, ['certified', ...PLACES, ...BOUNDS], [STANDS]],
   [['--strict', 'noted.track'], 1, ['certified'], [STANDS]],
   [['small'], 1, ['not certified weak 0 -6'], [`${ODD_LENGTH} (and 1 more)`]],

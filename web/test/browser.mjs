@@ -139,18 +139,18 @@ export class Page {
   }
 
   /**
-   * Gives a file by the dialog's input, or by a drop.
-   * @param {string} path
+   * Gives a file by the dialog's input, or by a drop, which may have several.
+   * @param {string | string[]} path
    * @param {'choose' | 'drop'} [how]
    */
   async give(path, how = 'choose') {
     if (how === 'choose') {
       const {root} = await this.send('DOM.getDocument');
       const {nodeId} = await this.send('DOM.querySelector', {nodeId: root.nodeId, selector: '#file'});
-      await this.send('DOM.setFileInputFiles', {files: [path], nodeId});
+      await this.send('DOM.setFileInputFiles', {files: [path].flat(), nodeId});
       return;
     }
-    const data = {items: [], files: [path], dragOperationsMask: 1};
+    const data = {items: [], files: [path].flat(), dragOperationsMask: 1};
     for (const type of ['dragEnter', 'dragOver', 'drop']) {
       await this.send('Input.dispatchDragEvent', {type, x: 100, y: 120, data});
     }

@@ -34,6 +34,11 @@ describe('notes', () => {
     assert.ok(put('arc 28 ', 1, '24').includes('pair 0 has a satellite twice (and 29 more)')));
   it('a time that stands still', () => assert.deepEqual(put('pair 1 ', 2, '7964352000000000'),
     ['pair 1 isn\'t later than the pair before it']));
+  it('a time after the last date that is read', () => {
+    assert.deepEqual(put('pair 29 ', 2, '37864799999999999'), []);
+    assert.deepEqual(put('pair 29 ', 2, '37864800000000000'), ['pair 29 is later than 2099, the last year that is read']);
+    assert.deepEqual(put('pair 29 ', 2, '9223372036854775807'), ['pair 29 is later than 2099, the last year that is read']);
+  });
   it('a direction that is too long', () => assert.deepEqual(put('row 0 ', 7, '-9628951'),
     ['pair 0 arc 0: the direction\'s length isn\'t one']));
   it('and one within its box', () => assert.deepEqual(put('row 0 ', 7, '-9628852'), []));

@@ -85,6 +85,21 @@ describe('the page in a browser', {skip, timeout: 900_000}, () => {
     assert.deepEqual(await page.value(HELD), ['true.cert']);
     isClean(page);
   });
+  it('of two files at once none is checked, and the page says so', async () => {
+    const files = [put('true.cert', example()), put('cut.cert', example().slice(0, 9000))];
+    const {page} = await shown(files[0]);
+    await page.until('document.title.startsWith("Certified")', 60);
+    await page.give(files, 'drop');
+    await page.until('/^More/.test(document.querySelector("#verdict h2")?.textContent)', 60);
+    const words = await page.words();
+    has(words, ['More than one file: nothing was checked', 'These are 2 files. Choose or drop one at a time.']);
+    assert.doesNotMatch(words, /2022\.77|Certified/);
+    assert.deepEqual(await page.value(HELD), []);
+    assert.equal(await page.value('document.title'), 'Check a Baseline certificate');
+    await page.give(files[1], 'drop');
+    await page.until('document.querySelector("#verdict h2")?.textContent === "Not a certificate"', 60);
+    isClean(page);
+  });
   it('a click empties the input, so that the same file can be chosen again, and a cancelled one fills it', async () => {
     const {page} = await shown(put('true.cert', example()));
     await page.value('file.addEventListener("click", event => event.preventDefault())');

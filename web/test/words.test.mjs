@@ -84,6 +84,15 @@ describe('the words of a verdict', () => {
     assert.deepEqual(onLength(farther(example(), 5)), [true, `${far} by day use it up to 5 km. 09:18 to 09:32`]);
     assert.deepEqual(onLength(farther(later(13), 5)), [false, `${far} by night use it up to 10 km. 22:18 to 22:32`]);
   });
+  it('a session that lasts longer than a day stands out', () => {
+    const first = (/** @type {number} */ hours) => example().replace(/^(pair 0) \d+/m,
+      `$1 ${7_964_352_000_000_000n + 290n * 30_000_000n - BigInt(hours * 3600) * 10_000_000n}`);
+    const onTime = (/** @type {string} */ text) => looks(viewed(text).session).find(look => look.text.startsWith('The session lasts '));
+    assert.deepEqual(onTime(example()), {isOut: false,
+      text: 'The session lasts 14.5 minutes by the text\u2019s times; up to 24 hours is usual.'});
+    assert.deepEqual([24, 25, 219_287].map(hours => [onTime(first(hours))?.isOut, onTime(first(hours))?.text.slice(18, 30)]),
+      [[false, '24.0 hours b'], [true, '25.0 hours b'], [true, '9137 days by']]);
+  });
   it('a session of which a part is by day is by day', () => {
     const text = example().replace(/^(pair 29) \d+/m, `$1 ${7_964_352_290_000_000n + 13n * 36_000_000_000n}`);
     assert.match(String(onLength(text)?.[1]), /by day use it up to 5 km\. 09:18 to 22:18/);
