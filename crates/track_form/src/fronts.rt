@@ -37,7 +37,7 @@ pub fn pair_front(arcs: &[Arc], signals: Signals, pair: &PairRows) -> Result<Fro
 pub struct PairRoom {
     normal: Normal,
     room: BaselineSteps,
-    /// The front of the last pair that had one.
+    /// The front of the pair that was filled last; where that pair was refused, what its refusal left.
     pub front: FrontForm,
     pub ghost clean: { IsClean front.columns room },
 }
