@@ -79,7 +79,7 @@ def test_the_page(files):
     data = report.html(done, datetime(2026, 1, 2, 3, 4))
     page = Page(data.decode())
     for part in ("3040 to 0759", "2005-04-02 00:00:00 to 2005-04-02 00:14:30", "TRM29659.00", "asked 2.0, reached 13.6", "certified",
-                 "30 pairs",
+                 "30 pairs", "lies within 0.03 mm of the certificate's, before fix rounds it to 0.1 mm",
                  "C1C L1C, C2W L2W", "G07 (0 to 29, datum)", "12 integers",
                  "baseline fix g2_quarter_base.rnx g2_quarter_rover.rnx geonet.nav --mask 200",
                  "35° 07′ 55.4", "Printed 2026-01-02 03:04", "ab" * 32, "gives the same bytes from these three files"):

@@ -3,7 +3,8 @@
 Prints the ratio asked and reached, the residuals of the phases by satellite, and what stands out. Status 1 and a line
 `look` for each thing that a person should look at: the ratio reached is below 5, a phase is over 20 mm off, a pair has
 fewer than six satellites (the limits are options), or the second checker has a note or another verdict. Its `bound` is how far, in each
-coordinate, the least-squares vector of any observations in the certificate's boxes may lie from the printed one.
+coordinate, the least-squares vector of any observations in the certificate's boxes may lie from the vector
+before that is rounded to 0.1 mm.
 """
 from __future__ import annotations
 
