@@ -263,6 +263,32 @@ def test_a_file_with_itself_is_no_vector(folder):
     assert data["rows"][11]["state"] == "one file as base and rover" and data["rows"][11]["enu_m"] is None
 
 
+def test_a_session_counts_once(folder):
+    """A copy, a second certificate of a session, an upload that was sent again under the next hour's name, a second try of a decline."""
+    before = json.loads(series_of(folder, "--json").stdout)
+    shutil.copy(folder / "20050402_0300.cert", folder / "20050402_0300 (copy).cert")
+    shutil.copy(folder / "20050402_0700.cert", folder / "20050402_1100.cert")
+    (folder / "second.cert").write_bytes(session(PLACE + 0.001, 5 / 24, 99))
+    (folder / "20050402_1000 second.cert").write_bytes(session(PLACE, 10 / 24, 12))
+    (folder / "again 20050402_0800.cert").write_bytes(b"declined few 30\n")
+    ran = series_of(folder)
+    assert ran.stdout.startswith(b"series sessions: 11 sessions, 9 fixed, 5 new, ")
+    assert b"\nagain: 5, of sessions that count already: 20050402_0300 (copy).cert is that of 20050402_0300.cert, ..\n" in ran.stdout
+    data = json.loads(series_of(folder, "--json").stdout)
+    assert [it["time"] for it in data["rows"]] == [it["time"] for it in before["rows"]]
+    assert [it["name"] for it in data["rows"][:8]] == [it["name"] for it in before["rows"][:8]]
+    assert [it["name"] for it in data["rows"]][10] == "20050402_1000 second.cert" and data["rows"][10]["state"] == "fixed"
+    assert data["again"][1:] == [["second.cert", "20050402_0500.cert"], ["20050402_1100.cert", "20050402_0700.cert"],
+                                 ["again 20050402_0800.cert", "20050402_0800.cert"],
+                                 ["20050402_1000.cert", "20050402_1000 second.cert"]]
+    # declines of one line are the same bytes, and sessions of their own
+    (folder / "20050402_1200.cert").write_bytes(b"declined few 30\n")
+    assert len(json.loads(series_of(folder, "--json").stdout)["rows"]) == 12
+    # a receiver that sends the same hour again and again is dead
+    assert b"alarm dead since 2005-04-02 20:00: 8 sessions are missing" in series_of(
+        folder, "--until", "2005-04-02T20:00", "--silent", "3").stdout
+
+
 def test_a_list(folder):
     (folder.parent / "LIST").write_text("# two\nsessions/20050402_0000.cert\n2005-04-02T08:00 sessions/20050402_0800.cert\n"
                                         "'sessions/20050402_0100.cert'\n")
