@@ -400,9 +400,9 @@ def test_hostile_names(tmp_path):
 
 def test_pictures_of_anything(tmp_path):
     for made in ([], rows([None]), rows([*noise(30, 1), None, None, (0, 0, 50)])):
-        pictures.write_series(str(tmp_path / "p.svg"), alarm.judge(made, until=START + timedelta(days=9)), "title")
+        pictures.drawn_series(str(tmp_path / "p.svg"), alarm.judge(made, until=START + timedelta(days=9)), "title")
     with pytest.raises(SurveyError):
-        pictures.write_series(str(tmp_path / "p.txt"), alarm.judge([]), "title")
+        pictures.drawn_series(str(tmp_path / "p.txt"), alarm.judge([]), "title")
 
 
 # ---- metrics

@@ -24,7 +24,7 @@ import os
 from datetime import datetime
 from typing import Any, Iterator, Optional, Sequence
 
-from .. import alarm, files, metrics, program, series
+from .. import alarm, metrics, program, series
 from ..adjust import Settings
 from ..cli import Outcome
 from ..text import number, numbers, table, visible
@@ -89,14 +89,15 @@ def run(options: argparse.Namespace) -> Outcome:
     counting, again = series.once(rows)
     done = alarm.judge(counting, limits, options.until)
     counted = [it for it in done.alarms if not options.since or (it.time or datetime.max) >= options.since]
+    made = []
     if options.picture:
         from .. import pictures
-        pictures.write_series(options.picture, done, name)
+        made.append(pictures.drawn_series(options.picture, done, name))
     if options.metrics:
-        files.replace(options.metrics, metrics.metrics(done, counted, name))
+        made.append((options.metrics, metrics.metrics(done, counted, name)))
     text = [*_head(done, name, fresh), *_again(again), *_alarms(done, counted), *_reference(done), *_rows(done, counted, options.all)]
     return Outcome("\n".join(text), {"name": name, "new": fresh, "again": [[row.name, first.name] for row, first in again],
-                                      **_facts(done, counted)}, 1 if counted else 0)
+                                      **_facts(done, counted)}, 1 if counted else 0, files=made)
 
 
 def _settings(options: argparse.Namespace, height_m: float) -> Settings:
