@@ -545,6 +545,52 @@ def test_a_failure_is_told(station):
     assert monitor(station, "20050402_0000").returncode == 2 and not (station / "x").exists()
 
 
+def test_a_run_that_fails_leaves_no_old_summary(station):
+    """Before there is a summary of its own: what is mailed says why."""
+    assert monitor(station, "20050402_0000").returncode == 0
+    (station / "state" / "POINTS").write_text("")
+    ran = monitor(station, "20050402_0000")
+    assert ran.returncode == 2 and ran.stderr.startswith(b"monitor.sh: no names in /")
+    assert (station / "state" / "summary.txt").read_bytes() == ran.stderr
+
+
+def test_what_ran_no_fix_is_told(station):
+    """A program that isn't there, and a cluster that doesn't answer."""
+    (station / "state" / "POINTS").write_text("P1\n")
+    ran = monitor(station, "20050402_0000", BASELINE="/none")
+    assert b"\nhour 20050402_0000 point P1: no answer\nhour 20050402_0000: one: /none is not found; " in ran.stdout
+    (station / "bin").mkdir()
+    (station / "bin" / "sbatch").write_text("#!/bin/sh\necho 'sbatch: error: Unable to contact slurm controller' >&2; exit 1\n")
+    (station / "bin" / "sbatch").chmod(0o755)
+    ran = monitor(station, "20050402_0000", SLURM="1", PATH=f"{station}/bin:{os.environ['PATH']}")
+    assert b"\nhour 20050402_0000: sbatch: error: Unable to contact slurm controller\n" in ran.stdout
+
+
+def test_the_line_for_cron(station):
+    """As cron calls it: with its short environment, in another folder; its output is the mail."""
+    lines = (HERE / "examples" / "crontab").read_text().splitlines()
+    env = {"PATH": "/usr/bin:/bin", "HOME": "/", **dict(it.split("=", 1) for it in lines if re.match("[A-Z]+=", it))}
+    env.update(BASELINE=str(station / "program"), SURVEY=str(station / "survey"), SERIES="--no-troposphere")
+    line = lines[-1].split(None, 6)[6].replace("\\%", "%")
+    assert "%" not in lines[-1].replace("\\%", "")
+    for there, here in (("/srv/baseline/survey", HERE), ("/srv/uploads", station / "uploads"), ("/srv/monitor", station / "state")):
+        assert there in line
+        line = line.replace(there, str(here))
+
+    def mail():
+        return subprocess.run(["sh", "-c", line], capture_output=True, cwd="/", env=env, timeout=600)
+    ran = mail()  # hours without uploads, and so points that are dead
+    assert ran.stdout == (station / "state" / "summary.txt").read_bytes() and b"2 with an alarm, 0 failed\nhour " in ran.stdout
+    with open(station / "state" / "lock", "w") as lock:
+        subprocess.run(["flock", "-n", str(lock.fileno())], pass_fds=[lock.fileno()], check=True)
+        ran = mail()
+    assert (ran.returncode, ran.stdout, ran.stderr) == (0, b"", b"")
+    (station / "state" / "POINTS").unlink()
+    assert b"\nmonitor.sh: no names in " in mail().stdout
+    line = line.replace(str(station / "state"), "/none")
+    assert mail().stdout == b"monitor.sh: UPLOADS or STATE is no folder\n"
+
+
 def test_with_slurm(station):
     """The baselines go to a job array, here of a stand-in for sbatch that runs the tasks one by one."""
     (station / "bin").mkdir()
