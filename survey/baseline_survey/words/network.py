@@ -56,11 +56,11 @@ def run(options: argparse.Namespace) -> Outcome:
     entries = lines.read_list(files.read(options.list).decode("utf-8", "surrogateescape"), options.list)
     how = lines.Reading(os.path.dirname(options.list), MakeSettings(options), options.scale, options.plus / 1000)
     done = network.adjust(lines.observe_all(entries, how), held, full=options.sinex is not None)
-    files.replace_all([(getattr(options, name), write(done)) for name, write in exports.FORMS.items() if getattr(options, name)])
+    exported = [(getattr(options, name), write(done)) for name, write in exports.FORMS.items() if getattr(options, name)]
     stands_out = looks(done)
     without_marks = sum(entry.base is None for entry in entries)
     text = [*_notes(done, without_marks), *_text(done), *(f"look {it}" for it in stands_out)]
-    return Outcome("\n".join(text), {**facts(done), "looks": stands_out}, 1 if stands_out else 0)
+    return Outcome("\n".join(text), {**facts(done), "looks": stands_out}, 1 if stands_out else 0, files=exported)
 
 
 class MakeSettings:
