@@ -22,6 +22,7 @@ from . import certificate, files
 from .adjust import Settings, adjust
 from .errors import SurveyError
 from .geodesy import checked_place, geodetic
+from .program import Check
 
 HEAD = "# baseline-survey series 1"
 COLUMNS = ("time", "state", "east_m", "north_m", "up_m", "sd_east_mm", "sd_north_mm", "sd_up_mm", "satellites", "pairs",
@@ -117,9 +118,8 @@ def stamp(name: str) -> Optional[datetime]:
         return None
 
 
-# What makes the settings of an adjustment from the base's height in m; what a check says of a certificate's bytes.
+# What makes the settings of an adjustment from the base's height in m.
 MakeSettings = Callable[[float], Settings]
-Check = Callable[[bytes], str]
 
 
 def row_of(entry: Entry, data: bytes, make: MakeSettings, check: Optional[Check]) -> Row:
