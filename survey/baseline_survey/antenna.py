@@ -156,6 +156,8 @@ class _Reader:
         first = self.lines[0] if self.lines else b""
         if label_of(first) != b"ANTEX VERSION / SYST" or columns(first, 1, 8).strip(b" ") not in (b"1.4", b"1.3"):
             self.refuse(self.packed or "not ANTEX 1.3 or 1.4")
+        if b"\r" in first:
+            self.refuse("lines end with CR alone, not with LF")
         found = []
         while self.at < len(self.lines):
             if label_of(self.lines[self.at]) == b"START OF ANTENNA":

@@ -51,23 +51,35 @@ def replace(name: Name, data: bytes, part: Optional[Name] = None) -> None:
 def replace_all(outputs: Sequence[tuple[Name, bytes]]) -> None:
     """The same of several files, all or none: no name changes before all of them are written whole beside their places. OSError names
     the one that can't be written."""
-    parts: list[tuple[str, bytes, Optional[str]]] = []
+    with replaced_after(outputs):
+        pass
+
+
+@contextlib.contextmanager
+def replaced_after(outputs: Sequence[tuple[Name, bytes]]) -> Iterator[None]:
+    """The same around other work: the files are written whole beside their places before it, and no name changes before it is done.
+    Where it ends with an exception none does. Devices and pipes are written to before it, after all files."""
+    parts: list[tuple[str, str]] = []
+    names = [(os.fspath(name), data) for name, data in outputs]
     try:
-        for name, data in ((os.fspath(name), data) for name, data in outputs):
+        special = []
+        for name, data in names:
             with _called(name):
-                parts.append((name, data, None if _is_special(name) else _written(name, data, None)))
-        while parts:
-            name, data, part = parts[0]
-            with _called(name):
-                if part is None:
-                    replace(name, data)
+                if _is_special(name):
+                    special.append((name, data))
                 else:
-                    _renamed(part, name)
+                    parts.append((_written(name, data, None), name))
+        for name, data in special:
+            replace(name, data)
+        yield
+        while parts:
+            part, name = parts[0]
+            with _called(name):
+                _renamed(part, name)
             del parts[0]
     except BaseException:
-        for _, _, part in parts:
-            if part is not None:
-                _removed(part)
+        for part, _ in parts:
+            _removed(part)
         raise
 
 

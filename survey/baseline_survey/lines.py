@@ -15,11 +15,12 @@ from typing import Callable, Optional, Sequence
 
 import numpy as np
 
-from . import certificate
+from . import certificate, files
 from .adjust import Settings, adjust
 from .coordinates import check_belongs
 from .errors import SurveyError
 from .geodesy import checked_place, geodetic
+from .program import Check
 from .rinex_header import Header, read_header
 
 MANY = 32  # lines, from which on several processes read them
@@ -65,13 +66,14 @@ MakeSettings = Callable[[float, Optional[Header], Optional[Header]], Settings]
 
 @dataclass(frozen=True)
 class Reading:
-    """How entries become lines: the list's folder, what makes the settings, a factor of all standard deviations, and what
-    is added to each coordinate's (m), as for setting up."""
+    """How entries become lines: the list's folder, what makes the settings, a factor of all standard deviations, what is
+    added to each coordinate's (m), as for setting up, and what says whether a certificate is certified, if anything does."""
 
     folder: str
     make: MakeSettings
     scale: float = 1.0
     plus_m: float = 0.0
+    check: Optional[Check] = None
 
 
 def read_list(text: str, name: str = "") -> list[Entry]:
@@ -127,9 +129,13 @@ def _entry(words: Sequence[str], where: str) -> Entry:
 
 def observe(entry: Entry, how: Reading) -> Line:
     """The line of an entry: the adjusted vector of its certificate with its covariance. With BASE and ROVER it goes from
-    mark to mark, else from antenna to antenna. Files are looked for from the list's folder. Errors name the file."""
+    mark to mark, else from antenna to antenna. Files are looked for from the list's folder. Errors name the file; a
+    certificate that its check doesn't call certified is one."""
     path = os.path.join(how.folder, entry.certificate)
-    cert = certificate.read_fixed(path)
+    data = files.read(path)
+    cert = certificate.read_fixed(data, path)
+    if how.check and (said := how.check(data)) != "certified":
+        raise NetworkError(f"{path}: {said}")
     base, rover = (None if it is None else read_header(os.path.join(how.folder, it)) for it in (entry.base, entry.rover))
     if base is not None and rover is not None:
         check_belongs(cert, base, rover)

@@ -16,7 +16,7 @@ matplotlib.use("Agg")
 from matplotlib import dates  # noqa: E402
 from matplotlib.figure import Figure  # noqa: E402
 
-from . import alarm, files  # noqa: E402
+from . import alarm  # noqa: E402
 from .adjust import Blocks, Residuals  # noqa: E402
 from .certificate import time_of  # noqa: E402
 from .errors import SurveyError  # noqa: E402
@@ -46,15 +46,15 @@ def as_svg(draw: Callable[[], Figure], name: str) -> str:
     return re.sub(r'(\bid="|xlink:href="#|url\(#)([^")]*)', lambda it: it[1] + ids.get(it[2], it[2]), text)
 
 
-def write(path: str, draw: Callable[[], Figure]) -> None:
-    """Writes a picture as PNG, SVG or PDF, by the ending of its name, whole or not at all."""
+def drawn(path: str, draw: Callable[[], Figure]) -> tuple[str, bytes]:
+    """A picture's name and its bytes, as PNG, SVG or PDF by the ending of its name."""
     form = os.path.splitext(path)[1].lower()
     if form not in FORMS:
         raise SurveyError(f"{path}: a picture's name ends in {', '.join(FORMS)}")
     with matplotlib.rc_context({**STYLE, "svg.hashsalt": "baseline-survey"}):
         file = io.BytesIO()
         draw().savefig(file, format=form[1:], dpi=150, bbox_inches="tight", metadata={"CreationDate": None} if form == ".pdf" else None)
-    files.replace(path, file.getvalue())
+    return path, file.getvalue()
 
 
 def _times(tags: np.ndarray) -> list[datetime]:
@@ -173,5 +173,6 @@ def series_picture(done: alarm.Series, title: str) -> Figure:
     return figure
 
 
-def write_series(path: str, done: alarm.Series, title: str) -> None:
-    write(path, lambda: series_picture(done, title))
+def drawn_series(path: str, done: alarm.Series, title: str) -> tuple[str, bytes]:
+    """The same of a series."""
+    return drawn(path, lambda: series_picture(done, title))

@@ -10,12 +10,14 @@ import shutil
 import subprocess
 from dataclasses import dataclass
 from pathlib import Path
-from typing import Optional, Sequence
+from typing import Callable, Optional, Sequence
 
 from .errors import SurveyError
 from .packed import why_packed
 
 USAGE, REFUSED = 2, 3
+# What a check says of a certificate's bytes.
+Check = Callable[[bytes], str]
 
 
 class ProgramError(SurveyError):

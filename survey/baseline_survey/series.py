@@ -3,7 +3,8 @@
 The rows stand in a log, a table that is replaced whole: after a kill the old one or the new one is there, and the next run
 does what is missing. A session is known by its certificate's name, so nothing is doubled. A file whose size and time are
 those of its row isn't read again, so a run reads what is new; a certificate that was made again replaces its row. A decline
-is a row without a vector, a gap. What is an alarm, `alarm` says.
+is a row without a vector, a gap. Certificates of the same first pair are of one session, and `once` leaves one of them. What
+is an alarm, `alarm` says.
 """
 from __future__ import annotations
 
@@ -21,6 +22,7 @@ from . import certificate, files
 from .adjust import Settings, adjust
 from .errors import SurveyError
 from .geodesy import checked_place, geodetic
+from .program import Check
 
 HEAD = "# baseline-survey series 1"
 COLUMNS = ("time", "state", "east_m", "north_m", "up_m", "sd_east_mm", "sd_north_mm", "sd_up_mm", "satellites", "pairs",
@@ -116,9 +118,8 @@ def stamp(name: str) -> Optional[datetime]:
         return None
 
 
-# What makes the settings of an adjustment from the base's height in m; what a check says of a certificate's bytes.
+# What makes the settings of an adjustment from the base's height in m.
 MakeSettings = Callable[[float], Settings]
-Check = Callable[[bytes], str]
 
 
 def row_of(entry: Entry, data: bytes, make: MakeSettings, check: Optional[Check]) -> Row:
@@ -233,6 +234,18 @@ def update(source: str, log: str, make: MakeSettings, key: str, check: Optional[
         # numbers as the log spells them, so that this run says what a later one will
         save(log, list(rows.values()), key)
         return load(log, key), fresh
+
+
+def once(rows: Sequence[Row]) -> tuple[list[Row], list[tuple[Row, Row]]]:
+    """The rows by the clock with each session once, and the others, each with the row that counts in its place. A session is known
+    by the time of its first pair: a copy under another name, a second `fix` of it with other options and an upload that was sent
+    again have the same. Of them a fixed one counts, then the first by name without its ending. Rows without a time are each a session."""
+    kept: dict[datetime, Row] = {}
+    for row in sorted(rows, key=lambda row: (row.enu_m is None, os.path.splitext(row.name))):
+        if row.time is not None:
+            kept.setdefault(row.time, row)
+    counts = [row for row in rows if row.time is None or kept[row.time] is row]
+    return counts, [(row, kept[row.time]) for row in rows if row.time is not None and kept[row.time] is not row]
 
 
 def _file(path: str) -> str:

@@ -11,7 +11,13 @@
 # Variables: BASELINE and SURVEY name the commands, OPTIONS are those of `fix`, SERIES those of `baseline-survey series`, JOBS
 # is how many processes run at a time, RECIPES the folder of `one` and `retry`. SLURM=N gives the baselines to Slurm, N a task.
 set -u
-stop() { printf 'monitor.sh: %s\n' "$2" >&2; exit "$1"; }
+state=
+# A failure stands in the summary too, so that no mail has that of an earlier run.
+stop() {
+    printf 'monitor.sh: %s\n' "$2" >&2
+    [ "$1" = 75 ] || [ -z "$state" ] || printf 'monitor.sh: %s\n' "$2" >"$state/summary.txt"
+    exit "$1"
+}
 [ $# -ge 2 ] || { echo 'usage: monitor.sh UPLOADS STATE [HOUR ..]' >&2; exit 2; }
 here=$(dirname -- "$(readlink -f -- "$0")")
 uploads=$(readlink -e -- "$1") && state=$(readlink -e -- "$2") || stop 2 'UPLOADS or STATE is no folder'
@@ -38,7 +44,7 @@ collect() {
     done >"$work/NAMES"
 }
 
-# Fixes what has no answer yet, and says what has none then.
+# Fixes what has no answer yet, and says what has none then, with the last that `one` or Slurm complained of.
 fix() {
     cd -- "$work" && "$recipes/retry" NAMES >AGAIN || return
     if [ "$SLURM" = 0 ]; then
@@ -46,10 +52,13 @@ fix() {
     else
         tasks=$((($(grep -c '' AGAIN) + SLURM - 1) / SLURM))
         [ "$tasks" = 0 ] || RECIPES=$recipes sbatch --quiet --wait --array="1-$tasks%$JOBS" "$recipes/array.sbatch" AGAIN "$SLURM"
-    fi 2>/dev/null
-    "$recipes/retry" NAMES | while IFS= read -r name; do
-        printf 'hour %s point %s: %s\n' "$hour" "$name" "$(tail -n 1 -- "./$name.log" 2>/dev/null || echo 'no answer')"
-    done | cat -v
+    fi 2>errors
+    {
+        "$recipes/retry" NAMES | while IFS= read -r name; do
+            printf 'hour %s point %s: %s\n' "$hour" "$name" "$(tail -n 1 -- "./$name.log" 2>/dev/null || echo 'no answer')"
+        done
+        [ ! -s errors ] || printf 'hour %s: %s\n' "$hour" "$(tail -n 1 errors)"
+    } | cat -v
 }
 
 # Puts the hour's certificates, declines too, into the points' folders, each whole.

@@ -93,6 +93,7 @@ def test_twice_the_same_antenna():
 
 @pytest.mark.parametrize("text, reason", [
     (b"", "not ANTEX"), (antex(version="     1.2            M"), "not ANTEX"), (TEXT[:2000], ""),
+    (TEXT.replace(b"\n", b"\r"), "line 1: lines end with CR alone"),
     (TEXT[:TEXT.index(b"END OF ANTENNA") - 60], "ends in an antenna"),
     (TEXT.replace(b"     90.00 ", b"     90.0x "), "no number: 90.0x"),
     (TEXT.replace(b"   NOAZI    0.00", b"   NOAZI     nan"), "no number"),

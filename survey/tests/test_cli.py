@@ -8,6 +8,7 @@ from pathlib import Path
 
 import pytest
 from made import made
+from sessions import stand_in
 
 from baseline_survey import cli
 from baseline_survey.text import number, table, visible
@@ -233,6 +234,36 @@ def test_outputs_that_fail(survey):
         ran.stdout.close()
         assert b"Traceback" not in ran.stderr.read()
     assert ran.returncode == 2
+
+
+def test_no_file_stays_where_standard_output_is_full(survey, examples, tmp_path, monkeypatch, capsysbinary):
+    """Status 2 is `not done`: files that a word leaves are as they were, old or not there."""
+    from test_places import TRACK
+    cert, base, rover = survey
+    (tmp_path / "moving.track").write_bytes(TRACK)
+    (tmp_path / "LIST").write_text(f"A B '{cert}' '{base}' '{rover}'\n")
+    (tmp_path / "sessions").mkdir()
+    (tmp_path / "sessions" / "one.cert").write_bytes(cert.read_bytes())
+    (tmp_path / "old").write_bytes(b"old")
+    before = sorted(it.name for it in tmp_path.iterdir())
+    monkeypatch.chdir(tmp_path)
+    for words in (["report", cert, base, rover, examples / "geonet.nav", "--program", stand_in(tmp_path / "p"), "--output", "old"],
+                  ["correct", base, examples / "geonet.nav", "--output", "new"], ["correct", base, examples / "geonet.nav", "--output", "old"],
+                  ["cut", base, "00:00", "00:05", "--output", "old"], ["rebase", "-3978242", "3382841", "3649902", base, "--output", "old"],
+                  ["places", "moving.track", "--picture", "p.png"], ["network", "LIST", "--unchecked", "--hold", "A", "0", "0", "6.4e6",
+                                                                     "--gama", "old", "--sinex", "new"],
+                  ["series", "sessions", "--unchecked", "--picture", "p.png", "--metrics", "old"]):
+        with open("/dev/full", "w") as full:
+            monkeypatch.setattr(sys, "stdout", full)
+            assert cli.main([os.fspath(word) for word in words]) == 2, words
+            monkeypatch.undo()
+            monkeypatch.chdir(tmp_path)
+        assert b"standard output" in capsysbinary.readouterr().err, words
+        assert sorted(it.name for it in tmp_path.iterdir() if it.name != "p") == before, words
+        assert (tmp_path / "old").read_bytes() == b"old", words
+    # what isn't a file is written to before, so that a failure of it leaves standard output empty
+    ran = run("cut", base, "00:00", "00:05", "--output", "/dev/full")
+    refused(ran, "/dev/full")
 
 
 def test_closed_outputs(survey, monkeypatch, capsysbinary):

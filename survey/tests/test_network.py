@@ -11,7 +11,7 @@ import numpy as np
 import pytest
 from made import BASE
 from seeded import seeded
-from sessions import HOSTILE, session
+from sessions import HOSTILE, session, stand_in
 from test_cli import refused, run
 
 from baseline_survey import exports, lines, loops, network
@@ -20,6 +20,14 @@ from baseline_survey.errors import SurveyError
 START = datetime(2024, 1, 1)
 HOLD = ("--hold", "A", *(f"{x:.4f}" for x in BASE))
 PLACES = {"A": np.array(BASE), "B": np.array(BASE) + [500.0, -200.0, 300.0], "C": np.array(BASE) + [-100.0, 400.0, 600.0]}
+
+
+@pytest.fixture(autouse=True)
+def program(tmp_path_factory, monkeypatch):
+    """The folder of a program that calls each certificate certified."""
+    folder = tmp_path_factory.mktemp("program")
+    monkeypatch.setenv("BASELINE", os.fspath(stand_in(folder)))
+    return folder
 
 
 def line(start, end, vector, covariance=None, hours=0.0, minutes=15, base=BASE, system="G"):
@@ -240,6 +248,17 @@ def test_a_triangle(triangle):
     assert "\npoint" in text and "held A -3978242.4348" in text and "note 3 of 3 lines go from antenna to antenna" in text
 
 
+def test_each_certificate_is_checked(triangle, program):
+    """One that isn't certified is no line, whatever adjusts it; the check reads the bytes that are adjusted."""
+    words = ("network", triangle / "LIST", *HOLD, "--no-troposphere")
+    assert run(*words).returncode == 0
+    assert [json.loads(it) for it in (program / "words").read_text().splitlines()] == 3 * [["check", "--", "/dev/stdin"]]
+    (program / "check").write_bytes(b"not certified unseparated\n")
+    refused(run(*words), "AB.cert: not certified unseparated")
+    assert run(*words, "--unchecked").returncode == 0
+    refused(run(*words, "--program", triangle / "none"), "no program")
+
+
 def test_one_session_is_told(triangle):
     (triangle / "BC.cert").write_bytes(session(PLACES["C"] - PLACES["B"], 1, 9, base=PLACES["B"]))
     (triangle / "AB.cert").write_bytes(session(PLACES["B"] - PLACES["A"], 1, 8, base=PLACES["A"]))
@@ -443,10 +462,11 @@ def test_memory_follows_the_lines():
     assert len(done.blocks) == 699 and kept < 8_000_000  # the whole inverse has 35 MB
 
 
-def test_many_lines_are_read_by_several_processes(triangle):
+def test_many_lines_are_read_by_several_processes(triangle, program):
     (triangle / "MANY").write_text("".join(f"A P{k} AB.cert\n" for k in range(lines.MANY + 3)))
     data = json.loads(run("network", triangle / "MANY", *HOLD, "--no-troposphere", "--json").stdout)
     assert [it["to"] for it in data["residuals"]] == [f"P{k}" for k in range(lines.MANY + 3)]
+    assert len((program / "words").read_text().splitlines()) == lines.MANY + 3  # each was checked
     (triangle / "MANY").write_text("".join(f"A P{k} {'none' if k == 20 else 'AB'}.cert\n" for k in range(lines.MANY + 3)))
     refused(run("network", triangle / "MANY", *HOLD), "none.cert")
 

@@ -263,6 +263,32 @@ def test_a_file_with_itself_is_no_vector(folder):
     assert data["rows"][11]["state"] == "one file as base and rover" and data["rows"][11]["enu_m"] is None
 
 
+def test_a_session_counts_once(folder):
+    """A copy, a second certificate of a session, an upload that was sent again under the next hour's name, a second try of a decline."""
+    before = json.loads(series_of(folder, "--json").stdout)
+    shutil.copy(folder / "20050402_0300.cert", folder / "20050402_0300 (copy).cert")
+    shutil.copy(folder / "20050402_0700.cert", folder / "20050402_1100.cert")
+    (folder / "second.cert").write_bytes(session(PLACE + 0.001, 5 / 24, 99))
+    (folder / "20050402_1000 second.cert").write_bytes(session(PLACE, 10 / 24, 12))
+    (folder / "again 20050402_0800.cert").write_bytes(b"declined few 30\n")
+    ran = series_of(folder)
+    assert ran.stdout.startswith(b"series sessions: 11 sessions, 9 fixed, 5 new, ")
+    assert b"\nagain: 5, of sessions that count already: 20050402_0300 (copy).cert is that of 20050402_0300.cert, ..\n" in ran.stdout
+    data = json.loads(series_of(folder, "--json").stdout)
+    assert [it["time"] for it in data["rows"]] == [it["time"] for it in before["rows"]]
+    assert [it["name"] for it in data["rows"][:8]] == [it["name"] for it in before["rows"][:8]]
+    assert [it["name"] for it in data["rows"]][10] == "20050402_1000 second.cert" and data["rows"][10]["state"] == "fixed"
+    assert data["again"][1:] == [["second.cert", "20050402_0500.cert"], ["20050402_1100.cert", "20050402_0700.cert"],
+                                 ["again 20050402_0800.cert", "20050402_0800.cert"],
+                                 ["20050402_1000.cert", "20050402_1000 second.cert"]]
+    # declines of one line are the same bytes, and sessions of their own
+    (folder / "20050402_1200.cert").write_bytes(b"declined few 30\n")
+    assert len(json.loads(series_of(folder, "--json").stdout)["rows"]) == 12
+    # a receiver that sends the same hour again and again is dead
+    assert b"alarm dead since 2005-04-02 20:00: 8 sessions are missing" in series_of(
+        folder, "--until", "2005-04-02T20:00", "--silent", "3").stdout
+
+
 def test_a_list(folder):
     (folder.parent / "LIST").write_text("# two\nsessions/20050402_0000.cert\n2005-04-02T08:00 sessions/20050402_0800.cert\n"
                                         "'sessions/20050402_0100.cert'\n")
@@ -374,9 +400,9 @@ def test_hostile_names(tmp_path):
 
 def test_pictures_of_anything(tmp_path):
     for made in ([], rows([None]), rows([*noise(30, 1), None, None, (0, 0, 50)])):
-        pictures.write_series(str(tmp_path / "p.svg"), alarm.judge(made, until=START + timedelta(days=9)), "title")
+        pictures.drawn_series(str(tmp_path / "p.svg"), alarm.judge(made, until=START + timedelta(days=9)), "title")
     with pytest.raises(SurveyError):
-        pictures.write_series(str(tmp_path / "p.txt"), alarm.judge([]), "title")
+        pictures.drawn_series(str(tmp_path / "p.txt"), alarm.judge([]), "title")
 
 
 # ---- metrics
@@ -517,6 +543,52 @@ def test_a_failure_is_told(station):
     assert b"made by another version or with other settings" in ran.stdout
     (station / "state" / "POINTS").write_text("../x\n")
     assert monitor(station, "20050402_0000").returncode == 2 and not (station / "x").exists()
+
+
+def test_a_run_that_fails_leaves_no_old_summary(station):
+    """Before there is a summary of its own: what is mailed says why."""
+    assert monitor(station, "20050402_0000").returncode == 0
+    (station / "state" / "POINTS").write_text("")
+    ran = monitor(station, "20050402_0000")
+    assert ran.returncode == 2 and ran.stderr.startswith(b"monitor.sh: no names in /")
+    assert (station / "state" / "summary.txt").read_bytes() == ran.stderr
+
+
+def test_what_ran_no_fix_is_told(station):
+    """A program that isn't there, and a cluster that doesn't answer."""
+    (station / "state" / "POINTS").write_text("P1\n")
+    ran = monitor(station, "20050402_0000", BASELINE="/none")
+    assert b"\nhour 20050402_0000 point P1: no answer\nhour 20050402_0000: one: /none is not found; " in ran.stdout
+    (station / "bin").mkdir()
+    (station / "bin" / "sbatch").write_text("#!/bin/sh\necho 'sbatch: error: Unable to contact slurm controller' >&2; exit 1\n")
+    (station / "bin" / "sbatch").chmod(0o755)
+    ran = monitor(station, "20050402_0000", SLURM="1", PATH=f"{station}/bin:{os.environ['PATH']}")
+    assert b"\nhour 20050402_0000: sbatch: error: Unable to contact slurm controller\n" in ran.stdout
+
+
+def test_the_line_for_cron(station):
+    """As cron calls it: with its short environment, in another folder; its output is the mail."""
+    lines = (HERE / "examples" / "crontab").read_text().splitlines()
+    env = {"PATH": "/usr/bin:/bin", "HOME": "/", **dict(it.split("=", 1) for it in lines if re.match("[A-Z]+=", it))}
+    env.update(BASELINE=str(station / "program"), SURVEY=str(station / "survey"), SERIES="--no-troposphere")
+    line = lines[-1].split(None, 6)[6].replace("\\%", "%")
+    assert "%" not in lines[-1].replace("\\%", "")
+    for there, here in (("/srv/baseline/survey", HERE), ("/srv/uploads", station / "uploads"), ("/srv/monitor", station / "state")):
+        assert there in line
+        line = line.replace(there, str(here))
+
+    def mail():
+        return subprocess.run(["sh", "-c", line], capture_output=True, cwd="/", env=env, timeout=600)
+    ran = mail()  # hours without uploads, and so points that are dead
+    assert ran.stdout == (station / "state" / "summary.txt").read_bytes() and b"2 with an alarm, 0 failed\nhour " in ran.stdout
+    with open(station / "state" / "lock", "w") as lock:
+        subprocess.run(["flock", "-n", str(lock.fileno())], pass_fds=[lock.fileno()], check=True)
+        ran = mail()
+    assert (ran.returncode, ran.stdout, ran.stderr) == (0, b"", b"")
+    (station / "state" / "POINTS").unlink()
+    assert b"\nmonitor.sh: no names in " in mail().stdout
+    line = line.replace(str(station / "state"), "/none")
+    assert mail().stdout == b"monitor.sh: UPLOADS or STATE is no folder\n"
 
 
 def test_with_slurm(station):

@@ -4,7 +4,7 @@
 
 LIST has a line FROM TO CERT for each baseline, or FROM TO CERT BASE ROVER: then the vector goes from mark to mark by the
 headers of the files of observations. Words are spelled as in a shell ("Station 1"), # begins a comment, and files are looked
-for from the list's folder.
+for from the list's folder. Each certificate has to be certified by `baseline check`, but with --unchecked.
 
 Prints the coordinates with their standard deviations, the residuals with their test, chi square, the loops, and which lines
 are of one session. Of those some follow from the others: they close whatever is wrong, and control nothing. GPS and Galileo
@@ -21,12 +21,13 @@ Status 1 where a residual stands out, chi square is above its limit, or nothing 
 from __future__ import annotations
 
 import argparse
+import functools
 import math
 import os
 from collections import Counter
 from typing import Any, Optional
 
-from .. import exports, files, lines, network
+from .. import exports, files, lines, network, program
 from ..adjust import Settings
 from ..cli import Outcome
 from ..errors import SurveyError
@@ -46,6 +47,9 @@ def configure(parser: argparse.ArgumentParser) -> None:
                         help="add this standard deviation to each coordinate of each line, as for setting up")
     parser.add_argument("--gama", metavar="FILE", help="write the vectors for GNU Gama (gama-local, XML)")
     parser.add_argument("--sinex", metavar="FILE", help="write the adjusted coordinates as SINEX 2.02")
+    parser.add_argument("--unchecked", action="store_true", help="don't run `baseline check`")
+    parser.add_argument("--program", metavar="FILE",
+                        help="the built program, else the variable BASELINE, the repository's or that in PATH")
     add_settings(parser)
 
 
@@ -54,13 +58,14 @@ def run(options: argparse.Namespace) -> Outcome:
         raise SurveyError("--scale is above 0, --plus 0 or above, both at most 1000")
     held = _all_held(options.hold)
     entries = lines.read_list(files.read(options.list).decode("utf-8", "surrogateescape"), options.list)
-    how = lines.Reading(os.path.dirname(options.list), MakeSettings(options), options.scale, options.plus / 1000)
+    check = None if options.unchecked else functools.partial(program.check, program.find(options.program))
+    how = lines.Reading(os.path.dirname(options.list), MakeSettings(options), options.scale, options.plus / 1000, check)
     done = network.adjust(lines.observe_all(entries, how), held, full=options.sinex is not None)
-    files.replace_all([(getattr(options, name), write(done)) for name, write in exports.FORMS.items() if getattr(options, name)])
+    exported = [(getattr(options, name), write(done)) for name, write in exports.FORMS.items() if getattr(options, name)]
     stands_out = looks(done)
     without_marks = sum(entry.base is None for entry in entries)
     text = [*_notes(done, without_marks), *_text(done), *(f"look {it}" for it in stands_out)]
-    return Outcome("\n".join(text), {**facts(done), "looks": stands_out}, 1 if stands_out else 0)
+    return Outcome("\n".join(text), {**facts(done), "looks": stands_out}, 1 if stands_out else 0, files=exported)
 
 
 class MakeSettings:

@@ -71,8 +71,7 @@ def run(options: argparse.Namespace) -> Outcome:
     except SurveyError as why:
         raise named(why, cert_name) from None
     made_by_fix = [] if log is None else [(cert_name, cert), (options.certificate + ".log", log)]
-    files.replace_all([*made_by_fix, (page, page_bytes)])
-    return Outcome("\n".join(text_of(made, page)), facts(made, page), int(made.looks))
+    return Outcome("\n".join(text_of(made, page)), facts(made, page), int(made.looks), files=[*made_by_fix, (page, page_bytes)])
 
 
 def _refuse_pipes(names: Sequence[str]) -> None:

@@ -24,7 +24,7 @@ import os
 from datetime import datetime
 from typing import Any, Iterator, Optional, Sequence
 
-from .. import alarm, files, metrics, program, series
+from .. import alarm, metrics, program, series
 from ..adjust import Settings
 from ..cli import Outcome
 from ..text import number, numbers, table, visible
@@ -86,15 +86,18 @@ def run(options: argparse.Namespace) -> Outcome:
     check = None if options.unchecked else functools.partial(program.check, program.find(options.program))
     rows, fresh = series.update(source, log, functools.partial(_settings, options), _key(options), check)
     limits = alarm.Limits(options.reference, options.sigmas, options.window, options.floor, options.silent)
-    done = alarm.judge(rows, limits, options.until)
+    counting, again = series.once(rows)
+    done = alarm.judge(counting, limits, options.until)
     counted = [it for it in done.alarms if not options.since or (it.time or datetime.max) >= options.since]
+    made = []
     if options.picture:
         from .. import pictures
-        pictures.write_series(options.picture, done, name)
+        made.append(pictures.drawn_series(options.picture, done, name))
     if options.metrics:
-        files.replace(options.metrics, metrics.metrics(done, counted, name))
-    text = [*_head(done, name, fresh), *_alarms(done, counted), *_reference(done), *_rows(done, counted, options.all)]
-    return Outcome("\n".join(text), {"name": name, "new": fresh, **_facts(done, counted)}, 1 if counted else 0)
+        made.append((options.metrics, metrics.metrics(done, counted, name)))
+    text = [*_head(done, name, fresh), *_again(again), *_alarms(done, counted), *_reference(done), *_rows(done, counted, options.all)]
+    return Outcome("\n".join(text), {"name": name, "new": fresh, "again": [[row.name, first.name] for row, first in again],
+                                      **_facts(done, counted)}, 1 if counted else 0, files=made)
 
 
 def _settings(options: argparse.Namespace, height_m: float) -> Settings:
@@ -123,6 +126,14 @@ def _head(done: alarm.Series, name: str, fresh: int) -> Iterator[str]:
         state = row.state.split(":")[0]
         states[state] = states.get(state, 0) + 1
     yield from (f"{visible(state)}: {k}" for state, k in sorted(states.items()) if state != "fixed")
+
+
+def _again(again: Sequence[tuple[series.Row, series.Row]]) -> Iterator[str]:
+    """A line of the certificates that don't count, with the first of them."""
+    if again:
+        row, first = again[0]
+        yield f"again: {len(again)}, of sessions that count already: {visible(row.name)} is that of {visible(first.name)}" + (
+            ", .." if len(again) > 1 else "")
 
 
 def _alarms(done: alarm.Series, counted: Sequence[alarm.Alarm]) -> Iterator[str]:
