@@ -11,6 +11,9 @@ ROOT = os.path.dirname(os.path.dirname(os.path.realpath(__file__)))
 NUMBERS, SKY, TIMES = "crates/number_examples/src", "crates/sky_examples/src", "docs/log/times.md"
 RELEASED = "release/baseline-linux-x86_64"
 OPTIONS, LIMITS = "crates/command_words/src/options.rt", [f"crates/obs_rows/src/{it}.rt" for it in ("limits", "defaults", "units")]
+# Numbers that pages write as words.
+WORDS = {word: at for at, word in enumerate("zero one two three four five six seven eight nine ten eleven twelve thirteen fourteen "
+                                            "fifteen".split())} | {"tenth": 10, "twenty-six": 26, "sixty": 60}
 
 Numbers = list[int | float]
 
@@ -22,8 +25,10 @@ def text_of(path: str) -> str:
 
 
 def number(text: str) -> int | float:
-    """A number as pages write it: with commas between thousands, or with a point."""
-    return float(text) if "." in text else int(text.replace(",", ""))
+    """A number as pages write it: with commas between thousands, with a point, or as a word; any other word equals nothing."""
+    if text[0].isdigit():
+        return float(text) if "." in text else int(text.replace(",", ""))
+    return WORDS.get(text.lower(), math.nan)
 
 
 def groups_of(path: str, words: str) -> tuple[str, ...]:
@@ -224,6 +229,8 @@ COUNTED: list[tuple[str, str, Callable[[], Numbers]]] = [
     ("docs/WORK.md", r"(\d+) that are asked first",
      lambda: [len(re.findall("^### ", text_of("docs/DECISIONS.md").split("\n## ")[1], re.M))]),
     ("docs/WORK.md", r"(\d+) crates here, (\d+) above obs_rows", lambda: [crates_above("job_answers"), crates_above("obs_rows")]),
+    ("docs/AUDIT.md", r"of (\w+) records of `examples/geonet.nav`, of (\w+) with",
+     lambda: said(f"{SKY}/records.rt", r"(\w+) records of examples/geonet.nav, (\w+) whose numbers")),
 ]
 
 
