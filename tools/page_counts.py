@@ -66,6 +66,11 @@ def sums(rows: list[list[str]], columns: range) -> Numbers:
     return [sum(int(row[k]) for row in rows) for k in columns]
 
 
+def count_of(words: str, *paths: str) -> int:
+    """How often files have these words."""
+    return sum(len(re.findall(words, text_of(it))) for it in paths)
+
+
 def logged(row: str) -> int:
     """The first number of a cell after these words of a row in the log of times."""
     return int(groups_of(TIMES, rf"{re.escape(row)}.*?\| (\d+)")[0])
@@ -231,6 +236,8 @@ COUNTED: list[tuple[str, str, Callable[[], Numbers]]] = [
     ("docs/WORK.md", r"(\d+) crates here, (\d+) above obs_rows", lambda: [crates_above("job_answers"), crates_above("obs_rows")]),
     ("docs/AUDIT.md", r"of (\w+) records of `examples/geonet.nav`, of (\w+) with",
      lambda: said(f"{SKY}/records.rt", r"(\w+) records of examples/geonet.nav, (\w+) whose numbers")),
+    ("docs/AUDIT.md", r"of (\w+) simulated sessions exactly",
+     lambda: [count_of(": Expected = ", *(f"crates/row_examples/src/{it}.rt" for it in ("expected", "expected_bands")))]),
 ]
 
 
