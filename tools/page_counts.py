@@ -383,6 +383,8 @@ COUNTED: list[tuple[str, str, Callable[[], Numbers]]] = [
      lambda: [len(ast.literal_eval(groups_of("survey/tests/sessions.py", r"^HOSTILE = (\[(?:.|\n)*?\])\n\n")[0]))]),
     ("survey/README.md", r"Python with (\w+) libraries",
      lambda: [len(groups_of("survey/README.md", r"apt-get install ((?:python3-\w+ ?)+)")[0].split())]),
+    ("survey/OPERATOR.md", r"30 s has some (\d+) KB, so 100 points make (\d+) MB a day",
+     lambda: [it for kb in said("recipes/README.md", r"30 s has some (\d+) KB") for it in (kb, kb * 24 * 100 // 1000)]),
     ("survey/OPERATOR.md", r"the first (\d+) fixes .*`--sigmas` \((\d)\)",
      lambda: said("survey/baseline_survey/alarm.py", r"reference: int = (\d+)\n.*sigmas: float = (\d+\.\d)")),
 ]
