@@ -23,6 +23,7 @@ from .adjust import Settings, adjust
 from .errors import SurveyError
 from .geodesy import checked_place, geodetic
 from .program import Check
+from .text import nearest_second
 
 HEAD = "# baseline-survey series 1"
 COLUMNS = ("time", "state", "east_m", "north_m", "up_m", "sd_east_mm", "sd_north_mm", "sd_up_mm", "satellites", "pairs",
@@ -238,14 +239,16 @@ def update(source: str, log: str, make: MakeSettings, key: str, check: Optional[
 
 def once(rows: Sequence[Row]) -> tuple[list[Row], list[tuple[Row, Row]]]:
     """The rows by the clock with each session once, and the others, each with the row that counts in its place. A session is known
-    by the time of its first pair: a copy under another name, a second `fix` of it with other options and an upload that was sent
-    again have the same. Of them a fixed one counts, then the first by name without its ending. Rows without a time are each a session."""
+    by the time of its first pair, to the second: a copy under another name, a second `fix` of it with other options and an
+    upload that was sent again have the same. Of them a fixed one counts, then the first by name without its ending. A row without
+    a time is a session of its own."""
     kept: dict[datetime, Row] = {}
     for row in sorted(rows, key=lambda row: (row.enu_m is None, os.path.splitext(row.name))):
         if row.time is not None:
-            kept.setdefault(row.time, row)
-    counts = [row for row in rows if row.time is None or kept[row.time] is row]
-    return counts, [(row, kept[row.time]) for row in rows if row.time is not None and kept[row.time] is not row]
+            kept.setdefault(nearest_second(row.time), row)
+    first = [row if row.time is None else kept[nearest_second(row.time)] for row in rows]
+    counting = [row for row, it in zip(rows, first) if it is row]
+    return counting, [(row, it) for row, it in zip(rows, first) if it is not row]
 
 
 def _file(path: str) -> str:

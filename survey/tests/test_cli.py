@@ -248,7 +248,8 @@ def test_no_file_stays_where_standard_output_is_full(survey, examples, tmp_path,
     before = sorted(it.name for it in tmp_path.iterdir())
     monkeypatch.chdir(tmp_path)
     for words in (["report", cert, base, rover, examples / "geonet.nav", "--program", stand_in(tmp_path / "p"), "--output", "old"],
-                  ["correct", base, examples / "geonet.nav", "--output", "new"], ["correct", base, examples / "geonet.nav", "--output", "old"],
+                  ["correct", base, examples / "geonet.nav", "--output", "new"],
+                  ["correct", base, examples / "geonet.nav", "--output", "old"],
                   ["cut", base, "00:00", "00:05", "--output", "old"], ["rebase", "-3978242", "3382841", "3649902", base, "--output", "old"],
                   ["places", "moving.track", "--picture", "p.png"], ["network", "LIST", "--unchecked", "--hold", "A", "0", "0", "6.4e6",
                                                                      "--gama", "old", "--sinex", "new"],

@@ -245,6 +245,17 @@ def test_status_1_on_an_alarm(folder):
     assert series_of(folder, "--reference", "12", "--since", "2006-01-01T00:00").returncode == 0
 
 
+def test_a_clock_that_is_early(folder):
+    """A tag of 10:59:59.995 is that of the session of 11:00: in the table, for --since, and beside a decline's name."""
+    moved = {"base": (BASE[0] + 2, BASE[1], BASE[2])}
+    early = re.sub(rb"(?m)^(pair \d+ )(\d+)", lambda it: it[1] + b"%d" % (int(it[2]) - 50_000), session(PLACE, 11 / 24, 12, **moved))
+    (folder / "20050402_1100.cert").write_bytes(early)
+    (folder / "20050402_1100 first.cert").write_bytes(b"declined few 30\n")
+    ran = series_of(folder, "--since", "2005-04-02T11:00")
+    assert ran.returncode == 1 and b"\nalarm base since 2005-04-02 11:00: " in ran.stdout, ran
+    assert b"\n2005-04-02 11:00 " in ran.stdout and b"10:59" not in ran.stdout and b"12 sessions, 9 fixed, 13 new" in ran.stdout
+
+
 def test_faults_are_alarms(folder):
     """A base that moved, a short session and a station that went silent, by the certificates' own rows."""
     (folder / "20050402_1100.cert").write_bytes(session(PLACE, 11 / 24, 12, base=(BASE[0] + 2, BASE[1], BASE[2])))

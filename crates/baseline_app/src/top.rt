@@ -165,10 +165,11 @@ pub fn start<F: Files, O: Sink, E: Sink>(
 ///
 /// With the number 0 or 1 (`answer`) the bytes that the writes took are exactly the two texts that the words' job ends with on
 /// the bytes that the reads gave, of files that were opened under exactly the job's words, in this order, each read to its end; a
-/// word that stands twice is opened twice, and the two may give different bytes. With the number 3 (`refusal`) they took nothing
-/// for `out`, and for `err` the line of a refusal by the bytes that were given, or a first part of it before a write failed. The
-/// line refuses the file that was opened last, which was read to its end or gave more bytes than a file may have, or all files
-/// together; each file before it was read to its end. The other clauses are those of `start`, for every status.
+/// word that stands twice is opened twice, and where the two gave different bytes the texts are those of some text in their place
+/// (`given_under`). With the number 3 (`refusal`) they took nothing for `out`, and for `err` the line of a refusal by the bytes
+/// that were given, or a first part of it before a write failed. The line refuses the file that was opened last, which was read
+/// to its end or gave more bytes than a file may have, or all files together; each file before it was read to its end. The other
+/// clauses are those of `start`, for every status.
 pub fn start_on_host<R: std::rt::Files + Drop, O: Write + Drop, E: Write + Drop>(
     alloc: Global,
     words: Result<Vec<String>, AllocError>,

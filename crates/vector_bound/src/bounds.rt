@@ -67,7 +67,7 @@ pub(crate) fn in_hundredths(units: i64) -> i64
 }
 
 /// The same in hundredths of a millimetre, rounded up: how far, in each coordinate, the least-squares vector of any data in the
-/// boxes may lie from the printed one.
+/// boxes may lie from this move's, which is printed rounded to 0.1 mm.
 pub fn vector_bound(
     session: &Session,
     h: u32,

@@ -52,7 +52,8 @@ pub fn pair_move_bound(
 }
 
 /// The same in hundredths of a millimetre, rounded up: how far, in each coordinate, the least-squares vector of the pair, of any
-/// data in the boxes, may lie from the pair's printed one. No other pair changes it, since each has a baseline of its own.
+/// data in the boxes, may lie from this move's, which is printed rounded to 0.1 mm. No other pair changes it, since each has a
+/// baseline of its own.
 pub fn pair_vector_bound(
     arcs: &[Arc],
     signals: Signals,

@@ -21,8 +21,8 @@ fn greater_bound(a: i64, b: i64) -> i64
 }
 
 /// The greatest of the bounds of a track's pairs, in hundredths of a millimetre, and 0 of no pair: how far, in each coordinate,
-/// the least-squares vector of any pair, of any data in the boxes, may lie from the pair's printed one. `None` where some pair
-/// has none.
+/// the least-squares vector of any pair, of any data in the boxes, may lie from its own move's, which is printed rounded to
+/// 0.1 mm. `None` where some pair has none.
 pub fn track_vector_bound(
     arcs: &[Arc],
     signals: Signals,

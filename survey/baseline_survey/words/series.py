@@ -27,7 +27,7 @@ from typing import Any, Iterator, Optional, Sequence
 from .. import alarm, metrics, program, series
 from ..adjust import Settings
 from ..cli import Outcome
-from ..text import number, numbers, table, visible
+from ..text import nearest_second, number, numbers, table, visible
 from .options import add_settings, count, positive, settings_of
 
 SHOWN = 12  # rows in the text
@@ -88,7 +88,7 @@ def run(options: argparse.Namespace) -> Outcome:
     limits = alarm.Limits(options.reference, options.sigmas, options.window, options.floor, options.silent)
     counting, again = series.once(rows)
     done = alarm.judge(counting, limits, options.until)
-    counted = [it for it in done.alarms if not options.since or (it.time or datetime.max) >= options.since]
+    counted = [it for it in done.alarms if not options.since or not it.time or nearest_second(it.time) >= options.since]
     made = []
     if options.picture:
         from .. import pictures
@@ -114,7 +114,7 @@ def _key(options: argparse.Namespace) -> str:
 
 
 def _when(moment: Optional[datetime]) -> str:
-    return f"{moment:%Y-%m-%d %H:%M}" if moment else "no time"
+    return f"{nearest_second(moment):%Y-%m-%d %H:%M}" if moment else "no time"
 
 
 def _head(done: alarm.Series, name: str, fresh: int) -> Iterator[str]:
