@@ -8,8 +8,7 @@ its numbers are whole, and nothing is rounded but where the definitions round.
 It prints what `check` prints, with its statuses: `certified`, `not certified` and the cause (1), `refused:` with line and
 column (3); a usage error is 2, a file that can't be read 4, an output that can't be written 5, no memory 6. Of a certified
 text it also prints the vector, or the places of a track, in metres; and `bound D`: in each of X, Y and Z the least-squares
-vector of any observations in the boxes lies within D mm of the vector before it is rounded to
-0.1 mm (DEFINITIONS, "The vector's bound").
+vector of any observations in the boxes lies within D mm of that vector, before it is rounded (DEFINITIONS, "The vector's bound").
 
 A text may name a budget of 100000000. After N visits of both searches together (5000000) standard error has `not decided:
 stopped after N visits`, and the status is 7. It has a line `note: ..`, too, for each way in which the text isn't as `fix`

@@ -144,8 +144,7 @@ def reach() -> Numbers:
 
 def logged_gates() -> Numbers:
     """The minutes of the log's rows that README names."""
-    return [logged(it) for it in ("a build of 65 crates", "`rt ci` after it", "the first call of",
-                                  "two, of a busier host", "| a gate | two of four processors")]
+    return [logged(it) for it in ("both commands: the build", "both commands: `rt ci` then", "the gate with its scripts")]
 
 
 def valued(text: str) -> int:
@@ -272,8 +271,7 @@ ENDS = (r"\| (\d) \| yes: [^|]*\|\n\| (\d) \| no: [^|]*\|\n\| (\d) \| usage erro
         r"\| (\d), (\d) \| a file couldn't be read; an output couldn't be written \|\n\| (\d) \| out of memory \|")
 # A page, its words with a group for each number, and what gives the numbers; none, where they can't be had.
 COUNTED: list[tuple[str, str, Callable[[], Numbers]]] = [
-    ("README.md", r"took (\d+) minutes, and on busy ones `rt ci` after it (\d+):.* took (\d+) to (\d+) minutes, and (\d+) for a whole gate",
-     logged_gates),
+    ("README.md", r"took (\d+) minutes, and `rt ci` after it (\d+):.* whole gate took (\d+) minutes", logged_gates),
     ("README.md", r"Of (\d+) sessions (\d+) were fixed, (\d+) wrongly",
      lambda: said("docs/GUIDE.md", r"(\d+) sessions, (\d+) fixed, (\d+) wrongly")),
     *((page, r"glibc (\d+)\.(\d+) or later", least_library) for page in ("README.md", "docs/GUIDE.md")),
