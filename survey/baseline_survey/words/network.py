@@ -4,7 +4,7 @@
 
 LIST has a line FROM TO CERT for each baseline, or FROM TO CERT BASE ROVER: then the vector goes from mark to mark by the
 headers of the files of observations. Words are spelled as in a shell ("Station 1"), # begins a comment, and files are looked
-for from the list's folder. Each certificate has to be certified by `baseline check`, but with --unchecked.
+for from the list's folder. Each certificate has to be certified by `baseline check`, unless --unchecked is given.
 
 Prints the coordinates with their standard deviations, the residuals with their test, chi square, the loops, and which lines
 are of one session. Of those some follow from the others: they close whatever is wrong, and control nothing. GPS and Galileo
